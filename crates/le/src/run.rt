@@ -1,0 +1,77 @@
+// Runs of bytes and of 32-bit fields in a byte slice.
+ghost use mathlib.Core.Path.{_≡_};
+ghost use Prim.Native.Nat.{_+_, _*_, _%_, _≤_, _<_};
+ghost use lib.ListN.{length, replicate};
+ghost use lib.Seq.{sets};
+ghost use Rattle.le.specs.Bytes.{total, holdsText};
+ghost use Rattle.le.specs.Field.{leWords};
+
+pub fn clear(s: &mut [u8])
+    ensures { λ _. ⌜ now (s .exit) ≡ replicate (length (now (s .entry))) 0 ⌝ }
+{
+    let mut i = 0;
+    while i < s.len() {
+        s[i] = 0;
+        i += 1;
+    }
+}
+
+// The sum of the bytes, modulo 256.
+pub fn byte_sum(s: &[u8]) -> u32
+    ensures { λ r. ⌜ r ≡ total (now (s .entry)) % 256 ⌝ }
+{
+    let mut sum: u32 = 0;
+    let mut i = 0;
+    while i < s.len() {
+        sum = (sum + wide(s[i])) % 256;
+        i += 1;
+    }
+    sum
+}
+
+fn wide(x: u8) -> u32
+    ensures { λ r. ⌜ (r ≡ x) × (r < 256) ⌝ }
+{
+    x as u32
+}
+
+pub fn holds_text(s: &[u8], at: usize, text: &[u8]) -> bool
+    requires { ⌜ at + length (now text) ≤ length (now s) ⌝ }
+    ensures { λ r. ⌜ r ≡ holdsText (now (s .entry)) at (now (text .entry)) ⌝ }
+{
+    let mut same = true;
+    let mut i = 0;
+    let mut place = at;
+    while i < text.len() {
+        same = same & (s[place] == text[i]);
+        i += 1;
+        place += 1;
+    }
+    same
+}
+
+pub fn put_text(s: &mut [u8], at: usize, text: &[u8])
+    requires { ⌜ at + length (now text) ≤ length (now s) ⌝ }
+    ensures { λ _. ⌜ now (s .exit) ≡ sets (now (s .entry)) at (now (text .entry)) ⌝ }
+{
+    let mut i = 0;
+    let mut place = at;
+    while i < text.len() {
+        s[place] = text[i];
+        i += 1;
+        place += 1;
+    }
+}
+
+pub fn put_words(s: &mut [u8], at: usize, xs: &[u32])
+    requires { ⌜ at + 4 * length (now xs) ≤ length (now s) ⌝ }
+    ensures { λ _. ⌜ now (s .exit) ≡ sets (now (s .entry)) at (leWords (now (xs .entry))) ⌝ }
+{
+    let mut i = 0;
+    let mut place = at;
+    while i < xs.len() {
+        crate::put32(s, place, xs[i]);
+        i += 1;
+        place += 4;
+    }
+}

@@ -1,0 +1,4 @@
+pub mod Frame
+pub mod Record
+pub mod Seal
+pub mod Theorems

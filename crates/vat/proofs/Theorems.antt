@@ -1,0 +1,284 @@
+-- The table sector, for every map, block, kind and sector:
+--     reads-back       the sector recorded for a map, a previous table and block b is a table sector at b that holds exactly these
+--     at-one-block     a sector is a table sector at one block number at most, so the recorded one at no other (`not-elsewhere`)
+--     of-kind-1        a sector of any other kind is none
+--     tells            what is recognised holds at most 458 entries, each and its previous FFFFFFFF or below b; at block 0 all are FFFFFFFF
+-- Assumes nothing.
+use Prim.Native.Nat.{ℕ, zero, suc, _+_, _-_, _*_, _/_, _%_, _≤_, _<_}
+use native.Mathlib.Nat.{not-suc-le-zero}
+use native.Mathlib.Omega.{arith}
+use mathlib.Core.Path.{_≡_, refl, sym, ap, ap₂, _∙_}
+use mathlib.Core.Bool.{Bool, true, false, _&&_, _||_, and-true, false≢true, true≢false}
+use mathlib.Core.List.{List, [], _∷_, _++_, append-assoc}
+use mathlib.Core.Logic.{_⊎_, inl, inr}
+use lib.Dec.{eqb, ltb, leb, lit<, lit≤}
+use lib.ListN.{length, drop, getD, replicate, length-append, length-replicate}
+use lib.Seq.{sets}
+use borrow.Author.Tests.{eq-eqb, eqb-true, ltb-true, le-leb}
+use Rattle.le.specs.Bytes.{every, holdsText}
+use Rattle.le.specs.Field.{Row, row, le, readLe, putLe, words, leWords, holds, lay}
+use Rattle.le.proofs.Bytes.{drop-sets, drop-sets-after}
+use Rattle.le.proofs.Fields.{length-le, read-le}
+use Rattle.le.proofs.Rows.{length-lay, holds-spared, holds-append, drop-lay, read-lay}
+use Rattle.le.proofs.Runs.{length-leWords, drop-on, text-held, Words, words-read, length-words}
+use Rattle.vat.specs.Tag.{sealed, seal}
+use Rattle.vat.specs.Table.{sectorLength, limit, unused, tableAt, tableLength, regidAt, plainRows, lengthRows, embedded, tableName, unusedOrBelow, entryCount, entriesOf, previousOf, framed, isTable}
+use Rattle.vat.specs.Sector.{tableRegid, tableBytes, ownRows, stationName, stationAt, body, sector}
+use Rattle.vat.proofs.Frame.{and-left, and-right, Lengths, lengths, Framed, framed-tells}
+use Rattle.vat.proofs.Record.{header, header-held, length-body}
+use Rattle.vat.proofs.Seal.{sealRows, seal-lays, sealed-seal}
+
+-- ---- what is recognised
+
+pub record Recognised (kind : ℕ) (s : List ℕ) (b : ℕ) : Type 0 where
+  pub data-kind : kind ≡ 1
+  pub whole : length s ≡ sectorLength
+  pub frame : Framed s b (entryCount s)
+  pub entries : every (unusedOrBelow b) (entriesOf s) ≡ true
+  pub sums : sealed s ≡ true
+
+pub recognised : (kind : ℕ) (s : List ℕ) (b : ℕ) → isTable kind s b ≡ true → Recognised kind s b
+unfolding isTable
+recognised kind s b e =
+    let listed : Bool = every (unusedOrBelow b) (entriesOf s) in
+    let f : Bool = framed s b (entryCount s) in
+    let e₁ : (eqb (length s) sectorLength && (f && (listed && sealed s))) ≡ true = and-right (eqb kind 1) (eqb (length s) sectorLength && (f && (listed && sealed s))) e in
+    let e₂ : (f && (listed && sealed s)) ≡ true = and-right (eqb (length s) sectorLength) (f && (listed && sealed s)) e₁ in
+    let e₃ : (listed && sealed s) ≡ true = and-right f (listed && sealed s) e₂ in
+    record {
+      data-kind = eqb-true kind 1 (and-left (eqb kind 1) (eqb (length s) sectorLength && (f && (listed && sealed s))) e);
+      whole = eqb-true (length s) sectorLength (and-left (eqb (length s) sectorLength) (f && (listed && sealed s)) e₁);
+      frame = framed-tells s b (entryCount s) (and-left f (listed && sealed s) e₂);
+      entries = and-left listed (sealed s) e₃;
+      sums = and-right listed (sealed s) e₃;
+    }
+
+location : (s : List ℕ) (b : ℕ) → holds s (plainRows b) ≡ true → readLe 4 s 12 ≡ b
+unfolding holds plainRows
+location s b e =
+    let tail : Bool = eqb (readLe 2 s 20) 4 && (eqb (readLe 1 s 27) 0 && (eqb (readLe 2 s 48) 0 && (eqb (readLe 4 s 168) 0 && true))) in
+    let at : Bool = eqb (readLe 4 s 12) b in
+    let three : Bool = eqb (readLe 1 s 5) 0 in
+    let two : Bool = eqb (readLe 2 s 2) 2 in
+    eqb-true (readLe 4 s 12) b
+    (and-left at tail (and-right three (at && tail) (and-right two (three && (at && tail)) (and-right (eqb (readLe 2 s 0) 261) (two && (three && (at && tail))) e))))
+
+not-true : (t : Bool) → (t ≡ true → ⊥) → t ≡ false
+not-true true h = absurd (h refl)
+not-true false h = refl
+
+pub at-one-block : (k k′ : ℕ) (s : List ℕ) (b b′ : ℕ) → isTable k s b ≡ true → isTable k′ s b′ ≡ true → b ≡ b′
+at-one-block k k′ s b b′ e e′ = sym (location s b (recognised k s b e .frame .plain)) ∙ location s b′ (recognised k′ s b′ e′ .frame .plain)
+
+pub of-kind-1 : (kind : ℕ) (s : List ℕ) (b : ℕ) → (kind ≡ 1 → ⊥) → isTable kind s b ≡ false
+of-kind-1 kind s b h = not-true (isTable kind s b) (λ e. h (recognised kind s b e .data-kind))
+
+-- a block number that a sector at block b may hold
+abbrev pub Named : ℕ → ℕ → Type 0
+Named b x = (x < b) ⊎ (x ≡ unused)
+
+named : (b x : ℕ) → unusedOrBelow b x ≡ true → Named b x
+named b x e = go (ltb x b) refl e
+  where
+    go : (t : Bool) → ltb x b ≡ t → (t || eqb x unused) ≡ true → Named b x
+    go true below e = inl (ltb-true x b below)
+    go false above e = inr (eqb-true x unused e)
+
+each-named : (b : ℕ) (xs : List ℕ) → every (unusedOrBelow b) xs ≡ true → (i : ℕ) → i < length xs → Named b (getD xs i 0)
+unfolding every
+each-named b [] e i h = absurd (not-suc-le-zero h)
+each-named b (x ∷ xs) e zero h = named b x (and-left (unusedOrBelow b x) (every (unusedOrBelow b) xs) e)
+each-named b (x ∷ xs) e (suc i) h = each-named b xs (and-right (unusedOrBelow b x) (every (unusedOrBelow b) xs) e) i (omega arith)
+
+pub record Tells (s : List ℕ) (b : ℕ) : Type 0 where
+  pub counted : length (entriesOf s) ≡ entryCount s
+  pub few : entryCount s ≤ limit
+  pub entry : (i : ℕ) → i < entryCount s → Named b (getD (entriesOf s) i 0)
+  pub previous : Named b (previousOf s)
+
+pub tells : (kind : ℕ) (s : List ℕ) (b : ℕ) → isTable kind s b ≡ true → Tells s b
+unfolding entriesOf
+tells kind s b e =
+    let r : Recognised kind s b = recognised kind s b e in
+    let n : ℕ = entryCount s in
+    record {
+      counted = length-words n s tableAt;
+      few = r .frame .few;
+      entry = λ i h. each-named b (entriesOf s) (r .entries) i (rw (length-words n s tableAt) h);
+      previous = named b (previousOf s) (r .frame .backward);
+    }
+
+at-zero : (x : ℕ) → Named 0 x → x ≡ unused
+at-zero x (inl h) = absurd (not-suc-le-zero h)
+at-zero x (inr e) = e
+
+pub all-unused-at-zero : (kind : ℕ) (s : List ℕ) → isTable kind s 0 ≡ true → ((i : ℕ) → i < entryCount s → getD (entriesOf s) i 0 ≡ unused) × (previousOf s ≡ unused)
+all-unused-at-zero kind s e =
+    let t : Tells s 0 = tells kind s 0 e in
+    (λ i h. at-zero (getD (entriesOf s) i 0) (t .entry i h), at-zero (previousOf s) (t .previous))
+
+-- ---- what was recorded
+
+fits : (b x : ℕ) → b < 4294967296 → unusedOrBelow b x ≡ true → x < 4294967296
+fits b x hb e = go (named b x e)
+  where
+    go : Named b x → x < 4294967296
+    go (inl h) = omega arith
+    go (inr e) = omega arith
+
+all-fit : (b : ℕ) (xs : List ℕ) → b < 4294967296 → every (unusedOrBelow b) xs ≡ true → Words xs
+unfolding every
+all-fit b [] hb e = tt
+all-fit b (x ∷ xs) hb e = (
+  fits b x hb (and-left (unusedOrBelow b x) (every (unusedOrBelow b) xs) e),
+  all-fit b xs hb (and-right (unusedOrBelow b x) (every (unusedOrBelow b) xs) e),
+)
+
+length-table : (map : List ℕ) (previous : ℕ) → length (tableBytes map previous) ≡ tableLength (length map)
+unfolding tableBytes tableRegid tableName
+length-table map previous =
+    rw (length-append (leWords map) (tableRegid ++ le 4 previous), length-append tableRegid (le 4 previous), length-leWords map, length-le 4 previous) (omega arith)
+
+module _ (map : List ℕ) (previous b : ℕ) (few : length map ≤ limit) (small : b < 4294967296) where
+  laid : List ℕ
+  laid = lay (body map previous) (header b (length map))
+
+  length-laid : length laid ≡ sectorLength
+  unfolding laid
+  length-laid = length-lay (header b (length map)) (body map previous) ∙ length-body map previous
+
+  sector-lays : sector map previous b ≡ lay laid (sealRows laid)
+  unfolding sector laid
+  sector-lays = seal-lays laid
+
+  -- sealing spares the header
+  held : holds (sector map previous b) (header b (length map)) ≡ true
+  unfolding laid plainRows lengthRows ownRows
+  held =
+      ap (λ (l : List ℕ). holds l (header b (length map))) sector-lays
+      ∙ holds-spared (header b (length map)) (sealRows laid) laid tt
+      ∙ header-held b (length map) (body map previous) small few (length-body map previous)
+
+  length-sector : length (sector map previous b) ≡ sectorLength
+  length-sector = ap length sector-lays ∙ length-lay (sealRows laid) laid ∙ length-laid
+
+  sums-held : sealed (sector map previous b) ≡ true
+  unfolding sector laid
+  sums-held = sealed-seal laid (omega (arith, length-laid))
+
+  -- header and sums end before the table
+  table-stands : drop tableAt (sector map previous b) ≡ tableBytes map previous ++ drop (tableAt + tableLength (length map)) (replicate sectorLength 0)
+  unfolding laid plainRows lengthRows ownRows body stationName
+  table-stands =
+      let zeros : List ℕ = replicate sectorLength 0 in
+      let table : List ℕ = tableBytes map previous in
+      let inside : tableAt + length table ≤ length zeros = omega (arith, length-table map previous, length-replicate {A = ℕ} sectorLength 0) in
+      ap (drop tableAt) sector-lays
+      ∙ drop-lay (sealRows laid) laid tableAt tt
+      ∙ drop-lay (header b (length map)) (body map previous) tableAt tt
+      ∙ drop-sets-after stationName (sets zeros tableAt table) stationAt tableAt (lit≤ tt)
+      ∙ drop-sets table zeros tableAt inside
+      ∙ ap (λ (k : ℕ). table ++ drop (tableAt + k) zeros) (length-table map previous)
+
+  -- the header's parts, one by one
+  plain-held : holds (sector map previous b) (plainRows b) ≡ true
+  plain-held =
+      let s : List ℕ = sector map previous b in
+      and-left (holds s (plainRows b)) (holds s (lengthRows (length map) ++ ownRows)) (sym (holds-append (plainRows b) (lengthRows (length map) ++ ownRows) s) ∙ held)
+
+  rest-held : (holds (sector map previous b) (lengthRows (length map)) && holds (sector map previous b) ownRows) ≡ true
+  rest-held =
+      let s : List ℕ = sector map previous b in
+      sym (holds-append (lengthRows (length map)) ownRows s)
+      ∙ and-right (holds s (plainRows b)) (holds s (lengthRows (length map) ++ ownRows)) (sym (holds-append (plainRows b) (lengthRows (length map) ++ ownRows) s) ∙ held)
+
+  lengths-held : holds (sector map previous b) (lengthRows (length map)) ≡ true
+  lengths-held = and-left (holds (sector map previous b) (lengthRows (length map))) (holds (sector map previous b) ownRows) rest-held
+
+  flags-held : embedded (sector map previous b) ≡ true
+  unfolding holds ownRows
+  flags-held =
+      let s : List ℕ = sector map previous b in
+      let tail : Bool = eqb (readLe 4 s 36) unused && (eqb (readLe 4 s 40) unused && (eqb (readLe 4 s 108) 1 && true)) in
+      let most : Bool = eqb (readLe 2 s 24) 1 in
+      let flags : Bool = eqb (readLe 2 s 34) 3 in
+      let own : (most && (flags && tail)) ≡ true = and-right (holds s (lengthRows (length map))) (holds s ownRows) rest-held in
+      rw (eqb-true (readLe 2 s 34) 3 (and-left flags tail (and-right most (flags && tail) own)))
+
+  counted : entryCount (sector map previous b) ≡ length map
+  unfolding entryCount
+  counted = omega (arith, lengths (sector map previous b) (length map) lengths-held .descriptors)
+
+  -- the parts of the table, each where it stands
+  regid-stands : drop (regidAt (length map)) (sector map previous b) ≡ tableRegid ++ (le 4 previous ++ drop (tableAt + tableLength (length map)) (replicate sectorLength 0))
+  unfolding tableBytes
+  regid-stands =
+      let zeros : List ℕ = drop (tableAt + tableLength (length map)) (replicate sectorLength 0) in
+      drop-on (sector map previous b) (leWords map) (tableRegid ++ (le 4 previous ++ zeros)) tableAt (4 * length map)
+      (table-stands ∙ append-assoc (leWords map) (tableRegid ++ le 4 previous) zeros ∙ ap (λ (l : List ℕ). leWords map ++ l) (append-assoc tableRegid (le 4 previous) zeros))
+      (length-leWords map)
+
+  named-held : holdsText (sector map previous b) (regidAt (length map) + 1) tableName ≡ true
+  unfolding tableRegid
+  named-held =
+      let zeros : List ℕ = drop (tableAt + tableLength (length map)) (replicate sectorLength 0) in
+      let suffix : List ℕ = 0x50 ∷ 0x01 ∷ 0 ∷ 0 ∷ 0 ∷ 0 ∷ 0 ∷ 0 ∷ [] in
+      let behind : List ℕ = suffix ++ (le 4 previous ++ zeros) in
+      text-held tableName (sector map previous b) behind (regidAt (length map) + 1)
+      (drop-on (sector map previous b) (0 ∷ []) (tableName ++ behind) (regidAt (length map)) 1
+      (regid-stands ∙ ap (λ (l : List ℕ). 0 ∷ l) (append-assoc tableName suffix (le 4 previous ++ zeros))) refl)
+
+  module _ (entries-below : every (unusedOrBelow b) map ≡ true) (previous-below : unusedOrBelow b previous ≡ true) where
+    listed : entriesOf (sector map previous b) ≡ map
+    unfolding entriesOf tableBytes
+    listed =
+        let zeros : List ℕ = drop (tableAt + tableLength (length map)) (replicate sectorLength 0) in
+        ap (λ (k : ℕ). words k (sector map previous b) tableAt) counted
+        ∙ words-read map (sector map previous b) ((tableRegid ++ le 4 previous) ++ zeros) tableAt
+        (table-stands ∙ append-assoc (leWords map) (tableRegid ++ le 4 previous) zeros) (all-fit b map small entries-below)
+
+    linked : previousOf (sector map previous b) ≡ previous
+    unfolding previousOf tableRegid tableName
+    linked =
+        let zeros : List ℕ = drop (tableAt + tableLength (length map)) (replicate sectorLength 0) in
+        ap (λ (k : ℕ). readLe 4 (sector map previous b) (regidAt k + 32)) counted
+        ∙ read-le 4 previous (sector map previous b) zeros (regidAt (length map) + 32)
+        (drop-on (sector map previous b) tableRegid (le 4 previous ++ zeros) (regidAt (length map)) 32 regid-stands refl)
+        (fits b previous small previous-below)
+
+    framed-held : framed (sector map previous b) b (entryCount (sector map previous b)) ≡ true
+    unfolding framed
+    framed-held =
+        rw (counted, plain-held, flags-held, le-leb (length map) limit few, lengths-held, named-held, linked, previous-below)
+
+    recognised-here : isTable 1 (sector map previous b) b ≡ true
+    unfolding isTable
+    recognised-here =
+        let s : List ℕ = sector map previous b in
+        let entries : every (unusedOrBelow b) (entriesOf s) ≡ true = ap (every (unusedOrBelow b)) listed ∙ entries-below in
+        rw (eq-eqb (length s) sectorLength length-sector, framed-held, entries, sums-held)
+
+-- the sector recorded for a map, a previous table and a block
+pub record ReadsBack (map : List ℕ) (previous b : ℕ) : Type 0 where
+  pub is-table : isTable 1 (sector map previous b) b ≡ true
+  pub count : entryCount (sector map previous b) ≡ length map
+  pub entries : entriesOf (sector map previous b) ≡ map
+  pub previous-table : previousOf (sector map previous b) ≡ previous
+
+pub reads-back : (map : List ℕ) (previous b : ℕ) → length map ≤ limit → every (unusedOrBelow b) map ≡ true → unusedOrBelow b previous ≡ true → b < 4294967296
+    → ReadsBack map previous b
+reads-back map previous b few below before small =
+    record {
+      is-table = recognised-here map previous b few small below before;
+      count = counted map previous b few small;
+      entries = listed map previous b few small below before;
+      previous-table = linked map previous b few small below before;
+    }
+
+-- whatever the map, it is a table sector at no other block
+pub not-elsewhere : (map : List ℕ) (previous b : ℕ) → length map ≤ limit → b < 4294967296
+    → (kind b′ : ℕ) → (b′ ≡ b → ⊥) → isTable kind (sector map previous b) b′ ≡ false
+not-elsewhere map previous b few small kind b′ other =
+    let s : List ℕ = sector map previous b in
+    not-true (isTable kind s b′)
+    (λ e. other (sym (location s b′ (recognised kind s b′ e .frame .plain)) ∙ location s b (plain-held map previous b few small)))

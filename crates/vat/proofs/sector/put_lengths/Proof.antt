@@ -1,0 +1,58 @@
+-- `vat::sector::put_lengths` meets its contract: the rows that the entry count settles, put one after another.
+-- Assumes nothing.
+use Rattle.le.specs.Field.{lay}
+use Rattle.vat.specs.Table.{lengthRows}
+use borrow.Author.Needs.{needs}
+use Rattle.vat.proofs.sector.put_lengths.Statement.{statement}
+use Rattle.vat.proofs.sector.put_lengths.Tie as tie
+use Rattle.vat.proofs.sector.put_lengths.Reads as reads
+use Rattle.vat.proofs.sector.put_lengths.Lts as lts
+use Rattle.le.proofs.put16.Reads as put16-reads
+use Rattle.le.proofs.put32.Reads as put32-reads
+use Rattle.le.proofs.put64.Reads as put64-reads
+
+mul-length : tie.Need-mul-length
+mul-length c = search needs
+
+add-length : tie.Need-add-length
+add-length c = search needs
+
+put32-requires : tie.Need-put32-requires
+put32-requires c κs = search needs
+
+cast-put64 : tie.Need-cast-put64
+cast-put64 c = search needs
+
+put64-requires : tie.Need-put64-requires
+put64-requires c κs = search needs
+
+add-put16 : tie.Need-add-put16
+add-put16 c = search needs
+
+cast-put16 : tie.Need-cast-put16
+cast-put16 c = search needs
+
+put16-requires : tie.Need-put16-requires
+put16-requires c κs = search needs
+
+same-length : tie.Need-same-length
+same-length c = search needs
+
+returns : tie.Need-returns
+unfolding lay lengthRows
+returns c = cc
+
+pub put-lengths-spec : {M : Type 1} → statement M
+put-lengths-spec =
+    tie.close
+    (tie.spec
+    mul-length
+    add-length
+    put32-requires
+    cast-put64
+    put64-requires
+    add-put16
+    cast-put16
+    put16-requires
+    same-length
+    returns)

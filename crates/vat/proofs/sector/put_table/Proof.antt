@@ -1,0 +1,89 @@
+-- `vat::sector::put_table` meets its contract: the table, put part by part.
+-- Assumes nothing.
+use Prim.Native.Nat.{ℕ, _+_}
+use mathlib.Core.Path.{_≡_, refl, _∙_}
+use mathlib.Core.List.{List}
+use lib.ListN.{length}
+use lib.Seq.{sets}
+use Rattle.le.specs.Field.{le, leWords}
+use Rattle.vat.specs.Table.{tableAt, regidAt, tableName}
+use Rattle.vat.proofs.Record.{table-put}
+use borrow.Author.Needs.{needs}
+use Rattle.vat.proofs.sector.put_table.Statement.{statement}
+use Rattle.vat.proofs.sector.put_table.Tie as tie
+use Rattle.vat.proofs.sector.put_table.Reads as reads
+use Rattle.vat.proofs.sector.put_table.Lts as lts
+use Rattle.le.proofs.put32.Reads as put32-reads
+use Rattle.le.proofs.put64.Reads as put64-reads
+use Rattle.le.proofs.put8.Reads as put8-reads
+use Rattle.le.proofs.run.put_text.Reads as put-text-reads
+use Rattle.le.proofs.run.put_words.Reads as put-words-reads
+
+mul-regid : tie.Need-mul-regid
+mul-regid c = search needs
+
+add-regid : tie.Need-add-regid
+add-regid c = search needs
+
+put-words-requires : tie.Need-put-words-requires
+put-words-requires c κs = search needs
+
+put8-requires : tie.Need-put8-requires
+put8-requires c κs = search needs
+
+add-put-text : tie.Need-add-put-text
+add-put-text c = search needs
+
+slice-aggregate-put-text : tie.Need-slice-aggregate-put-text
+slice-aggregate-put-text c = search needs
+
+put-text-requires : tie.Need-put-text-requires
+put-text-requires c κs = search needs
+
+add-put64 : tie.Need-add-put64
+add-put64 c = search needs
+
+put64-requires : tie.Need-put64-requires
+put64-requires c κs = search needs
+
+add-put32 : tie.Need-add-put32
+add-put32 c = search needs
+
+put32-requires : tie.Need-put32-requires
+put32-requires c κs = search needs
+
+same-length : tie.Need-same-length
+same-length c = search needs
+
+returns : tie.Need-returns
+unfolding tableName
+returns c =
+    let a = c .before .before .before .before .before .before .before .before .before .before .before .before .before .before .before .before .before .before .before .before .before .before .before .args in
+    let s : List ℕ = a .s .now in
+    let map : List ℕ = a .map .now in
+    let words = c .before .before .before .before .before .before .before .before .before .before .before .before .before .before .before .before .before .before .before .put-words in
+    let flags = c .before .before .before .before .before .before .before .before .before .before .before .before .before .before .before .put8 in
+    let text = c .before .before .before .before .before .before .before .before .before .before .put-text in
+    let suffix = c .before .before .before .before .before .before .put64 in
+    let r : ℕ = regidAt (length map) in
+    let put : c .before .before .put32 .last .0
+    ≡ sets (sets (sets (sets (sets s tableAt (leWords map)) r (le 1 0)) (r + 1) tableName) (r + 24) (le 8 0x0150)) (r + 32) (le 4 (a .previous)) = cc in
+    put ∙ table-put s map (a .previous) r refl
+
+pub put-table-spec : {M : Type 1} → statement M
+put-table-spec =
+    tie.close
+    (tie.spec
+    mul-regid
+    add-regid
+    put-words-requires
+    put8-requires
+    add-put-text
+    slice-aggregate-put-text
+    put-text-requires
+    add-put64
+    put64-requires
+    add-put32
+    put32-requires
+    same-length
+    returns)

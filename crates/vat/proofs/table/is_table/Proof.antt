@@ -1,0 +1,113 @@
+-- `vat::table::is_table` meets its contract: each test that fails settles the answer, in the order of the definition.
+-- Assumes nothing.
+use Prim.Native.Nat.{ℕ, _+_, _≤_}
+use native.Mathlib.Omega.{arith}
+use mathlib.Core.Path.{_≡_, sym, ap, _∙_}
+use mathlib.Core.Bool.{true, false, _&&_}
+use mathlib.Core.List.{List}
+use lib.Dec.{eqb}
+use lib.ListN.{length}
+use borrow.Author.Tests.{eq-eqb, ne-eqb, not-true, not-false}
+use Rattle.le.specs.Bytes.{every}
+use Rattle.le.specs.Field.{words}
+use Rattle.vat.specs.Tag.{crcLength, sealed}
+use Rattle.vat.specs.Table.{sectorLength, tableAt, unusedOrBelow, entryCount, entriesOf, framed, isTable}
+use Rattle.vat.proofs.Frame.{Framed, framed-tells}
+use borrow.Author.Needs.{needs}
+use Rattle.vat.proofs.table.is_table.Statement.{statement}
+use Rattle.vat.proofs.table.is_table.Tie as tie
+use Rattle.vat.proofs.table.is_table.Reads as reads
+use Rattle.vat.proofs.table.is_table.Lts as lts
+use Rattle.vat.proofs.table.entries_held.Reads as entries-held-reads
+use Rattle.vat.proofs.table.entry_count.Reads as entry-count-reads
+use Rattle.vat.proofs.table.framed.Reads as framed-reads
+use Rattle.vat.proofs.tag.sealed.Reads as sealed-reads
+
+data-sector : (c : tie.Else1) → eqb (c .before .before .args .kind) 1 ≡ true
+data-sector c = eq-eqb (c .before .before .args .kind) 1 (c .if1 .left)
+
+-- past the tests of kind and length: the sector and its block
+abbrev S : tie.Else2 → List ℕ
+S c = c .before .before .before .args .s .now
+
+abbrev B : tie.Else2 → ℕ
+B c = c .before .before .before .args .b
+
+whole : (c : tie.Else2) → eqb (length (S c)) sectorLength ≡ true
+whole c = eq-eqb (length (S c)) sectorLength (c .if2 .left)
+
+frame : (c : tie.Else3) → framed (S (c .before .before)) (B (c .before .before)) (entryCount (S (c .before .before))) ≡ true
+frame c = sym (c .before .framed .ensures) ∙ not-false (c .before .framed .result) (c .if3 .left)
+
+told : (c : tie.Else3) → Framed (S (c .before .before)) (B (c .before .before)) (entryCount (S (c .before .before)))
+told c = framed-tells (S (c .before .before)) (B (c .before .before)) (entryCount (S (c .before .before))) (frame c)
+
+listed : (c : tie.After-entries-held)
+    → c .entries-held .result ≡ every (unusedOrBelow (B (c .before .before .before .before))) (entriesOf (S (c .before .before .before .before)))
+unfolding entriesOf
+listed c =
+    let e = c .before .before .before .before in
+    c .entries-held .ensures ∙ ap (λ (n : ℕ). every (unusedOrBelow (B e)) (words n (S e) tableAt)) (c .before .entry-count .ensures)
+
+returns : tie.Need-returns
+unfolding isTable
+returns c =
+    let wrong : eqb (c .before .before .args .kind) 1 ≡ false = ne-eqb (c .before .before .args .kind) 1 (c .if1 .taken) in
+    rw wrong
+
+returns-2 : tie.Need-returns-2
+unfolding isTable
+returns-2 c =
+    let s : List ℕ = c .before .before .before .args .s .now in
+    let wrong : eqb (length s) sectorLength ≡ false = ne-eqb (length s) sectorLength (c .if2 .taken) in
+    rw (data-sector (c .before), wrong)
+
+framed-requires : tie.Need-framed-requires
+framed-requires c κs = search needs
+
+returns-3 : tie.Need-returns-3
+unfolding isTable
+returns-3 c =
+    let wrong : framed (S (c .before .before)) (B (c .before .before)) (entryCount (S (c .before .before))) ≡ false = sym (c .before .framed .ensures) ∙ not-true (c .before .framed .result) (c .if3 .taken) in
+    rw (data-sector (c .before .before .before), whole (c .before .before), wrong)
+
+entry-count-requires : tie.Need-entry-count-requires
+entry-count-requires c κs = search needs
+
+entries-held-requires : tie.Need-entries-held-requires
+entries-held-requires c κs = (c .before .before .before .if2 .left, omega (arith, c .entry-count .ensures, told (c .before) .few))
+
+returns-4 : tie.Need-returns-4
+unfolding isTable
+returns-4 c =
+    let e = c .before .before .before in
+    let wrong : every (unusedOrBelow (B (e .before .before))) (entriesOf (S (e .before .before))) ≡ false =
+    sym (listed (c .before)) ∙ not-true (c .before .entries-held .result) (c .if4 .taken) in
+    rw (data-sector (e .before .before .before), whole (e .before .before), frame e, wrong)
+
+sealed-requires : tie.Need-sealed-requires
+sealed-requires c κs =
+    let e = c .before .before .before in
+    omega (arith, e .before .before .if2 .left, told e .few, told e .sized .summed)
+
+returns-5 : tie.Need-returns-5
+unfolding isTable
+returns-5 c =
+    let e = c .before .before .before .before in
+    let right : every (unusedOrBelow (B (e .before .before))) (entriesOf (S (e .before .before))) ≡ true =
+    sym (listed (c .before .before)) ∙ not-false (c .before .before .entries-held .result) (c .before .if4 .left) in
+    rw (data-sector (e .before .before .before), whole (e .before .before), frame e, right) (c .sealed .ensures)
+
+pub is-table-spec : {M : Type 1} → statement M
+is-table-spec =
+    tie.close
+    (tie.spec
+    returns
+    returns-2
+    framed-requires
+    returns-3
+    entry-count-requires
+    entries-held-requires
+    returns-4
+    sealed-requires
+    returns-5)

@@ -1,0 +1,73 @@
+-- `vat::table::plain_held` meets its contract: the identifier decides first, then all the other rows together.
+-- Assumes nothing.
+use Rattle.le.specs.Field.{holds}
+use Rattle.vat.specs.Table.{plainRows}
+use Prim.Native.Nat.{ℕ}
+use mathlib.Core.Path.{_≡_, sym, _∙_}
+use mathlib.Core.Bool.{true, false, and-true}
+use mathlib.Core.List.{List}
+use lib.Dec.{eqb}
+use borrow.Author.Tests.{eq-eqb, ne-eqb}
+use Rattle.le.specs.Field.{readLe}
+use borrow.Author.Needs.{needs}
+use Rattle.vat.proofs.table.plain_held.Statement.{statement}
+use Rattle.vat.proofs.table.plain_held.Tie as tie
+use Rattle.vat.proofs.table.plain_held.Reads as reads
+use Rattle.vat.proofs.table.plain_held.Lts as lts
+use Rattle.le.proofs.read16.Reads as read16-reads
+use Rattle.le.proofs.read32.Reads as read32-reads
+use Rattle.le.proofs.read8.Reads as read8-reads
+
+read16-requires : tie.Need-read16-requires
+read16-requires c κs = search needs
+
+returns : tie.Need-returns
+unfolding holds plainRows
+returns c =
+    let s : List ℕ = c .before .before .before .args .s .now in
+    let wrong : eqb (readLe 2 s 0) 261 ≡ false = ne-eqb (readLe 2 s 0) 261 (λ e. c .if1 .taken (c .before .read16 .ensures ∙ e)) in
+    rw wrong
+
+read16-requires-2 : tie.Need-read16-requires-2
+read16-requires-2 c κs = search needs
+
+read8-requires : tie.Need-read8-requires
+read8-requires c κs = search needs
+
+read32-requires : tie.Need-read32-requires
+read32-requires c κs = search needs
+
+read16-requires-3 : tie.Need-read16-requires-3
+read16-requires-3 c κs = search needs
+
+read8-requires-2 : tie.Need-read8-requires-2
+read8-requires-2 c κs = search needs
+
+read16-requires-4 : tie.Need-read16-requires-4
+read16-requires-4 c κs = search needs
+
+read32-requires-2 : tie.Need-read32-requires-2
+read32-requires-2 c κs = search needs
+
+returns-2 : tie.Need-returns-2
+unfolding holds plainRows
+returns-2 c =
+    let at = c .before .before .before .before .before .before .before in
+    let s : List ℕ = at .before .before .before .args .s .now in
+    let right : eqb (readLe 2 s 0) 261 ≡ true = eq-eqb (readLe 2 s 0) 261 (sym (at .before .read16 .ensures) ∙ at .if1 .left) in
+    simp (right, and-true) (cc)
+
+pub plain-held-spec : {M : Type 1} → statement M
+plain-held-spec =
+    tie.close
+    (tie.spec
+    read16-requires
+    returns
+    read16-requires-2
+    read8-requires
+    read32-requires
+    read16-requires-3
+    read8-requires-2
+    read16-requires-4
+    read32-requires-2
+    returns-2)

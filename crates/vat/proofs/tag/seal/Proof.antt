@@ -1,0 +1,47 @@
+-- `vat::tag::seal` meets its contract: the CRC is put, then the checksum of what that gives.
+-- Assumes nothing.
+use Prim.Native.Nat.{ℕ}
+use mathlib.Core.Path.{_≡_, ap, _∙_}
+use mathlib.Core.List.{List}
+use Rattle.le.specs.Field.{putLe}
+use Rattle.vat.specs.Tag.{bodyCrc, checked, seal}
+use borrow.Author.Needs.{needs}
+use Rattle.vat.proofs.tag.seal.Statement.{statement}
+use Rattle.vat.proofs.tag.seal.Tie as tie
+use Rattle.vat.proofs.tag.seal.Reads as reads
+use Rattle.vat.proofs.tag.seal.Lts as lts
+use Rattle.le.proofs.put16.Reads as put16-reads
+use Rattle.le.proofs.put8.Reads as put8-reads
+use Rattle.vat.proofs.tag.body_crc.Reads as body-crc-reads
+use Rattle.vat.proofs.tag.checksum.Reads as checksum-reads
+
+body-crc-requires : tie.Need-body-crc-requires
+body-crc-requires c κs = search needs
+
+put16-requires : tie.Need-put16-requires
+put16-requires c κs = search needs
+
+checksum-requires : tie.Need-checksum-requires
+checksum-requires c κs = search needs
+
+put8-requires : tie.Need-put8-requires
+put8-requires c κs = search needs
+
+same-length : tie.Need-same-length
+same-length c = search needs
+
+returns : tie.Need-returns
+unfolding seal
+returns c =
+    let start = c .before .before .before .before .before .before .before .before .before .before .before .before .before in
+    let crc = c .before .before .before .before .before .before .before .before .before .before .body-crc in
+    let put = c .before .before .before .before .before .before .before .before .put16 in
+    let sum = c .before .before .before .before .checksum in
+    let s : List ℕ = start .args .s .now in
+    let after : put .last .0 ≡ putLe 2 s 8 (bodyCrc s) = put .ensures ∙ ap (putLe 2 s 8) (crc .ensures) in
+    c .before .before .put8 .ensures ∙ ap (putLe 1 (put .last .0) 4) (sum .ensures) ∙ ap checked after
+
+pub seal-spec : {M : Type 1} → statement M
+seal-spec =
+    tie.close
+    (tie.spec body-crc-requires put16-requires checksum-requires put8-requires same-length returns)

@@ -1,0 +1,41 @@
+-- The sector that commit records (document 01: "What commit records"), every byte of it.
+use Prim.Native.Nat.{ℕ, _+_}
+use mathlib.Core.List.{List, [], _∷_, _++_}
+use lib.ListN.{length, replicate}
+use lib.Seq.{sets}
+use Rattle.le.specs.Field.{Row, row, le, leWords, lay}
+use Rattle.vat.specs.Tag.{seal}
+use Rattle.vat.specs.Table.{sectorLength, unused, tableAt, plainRows, lengthRows, tableName}
+
+-- "table regid flags 0, suffix hex 50 01 and six zeros".
+unfoldable pub tableRegid : List ℕ
+tableRegid = 0 ∷ (tableName ++ (0x50 ∷ 0x01 ∷ 0 ∷ 0 ∷ 0 ∷ 0 ∷ 0 ∷ 0 ∷ []))
+
+-- "Table: entries of 32 bits, a 32-byte regid, the previous table's block".
+unfoldable pub tableBytes : List ℕ → ℕ → List ℕ
+tableBytes map previous = leWords map ++ (tableRegid ++ le 4 previous)
+
+-- Rows that are recorded and not tested, and the flags, of which only the low three bits are tested.
+unfoldable pub ownRows : List Row
+ownRows =
+    row 24 2 1  -- maximum entries
+    ∷ row 34 2 3  -- flags: embedded
+    ∷ row 36 4 unused  -- user
+    ∷ row 40 4 unused  -- group
+    ∷ row 108 4 1  -- checkpoint
+    ∷ []
+
+-- "implementation regid (128) flags 0, then `*Bench Station`, then zeros".
+abbrev pub stationAt : ℕ
+stationAt = 129
+
+unfoldable pub stationName : List ℕ
+stationName = 42 ∷ 66 ∷ 101 ∷ 110 ∷ 99 ∷ 104 ∷ 32 ∷ 83 ∷ 116 ∷ 97 ∷ 116 ∷ 105 ∷ 111 ∷ 110 ∷ []
+
+-- The table and the name over zeros: "Everything else is zero, up to byte 2047."
+unfoldable pub body : List ℕ → ℕ → List ℕ
+body map previous = sets (sets (replicate sectorLength 0) tableAt (tableBytes map previous)) stationAt stationName
+
+-- The sector for a map, a previous table and the block b that it is recorded at.
+unfoldable pub sector : List ℕ → ℕ → ℕ → List ℕ
+sector map previous b = seal (lay (body map previous) (plainRows b ++ (lengthRows (length map) ++ ownRows)))

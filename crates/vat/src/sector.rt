@@ -1,0 +1,78 @@
+// The sector that commit records.
+use crate::table::SECTOR;
+use crate::table::TABLE_AT;
+use crate::table::TABLE_NAME;
+use crate::table::UNUSED;
+ghost use mathlib.Core.Path.{_≡_};
+ghost use Prim.Native.Nat.{_≤_};
+ghost use lib.ListN.{length};
+ghost use lib.Seq.{sets};
+ghost use Rattle.le.specs.Field.{lay};
+ghost use Rattle.vat.specs.Table.{sectorLength, limit, tableAt, plainRows, lengthRows};
+ghost use Rattle.vat.specs.Sector.{tableBytes, ownRows, sector};
+
+const STATION_NAME: [u8; 14] = *b"*Bench Station";
+
+fn put_plain(s: &mut [u8], b: u32)
+    requires { ⌜ length (now s) ≡ sectorLength ⌝ }
+    ensures { λ _. ⌜ now (s .exit) ≡ lay (now (s .entry)) (plainRows b) ⌝ }
+{
+    le::put16(s, 0, 261);
+    le::put16(s, 2, 2);
+    le::put8(s, 5, 0);
+    le::put32(s, 12, b);
+    le::put16(s, 20, 4);
+    le::put8(s, 27, 0);
+    le::put16(s, 48, 0);
+    le::put32(s, 168, 0);
+}
+
+fn put_lengths(s: &mut [u8], n: u32)
+    requires { ⌜ (length (now s) ≡ sectorLength) × (n ≤ limit) ⌝ }
+    ensures { λ _. ⌜ now (s .exit) ≡ lay (now (s .entry)) (lengthRows n) ⌝ }
+{
+    let length = 4 * n + 36;
+    le::put32(s, 172, length);
+    le::put64(s, 56, length as u64);
+    le::put16(s, 10, (160 + length) as u16);
+}
+
+fn put_own(s: &mut [u8])
+    requires { ⌜ length (now s) ≡ sectorLength ⌝ }
+    ensures { λ _. ⌜ now (s .exit) ≡ lay (now (s .entry)) ownRows ⌝ }
+{
+    le::put16(s, 24, 1);
+    le::put16(s, 34, 3);
+    le::put32(s, 36, UNUSED);
+    le::put32(s, 40, UNUSED);
+    le::put32(s, 108, 1);
+}
+
+// The entries, the regid (flags, text, suffix) and the previous table, one behind the other.
+fn put_table(s: &mut [u8], map: &[u32], previous: u32)
+    requires { ⌜ (length (now s) ≡ sectorLength) × (length (now map) ≤ limit) ⌝ }
+    ensures { λ _. ⌜ now (s .exit) ≡ sets (now (s .entry)) tableAt (tableBytes (now (map .entry)) previous) ⌝ }
+{
+    let regid = TABLE_AT + 4 * map.len();
+    let name = TABLE_NAME;
+    le::run::put_words(s, TABLE_AT, map);
+    le::put8(s, regid, 0);
+    le::run::put_text(s, regid + 1, &name);
+    le::put64(s, regid + 24, 0x0150);
+    le::put32(s, regid + 32, previous);
+}
+
+// The sector for a map, a previous table and the block b, into a lent buffer.
+pub fn record(s: &mut [u8], map: &[u32], previous: u32, b: u32)
+    requires { ⌜ (length (now s) ≡ sectorLength) × (length (now map) ≤ limit) ⌝ }
+    ensures { λ _. ⌜ now (s .exit) ≡ sector (now (map .entry)) previous b ⌝ }
+{
+    let station = STATION_NAME;
+    le::run::clear(s);
+    put_table(s, map, previous);
+    le::run::put_text(s, 129, &station);
+    put_plain(s, b);
+    put_lengths(s, map.len() as u32);
+    put_own(s);
+    crate::tag::seal(s);
+}

@@ -1,0 +1,136 @@
+// A table sector, recognised and read.
+ghost use mathlib.Core.Path.{_≡_};
+ghost use Prim.Native.Nat.{_+_, _*_, _≤_, _<_};
+ghost use lib.ListN.{length};
+ghost use Rattle.le.specs.Bytes.{every};
+ghost use Rattle.le.specs.Field.{holds, words};
+ghost use Rattle.vat.specs.Table.{sectorLength, limit, tableAt, plainRows, lengthRows, unusedOrBelow, entryCount, entryOf, previousOf, framed, isTable};
+
+pub const SECTOR: usize = 2048;
+
+// The most entries that fit beside their ICB.
+pub const LIMIT: u32 = 458;
+
+pub const UNUSED: u32 = 4294967295;
+
+pub const TABLE_AT: usize = 176;
+
+pub const TABLE_NAME: [u8; 23] = *b"*UDF Virtual Alloc Tbl\0";
+
+// The tag identifier first: nearly every sector that is no table is known by it.
+fn plain_held(s: &[u8], b: u32) -> bool
+    requires { ⌜ length (now s) ≡ sectorLength ⌝ }
+    ensures { λ r. ⌜ r ≡ holds (now (s .entry)) (plainRows b) ⌝ }
+{
+    if le::read16(s, 0) != 261 {
+        return false;
+    }
+    let version = le::read16(s, 2) == 2;
+    let zero = le::read8(s, 5) == 0;
+    let location = le::read32(s, 12) == b;
+    let strategy = le::read16(s, 20) == 4;
+    let file_type = le::read8(s, 27) == 0;
+    let links = le::read16(s, 48) == 0;
+    let attributes = le::read32(s, 168) == 0;
+    version & (zero & (location & (strategy & (file_type & (links & attributes)))))
+}
+
+fn lengths_held(s: &[u8], n: u32) -> bool
+    requires { ⌜ (length (now s) ≡ sectorLength) × (n ≤ limit) ⌝ }
+    ensures { λ r. ⌜ r ≡ holds (now (s .entry)) (lengthRows n) ⌝ }
+{
+    let length = 4 * n + 36;
+    let descriptors = le::read32(s, 172) == length;
+    let information = le::read64(s, 56) == (length as u64);
+    let summed = (le::read16(s, 10) as u32) == 160 + length;
+    descriptors & (information & summed)
+}
+
+pub fn entry_count(s: &[u8]) -> u32
+    requires { ⌜ length (now s) ≡ sectorLength ⌝ }
+    ensures { λ r. ⌜ r ≡ entryCount (now (s .entry)) ⌝ }
+{
+    let length = le::read32(s, 172);
+    if length < 36 {
+        return 0;
+    }
+    (length - 36) / 4
+}
+
+pub fn entry(s: &[u8], i: u32) -> u32
+    requires { ⌜ (length (now s) ≡ sectorLength) × (i < limit) ⌝ }
+    ensures { λ r. ⌜ r ≡ entryOf (now (s .entry)) i ⌝ }
+{
+    le::read32(s, TABLE_AT + 4 * (i as usize))
+}
+
+pub fn previous(s: &[u8]) -> u32
+    requires { ⌜ (length (now s) ≡ sectorLength) × (entryCount (now s) ≤ limit) ⌝ }
+    ensures { λ r. ⌜ r ≡ previousOf (now (s .entry)) ⌝ }
+{
+    let n = entry_count(s);
+    le::read32(s, TABLE_AT + 4 * (n as usize) + 32)
+}
+
+// A block that a sector at block b may name.
+pub fn may_name(b: u32, x: u32) -> bool
+    ensures { λ r. ⌜ r ≡ unusedOrBelow b x ⌝ }
+{
+    (x < b) | (x == UNUSED)
+}
+
+// All but the entries and the two sums.
+pub fn framed(s: &[u8], b: u32) -> bool
+    requires { ⌜ length (now s) ≡ sectorLength ⌝ }
+    ensures { λ r. ⌜ r ≡ framed (now (s .entry)) b (entryCount (now (s .entry))) ⌝ }
+{
+    if !plain_held(s, b) {
+        return false;
+    }
+    let embedded = (le::read16(s, 34) & 7) == 3;
+    let n = entry_count(s);
+    if LIMIT < n {
+        return false;
+    }
+    let lengths = lengths_held(s, n);
+    let name = TABLE_NAME;
+    let named = le::run::holds_text(s, TABLE_AT + 4 * (n as usize) + 1, &name);
+    let backward = may_name(b, previous(s));
+    embedded & (lengths & (named & backward))
+}
+
+// With no early exit: nearly always every entry passes.
+pub fn entries_held(s: &[u8], n: u32, b: u32) -> bool
+    requires { ⌜ (length (now s) ≡ sectorLength) × (n ≤ limit) ⌝ }
+    ensures { λ r. ⌜ r ≡ every (unusedOrBelow b) (words n (now (s .entry)) tableAt) ⌝ }
+{
+    let mut held = true;
+    let mut at = TABLE_AT;
+    let mut left = n;
+    while left > 0 {
+        held = held & may_name(b, le::read32(s, at));
+        at += 4;
+        left -= 1;
+    }
+    held
+}
+
+// A sector of a kind is a table sector at block b.
+pub fn is_table(kind: u8, s: &[u8], b: u32) -> bool
+    ensures { λ r. ⌜ r ≡ isTable kind (now (s .entry)) b ⌝ }
+{
+    if kind != 1 {
+        return false;
+    }
+    if s.len() != SECTOR {
+        return false;
+    }
+    if !framed(s, b) {
+        return false;
+    }
+    let n = entry_count(s);
+    if !entries_held(s, n, b) {
+        return false;
+    }
+    crate::tag::sealed(s)
+}
