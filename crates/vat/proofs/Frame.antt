@@ -11,7 +11,7 @@ use lib.ListN.{length}
 use borrow.Author.Tests.{eqb-true, leb-true}
 use Rattle.le.specs.Bytes.{every, holdsText}
 use Rattle.le.specs.Field.{readLe, words, holds}
-use Rattle.vat.specs.Tag.{crcLength}
+use Rattle.tag.specs.Tag.{crcLength}
 use Rattle.vat.specs.Table.{limit, tableLength, regidAt, plainRows, lengthRows, embedded, tableName, unusedOrBelow, previousOf, framed}
 
 pub and-left : (a b : Bool) → (a && b) ≡ true → a ≡ true

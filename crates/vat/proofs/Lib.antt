@@ -1,4 +1,3 @@
 pub mod Frame
 pub mod Record
-pub mod Seal
 pub mod Theorems

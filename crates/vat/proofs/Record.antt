@@ -12,7 +12,7 @@ use Rattle.le.proofs.Bytes.{sets-append}
 use Rattle.le.proofs.Fields.{length-le}
 use Rattle.le.proofs.Rows.{apart, within, Fit, lay-append, holds-lay, holds-append}
 use Rattle.le.proofs.Runs.{length-leWords}
-use Rattle.vat.specs.Tag.{crcLength}
+use Rattle.tag.specs.Tag.{crcLength}
 use Rattle.vat.specs.Table.{sectorLength, limit, tableAt, tableLength, regidAt, plainRows, lengthRows, tableName}
 use Rattle.vat.specs.Sector.{tableRegid, tableBytes, ownRows, stationAt, stationName, body}
 use Rattle.vat.proofs.Frame.{and-left, and-right, Lengths, lengths}

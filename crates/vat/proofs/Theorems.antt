@@ -21,12 +21,12 @@ use Rattle.le.proofs.Bytes.{drop-sets, drop-sets-after}
 use Rattle.le.proofs.Fields.{length-le, read-le}
 use Rattle.le.proofs.Rows.{length-lay, holds-spared, holds-append, drop-lay, read-lay}
 use Rattle.le.proofs.Runs.{length-leWords, drop-on, text-held, Words, words-read, length-words}
-use Rattle.vat.specs.Tag.{sealed, seal}
+use Rattle.tag.specs.Tag.{sealed, seal}
 use Rattle.vat.specs.Table.{sectorLength, limit, unused, tableAt, tableLength, regidAt, plainRows, lengthRows, embedded, tableName, unusedOrBelow, entryCount, entriesOf, previousOf, framed, isTable}
 use Rattle.vat.specs.Sector.{tableRegid, tableBytes, ownRows, stationName, stationAt, body, sector}
 use Rattle.vat.proofs.Frame.{and-left, and-right, Lengths, lengths, Framed, framed-tells}
 use Rattle.vat.proofs.Record.{header, header-held, length-body}
-use Rattle.vat.proofs.Seal.{sealRows, seal-lays, sealed-seal}
+use Rattle.tag.proofs.Sums.{sealRows, seal-lays, sealed-seal}
 
 -- ---- what is recognised
 

@@ -1,3 +1,2 @@
-pub mod Tag
 pub mod Table
 pub mod Sector

@@ -4,7 +4,7 @@ use mathlib.Core.List.{List, [], _∷_, _++_}
 use lib.ListN.{length, replicate}
 use lib.Seq.{sets}
 use Rattle.le.specs.Field.{Row, row, le, leWords, lay}
-use Rattle.vat.specs.Tag.{seal}
+use Rattle.tag.specs.Tag.{seal}
 use Rattle.vat.specs.Table.{sectorLength, unused, tableAt, plainRows, lengthRows, tableName}
 
 -- "table regid flags 0, suffix hex 50 01 and six zeros".

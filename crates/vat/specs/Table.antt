@@ -7,7 +7,7 @@ use lib.Dec.{eqb, ltb, leb}
 use lib.ListN.{length}
 use Rattle.le.specs.Bytes.{every, holdsText}
 use Rattle.le.specs.Field.{Row, row, readLe, holds, words}
-use Rattle.vat.specs.Tag.{sealed}
+use Rattle.tag.specs.Tag.{sealed}
 
 -- A sector has 2048 bytes.
 abbrev pub sectorLength : ℕ

@@ -74,5 +74,5 @@ pub fn record(s: &mut [u8], map: &[u32], previous: u32, b: u32)
     put_plain(s, b);
     put_lengths(s, map.len() as u32);
     put_own(s);
-    crate::tag::seal(s);
+    tag::seal(s);
 }

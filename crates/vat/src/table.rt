@@ -132,5 +132,5 @@ pub fn is_table(kind: u8, s: &[u8], b: u32) -> bool
     if !entries_held(s, n, b) {
         return false;
     }
-    crate::tag::sealed(s)
+    tag::sealed(s)
 }

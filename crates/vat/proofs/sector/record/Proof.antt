@@ -7,7 +7,7 @@ use mathlib.Core.List.{List}
 use lib.ListN.{length}
 use Rattle.le.specs.Field.{lay}
 use Rattle.le.proofs.Rows.{length-lay}
-use Rattle.vat.specs.Tag.{seal}
+use Rattle.tag.specs.Tag.{seal}
 use Rattle.vat.specs.Table.{plainRows, lengthRows}
 use Rattle.vat.specs.Sector.{ownRows, stationName, body, sector}
 use Rattle.vat.proofs.Frame.{Lengths}
@@ -23,7 +23,7 @@ use Rattle.vat.proofs.sector.put_lengths.Reads as put-lengths-reads
 use Rattle.vat.proofs.sector.put_own.Reads as put-own-reads
 use Rattle.vat.proofs.sector.put_plain.Reads as put-plain-reads
 use Rattle.vat.proofs.sector.put_table.Reads as put-table-reads
-use Rattle.vat.proofs.tag.seal.Reads as seal-reads
+use Rattle.tag.proofs.seal.Reads as seal-reads
 
 -- what is sealed: the header laid over the body
 laid : (c : tie.After-seal-arg)

@@ -10,7 +10,7 @@ use lib.ListN.{length}
 use borrow.Author.Tests.{eq-eqb, ne-eqb, not-true, not-false}
 use Rattle.le.specs.Bytes.{every}
 use Rattle.le.specs.Field.{words}
-use Rattle.vat.specs.Tag.{crcLength, sealed}
+use Rattle.tag.specs.Tag.{crcLength, sealed}
 use Rattle.vat.specs.Table.{sectorLength, tableAt, unusedOrBelow, entryCount, entriesOf, framed, isTable}
 use Rattle.vat.proofs.Frame.{Framed, framed-tells}
 use borrow.Author.Needs.{needs}
@@ -21,7 +21,7 @@ use Rattle.vat.proofs.table.is_table.Lts as lts
 use Rattle.vat.proofs.table.entries_held.Reads as entries-held-reads
 use Rattle.vat.proofs.table.entry_count.Reads as entry-count-reads
 use Rattle.vat.proofs.table.framed.Reads as framed-reads
-use Rattle.vat.proofs.tag.sealed.Reads as sealed-reads
+use Rattle.tag.proofs.sealed.Reads as sealed-reads
 
 data-sector : (c : tie.Else1) → eqb (c .before .before .args .kind) 1 ≡ true
 data-sector c = eq-eqb (c .before .before .args .kind) 1 (c .if1 .left)

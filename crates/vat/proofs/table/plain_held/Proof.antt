@@ -1,5 +1,6 @@
 -- `vat::table::plain_held` meets its contract: the identifier decides first, then all the other rows together.
 -- Assumes nothing.
+use native.Mathlib.Omega.{arith}
 use Rattle.le.specs.Field.{holds}
 use Rattle.vat.specs.Table.{plainRows}
 use Prim.Native.Nat.{ℕ}
@@ -19,7 +20,7 @@ use Rattle.le.proofs.read32.Reads as read32-reads
 use Rattle.le.proofs.read8.Reads as read8-reads
 
 read16-requires : tie.Need-read16-requires
-read16-requires c κs = search needs
+read16-requires c κs = omega arith
 
 returns : tie.Need-returns
 unfolding holds plainRows
@@ -29,25 +30,25 @@ returns c =
     rw wrong
 
 read16-requires-2 : tie.Need-read16-requires-2
-read16-requires-2 c κs = search needs
+read16-requires-2 c κs = omega arith
 
 read8-requires : tie.Need-read8-requires
-read8-requires c κs = search needs
+read8-requires c κs = omega arith
 
 read32-requires : tie.Need-read32-requires
-read32-requires c κs = search needs
+read32-requires c κs = omega arith
 
 read16-requires-3 : tie.Need-read16-requires-3
-read16-requires-3 c κs = search needs
+read16-requires-3 c κs = omega arith
 
 read8-requires-2 : tie.Need-read8-requires-2
-read8-requires-2 c κs = search needs
+read8-requires-2 c κs = omega arith
 
 read16-requires-4 : tie.Need-read16-requires-4
-read16-requires-4 c κs = search needs
+read16-requires-4 c κs = omega arith
 
 read32-requires-2 : tie.Need-read32-requires-2
-read32-requires-2 c κs = search needs
+read32-requires-2 c κs = omega arith
 
 returns-2 : tie.Need-returns-2
 unfolding holds plainRows

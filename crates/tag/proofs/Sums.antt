@@ -17,7 +17,7 @@ use Rattle.le.proofs.Bytes.{take-sets-before, drop-sets-after}
 use Rattle.le.proofs.Fields.{length-le, length-put, read-put, read-sets-apart}
 use Rattle.crc.specs.Crc.{crcOf}
 use Rattle.crc.proofs.Laws.{crc-lt}
-use Rattle.vat.specs.Tag.{checksum, crcLength, bodyCrc, sealed, checked, seal}
+use Rattle.tag.specs.Tag.{checksum, crcLength, bodyCrc, sealed, checked, seal}
 
 -- the two rows that sealing lays
 abbrev pub sealRows : List ℕ → List Row

@@ -1,19 +1,19 @@
--- `vat::tag::seal` meets its contract: the CRC is put, then the checksum of what that gives.
+-- `tag::seal` meets its contract: the CRC is put, then the checksum of what that gives.
 -- Assumes nothing.
 use Prim.Native.Nat.{ℕ}
 use mathlib.Core.Path.{_≡_, ap, _∙_}
 use mathlib.Core.List.{List}
 use Rattle.le.specs.Field.{putLe}
-use Rattle.vat.specs.Tag.{bodyCrc, checked, seal}
+use Rattle.tag.specs.Tag.{bodyCrc, checked, seal}
 use borrow.Author.Needs.{needs}
-use Rattle.vat.proofs.tag.seal.Statement.{statement}
-use Rattle.vat.proofs.tag.seal.Tie as tie
-use Rattle.vat.proofs.tag.seal.Reads as reads
-use Rattle.vat.proofs.tag.seal.Lts as lts
+use Rattle.tag.proofs.seal.Statement.{statement}
+use Rattle.tag.proofs.seal.Tie as tie
+use Rattle.tag.proofs.seal.Reads as reads
+use Rattle.tag.proofs.seal.Lts as lts
 use Rattle.le.proofs.put16.Reads as put16-reads
 use Rattle.le.proofs.put8.Reads as put8-reads
-use Rattle.vat.proofs.tag.body_crc.Reads as body-crc-reads
-use Rattle.vat.proofs.tag.checksum.Reads as checksum-reads
+use Rattle.tag.proofs.body_crc.Reads as body-crc-reads
+use Rattle.tag.proofs.checksum.Reads as checksum-reads
 
 body-crc-requires : tie.Need-body-crc-requires
 body-crc-requires c κs = search needs

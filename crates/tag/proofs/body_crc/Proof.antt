@@ -1,4 +1,4 @@
--- `vat::tag::body_crc` meets its contract: the part that is summed is CRC-length bytes from byte 16.
+-- `tag::body_crc` meets its contract: the part that is summed is CRC-length bytes from byte 16.
 -- Assumes nothing.
 use Prim.Native.Nat.{ℕ, _+_, _-_}
 use native.Mathlib.Omega.{arith}
@@ -7,12 +7,12 @@ use mathlib.Core.List.{List}
 use lib.ListN.{take, drop}
 use Rattle.le.specs.Field.{readLe}
 use Rattle.crc.specs.Crc.{crcOf}
-use Rattle.vat.specs.Tag.{bodyCrc}
+use Rattle.tag.specs.Tag.{bodyCrc}
 use borrow.Author.Needs.{needs}
-use Rattle.vat.proofs.tag.body_crc.Statement.{statement}
-use Rattle.vat.proofs.tag.body_crc.Tie as tie
-use Rattle.vat.proofs.tag.body_crc.Reads as reads
-use Rattle.vat.proofs.tag.body_crc.Lts as lts
+use Rattle.tag.proofs.body_crc.Statement.{statement}
+use Rattle.tag.proofs.body_crc.Tie as tie
+use Rattle.tag.proofs.body_crc.Reads as reads
+use Rattle.tag.proofs.body_crc.Lts as lts
 use Rattle.crc.proofs.crc.Reads as crc-reads
 use Rattle.le.proofs.read16.Reads as read16-reads
 

@@ -1,8 +1,8 @@
-// The two sums in the tag of a descriptor.
+// The two sums in the tag of a descriptor: the checksum of the tag and the CRC of what follows it.
 ghost use mathlib.Core.Path.{_≡_};
 ghost use Prim.Native.Nat.{_+_, _≤_};
 ghost use lib.ListN.{length};
-ghost use Rattle.vat.specs.Tag.{checksum, crcLength, bodyCrc, sealed, seal};
+ghost use Rattle.tag.specs.Tag.{checksum, crcLength, bodyCrc, sealed, seal};
 
 fn checksum(s: &[u8]) -> u8
     requires { ⌜ 16 ≤ length (now s) ⌝ }

@@ -1,4 +1,4 @@
--- `vat::tag::sealed` meets its contract: the checksum decides first, then the CRC.
+-- `tag::sealed` meets its contract: the checksum decides first, then the CRC.
 -- Assumes nothing.
 use Prim.Native.Nat.{ℕ}
 use mathlib.Core.Path.{_≡_, ap₂, sym, _∙_}
@@ -7,16 +7,16 @@ use mathlib.Core.List.{List}
 use lib.Dec.{eqb}
 use borrow.Author.Tests.{eq-eqb, ne-eqb}
 use Rattle.le.specs.Field.{readLe}
-use Rattle.vat.specs.Tag.{checksum, sealed}
+use Rattle.tag.specs.Tag.{checksum, sealed}
 use borrow.Author.Needs.{needs}
-use Rattle.vat.proofs.tag.sealed.Statement.{statement}
-use Rattle.vat.proofs.tag.sealed.Tie as tie
-use Rattle.vat.proofs.tag.sealed.Reads as reads
-use Rattle.vat.proofs.tag.sealed.Lts as lts
+use Rattle.tag.proofs.sealed.Statement.{statement}
+use Rattle.tag.proofs.sealed.Tie as tie
+use Rattle.tag.proofs.sealed.Reads as reads
+use Rattle.tag.proofs.sealed.Lts as lts
 use Rattle.le.proofs.read16.Reads as read16-reads
 use Rattle.le.proofs.read8.Reads as read8-reads
-use Rattle.vat.proofs.tag.body_crc.Reads as body-crc-reads
-use Rattle.vat.proofs.tag.checksum.Reads as checksum-reads
+use Rattle.tag.proofs.body_crc.Reads as body-crc-reads
+use Rattle.tag.proofs.checksum.Reads as checksum-reads
 
 read8-requires : tie.Need-read8-requires
 read8-requires c κs = search needs

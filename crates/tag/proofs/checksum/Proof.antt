@@ -1,12 +1,12 @@
--- `vat::tag::checksum` meets its contract: two sums modulo 256, added.
+-- `tag::checksum` meets its contract: two sums modulo 256, added.
 -- Assumes nothing.
 use native.Mathlib.Omega.{arith}
-use Rattle.vat.specs.Tag.{checksum}
+use Rattle.tag.specs.Tag.{checksum}
 use borrow.Author.Needs.{needs}
-use Rattle.vat.proofs.tag.checksum.Statement.{statement}
-use Rattle.vat.proofs.tag.checksum.Tie as tie
-use Rattle.vat.proofs.tag.checksum.Reads as reads
-use Rattle.vat.proofs.tag.checksum.Lts as lts
+use Rattle.tag.proofs.checksum.Statement.{statement}
+use Rattle.tag.proofs.checksum.Tie as tie
+use Rattle.tag.proofs.checksum.Reads as reads
+use Rattle.tag.proofs.checksum.Lts as lts
 use Rattle.le.proofs.run.byte_sum.Reads as byte-sum-reads
 
 sub-byte-sum : tie.Need-sub-byte-sum

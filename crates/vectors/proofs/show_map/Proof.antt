@@ -1,0 +1,126 @@
+-- `vectors::show_map` is safe and ends: the index stays below the count.
+-- Assumes nothing.
+use Prim.Native.Nat.{_-_, _≤_, _<_}
+use mathlib.Core.Path.{_≡_}
+use native.Mathlib.Omega.{arith}
+use borrow.Author.Needs.{needs}
+use lib.ListN.{length, length-set}
+use Rattle.vectors.proofs.show_map.Statement.{statement}
+use Rattle.vectors.proofs.show_map.Tie as tie
+use Rattle.vectors.proofs.show_map.Reads as reads
+use Rattle.vectors.proofs.show_map.Lts as lts
+use Rattle.io.proofs.print_decimal.Reads as print-decimal-reads
+use Rattle.io.proofs.print_hex.Reads as print-hex-reads
+use Rattle.vat.proofs.table.entry.Reads as entry-reads
+use Rattle.vat.proofs.table.entry_count.Reads as entry-count-reads
+use Rattle.vat.proofs.table.previous.Reads as previous-reads
+use Rattle.vectors.proofs.say.Reads as say-reads
+
+abbrev Inv-loop : tie.InvT-loop
+Inv-loop s n i₀ t5 t6 t7 i = (i ≤ n) × (length t5 ≡ 1) × (length t6 ≡ 10) × (length t7 ≡ 1)
+
+abbrev μ-loop : tie.MeasureT-loop
+μ-loop s n i₀ t5 t6 t7 i = n - i
+
+returns : tie.Need-returns Inv-loop μ-loop
+returns c = search needs
+
+entry-count-requires : tie.Need-entry-count-requires Inv-loop μ-loop
+entry-count-requires c κs = search needs
+
+returns-2 : tie.Need-returns-2 Inv-loop μ-loop
+returns-2 c = search needs
+
+slice-aggregate-say : tie.Need-slice-aggregate-say Inv-loop μ-loop
+slice-aggregate-say c = search needs
+
+say-requires : tie.Need-say-requires Inv-loop μ-loop
+say-requires c κs = search needs
+
+cast-print-decimal : tie.Need-cast-print-decimal Inv-loop μ-loop
+cast-print-decimal c = search needs
+
+print-decimal-requires : tie.Need-print-decimal-requires Inv-loop μ-loop
+print-decimal-requires c κs = search needs
+
+loop-holds : tie.Need-loop-holds Inv-loop μ-loop
+loop-holds c = search needs
+
+slice-aggregate-say-2 : tie.Need-slice-aggregate-say-2 Inv-loop μ-loop
+slice-aggregate-say-2 c = search needs
+
+say-requires-2 : tie.Need-say-requires-2 Inv-loop μ-loop
+say-requires-2 c κs = search needs
+
+entry-requires : tie.Need-entry-requires Inv-loop μ-loop
+entry-requires c κs = search needs
+
+cast-print-hex : tie.Need-cast-print-hex Inv-loop μ-loop
+cast-print-hex c = search needs
+
+print-hex-requires : tie.Need-print-hex-requires Inv-loop μ-loop
+print-hex-requires c κs = search needs
+
+add-i : tie.Need-add-i Inv-loop μ-loop
+add-i c = search needs
+
+loop-less : tie.Need-loop-less Inv-loop μ-loop
+loop-less c = search needs
+
+loop-again : tie.Need-loop-again Inv-loop μ-loop
+loop-again c = search needs
+
+slice-aggregate-say-3 : tie.Need-slice-aggregate-say-3 Inv-loop μ-loop
+slice-aggregate-say-3 c = search needs
+
+say-requires-3 : tie.Need-say-requires-3 Inv-loop μ-loop
+say-requires-3 c κs = search needs
+
+previous-requires : tie.Need-previous-requires Inv-loop μ-loop
+previous-requires c κs = search needs
+
+cast-print-hex-2 : tie.Need-cast-print-hex-2 Inv-loop μ-loop
+cast-print-hex-2 c = search needs
+
+print-hex-requires-2 : tie.Need-print-hex-requires-2 Inv-loop μ-loop
+print-hex-requires-2 c κs = search needs
+
+slice-aggregate-say-4 : tie.Need-slice-aggregate-say-4 Inv-loop μ-loop
+slice-aggregate-say-4 c = search needs
+
+say-requires-4 : tie.Need-say-requires-4 Inv-loop μ-loop
+say-requires-4 c κs = search needs
+
+returns-3 : tie.Need-returns-3 Inv-loop μ-loop
+returns-3 c = search needs
+
+pub show-map-spec : {M : Type 1} → statement M
+show-map-spec =
+    tie.close
+    (tie.spec
+    Inv-loop
+    μ-loop
+    returns
+    entry-count-requires
+    returns-2
+    slice-aggregate-say
+    say-requires
+    cast-print-decimal
+    print-decimal-requires
+    loop-holds
+    slice-aggregate-say-2
+    say-requires-2
+    entry-requires
+    cast-print-hex
+    print-hex-requires
+    add-i
+    loop-less
+    loop-again
+    slice-aggregate-say-3
+    say-requires-3
+    previous-requires
+    cast-print-hex-2
+    print-hex-requires-2
+    slice-aggregate-say-4
+    say-requires-4
+    returns-3)

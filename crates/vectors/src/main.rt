@@ -1,0 +1,162 @@
+// Runs the CRC and the table sector on outside vectors, and prints what it finds. What must come stands in the file `stdout`; an
+// independent program, tests/vectors.py, makes it.
+use vat::sector::record;
+use vat::table::UNUSED;
+use vat::table::entry;
+use vat::table::entry_count;
+use vat::table::is_table;
+use vat::table::previous;
+ghost use Prim.Native.Nat.{_≤_};
+ghost use mathlib.Core.Path.{_≡_};
+ghost use lib.ListN.{length};
+
+const STDOUT: i32 = 1;
+
+fn say(text: &[u8]) {
+    io::write_all(STDOUT, text);
+}
+
+fn show_crc(s: &[u8]) {
+    say(b"crc ");
+    io::print_hex(STDOUT, crc::crc(s) as u64, 4);
+    say(b"\n");
+}
+
+// Bytes that rise by 31, modulo 256, from 7 on.
+fn ramp(s: &mut [u8])
+    ensures { λ _. ⌜ length (now (s .exit)) ≡ length (now (s .entry)) ⌝ }
+{
+    let mut i = 0;
+    let mut x: u8 = 7;
+    while i < s.len() {
+        s[i] = x;
+        x = (((x as u32) + 31) % 256) as u8;
+        i += 1;
+    }
+}
+
+fn show_byte(x: u8) {
+    io::print_hex(STDOUT, x as u64, 2);
+}
+
+// A sector's 64 rows of 32 bytes.
+fn show_rows(s: &[u8]) {
+    let mut i = 0;
+    while i < s.len() {
+        show_byte(s[i]);
+        i += 1;
+        if i % 32 == 0 {
+            say(b"\n");
+        }
+    }
+}
+
+fn show_test(kind: u8, s: &[u8], b: u32) {
+    say(b"kind ");
+    io::print_decimal(STDOUT, kind as u64);
+    say(b" at ");
+    io::print_decimal(STDOUT, b as u64);
+    if is_table(kind, s, b) {
+        say(b": table\n");
+    } else {
+        say(b": none\n");
+    }
+}
+
+// What a sector of 2048 bytes holds: its count, its entries and its previous table.
+fn show_map(s: &[u8]) {
+    if s.len() != 2048 {
+        return;
+    }
+    let n = entry_count(s);
+    if n > 458 {
+        return;
+    }
+    say(b"count ");
+    io::print_decimal(STDOUT, n as u64);
+    let mut i = 0;
+    while i < n {
+        say(b" ");
+        io::print_hex(STDOUT, entry(s, i) as u64, 8);
+        i += 1;
+    }
+    say(b" previous ");
+    io::print_hex(STDOUT, previous(s) as u64, 8);
+    say(b"\n");
+}
+
+fn third(i: usize) -> u32 {
+    if i % 3 == 0 {
+        return UNUSED;
+    }
+    (i % 458) as u32
+}
+
+// A full map: every third entry unused, the others counting up.
+fn fill(map: &mut [u32])
+    ensures { λ _. ⌜ length (now (map .exit)) ≡ length (now (map .entry)) ⌝ }
+{
+    let mut i = 0;
+    while i < map.len() {
+        map[i] = third(i);
+        i += 1;
+    }
+}
+
+fn crcs() {
+    let ecma = [0x70, 0x6A, 0x77];
+    show_crc(&ecma);
+    let mut bytes = [0u8; 2048];
+    show_crc(&bytes);
+    ramp(&mut bytes);
+    show_parts(&bytes);
+}
+
+// The CRC of no byte, of one, of 255, of the longest body of a table sector, and of all.
+fn show_parts(s: &[u8]) {
+    if s.len() != 2048 {
+        return;
+    }
+    show_crc(&s[0..0]);
+    show_crc(&s[0..1]);
+    show_crc(&s[0..255]);
+    show_crc(&s[16..2044]);
+    show_crc(s);
+}
+
+// A table sector at block 300,000: there, at the next block, of another kind, and one byte short.
+fn show_tests(s: &[u8]) {
+    if s.len() != 2048 {
+        return;
+    }
+    show_test(1, s, 300000);
+    show_test(1, s, 300001);
+    show_test(2, s, 300000);
+    show_test(1, &s[0..2047], 300000);
+}
+
+fn small_table() {
+    let mut sector = [0u8; 2048];
+    let map = [0, UNUSED, 299999, 3, 65537];
+    ramp(&mut sector);
+    record(&mut sector, &map, 123456, 300000);
+    show_rows(&sector);
+    show_tests(&sector);
+    show_map(&sector);
+}
+
+fn full_table() {
+    let mut sector = [0u8; 2048];
+    let mut map = [0u32; 458];
+    fill(&mut map);
+    record(&mut sector, &map, UNUSED, 458);
+    show_rows(&sector);
+    show_test(1, &sector, 458);
+    show_map(&sector);
+}
+
+fn main() {
+    crcs();
+    small_table();
+    full_table();
+}
