@@ -2,12 +2,13 @@
 -- Assumes nothing.
 use native.Mathlib.Omega.{arith}
 use Rattle.le.specs.Field.{holds}
-use Rattle.vat.specs.Table.{plainRows}
-use Prim.Native.Nat.{ℕ}
-use mathlib.Core.Path.{_≡_, sym, _∙_}
+use Rattle.vat.specs.Table.{sectorLength, plainRows}
+use Prim.Native.Nat.{ℕ, _≤_}
+use mathlib.Core.Path.{_≡_, sym, _∙_, subst⁻¹}
 use mathlib.Core.Bool.{true, false, and-true}
 use mathlib.Core.List.{List}
-use lib.Dec.{eqb}
+use lib.Dec.{eqb, lit≤}
+use lib.ListN.{length}
 use borrow.Author.Tests.{eq-eqb, ne-eqb}
 use Rattle.le.specs.Field.{readLe}
 use borrow.Author.Needs.{needs}
@@ -19,8 +20,12 @@ use Rattle.le.proofs.read16.Reads as read16-reads
 use Rattle.le.proofs.read32.Reads as read32-reads
 use Rattle.le.proofs.read8.Reads as read8-reads
 
+-- a place below 2048 is within the sector
+inside : (c : tie.Start) {k : ℕ} → k ≤ sectorLength → k ≤ length (c .args .s .now)
+inside c {k} h = subst⁻¹ (λ (n : ℕ). k ≤ n) (c .pre) h
+
 read16-requires : tie.Need-read16-requires
-read16-requires c κs = omega arith
+read16-requires c κs = inside (c .before) (lit≤ tt)
 
 returns : tie.Need-returns
 unfolding holds plainRows
@@ -30,25 +35,25 @@ returns c =
     rw wrong
 
 read16-requires-2 : tie.Need-read16-requires-2
-read16-requires-2 c κs = omega arith
+read16-requires-2 c κs = inside (c .before .before .before) (lit≤ tt)
 
 read8-requires : tie.Need-read8-requires
-read8-requires c κs = omega arith
+read8-requires c κs = inside (c .before .before .before .before) (lit≤ tt)
 
 read32-requires : tie.Need-read32-requires
-read32-requires c κs = omega arith
+read32-requires c κs = inside (c .before .before .before .before .before) (lit≤ tt)
 
 read16-requires-3 : tie.Need-read16-requires-3
-read16-requires-3 c κs = omega arith
+read16-requires-3 c κs = inside (c .before .before .before .before .before .before) (lit≤ tt)
 
 read8-requires-2 : tie.Need-read8-requires-2
-read8-requires-2 c κs = omega arith
+read8-requires-2 c κs = inside (c .before .before .before .before .before .before .before) (lit≤ tt)
 
 read16-requires-4 : tie.Need-read16-requires-4
-read16-requires-4 c κs = omega arith
+read16-requires-4 c κs = inside (c .before .before .before .before .before .before .before .before) (lit≤ tt)
 
 read32-requires-2 : tie.Need-read32-requires-2
-read32-requires-2 c κs = omega arith
+read32-requires-2 c κs = inside (c .before .before .before .before .before .before .before .before .before) (lit≤ tt)
 
 returns-2 : tie.Need-returns-2
 unfolding holds plainRows
