@@ -5,7 +5,7 @@ use mathlib.Core.Bool.{Bool, true, not, _&&_}
 use mathlib.Core.List.{List, [], _∷_}
 use lib.Dec.{T, eqb}
 use lib.ListN.{replicate}
-use Rattle.le.specs.Field.{le, readLe, words, leWords, lay, holds}
+use Rattle.le.specs.Field.{le, readLe, leadingWords, words, leWords, lay, holds}
 use Rattle.le.specs.Bytes.{every, total, holdsText}
 use Rattle.crc.specs.Crc.{crcOf, crcFrom, byteStep}
 use Rattle.tag.specs.Tag.{crcLength, checksum, bodyCrc, sealed, seal}
@@ -37,5 +37,5 @@ unfoldable pub starred : List Example
 starred = crc-of (0x70 ∷ 0x6A ∷ 0x77 ∷ []) 0x3299 ∷ lengths-of 0 36 196 ∷ lengths-of 458 1868 2028 ∷ no-table 459 ∷ []
 
 pub starred-rows : T (all-right starred)
-unfolding right all-right starred le readLe words leWords lay holds every total holdsText crcFrom byteStep checksum bodyCrc sealed seal plainRows lengthRows tableName entryCount entriesOf previousOf framed isTable tableRegid tableBytes ownRows stationName body sector
+unfolding right all-right starred le readLe leadingWords words leWords lay holds every total holdsText crcFrom byteStep checksum bodyCrc sealed seal plainRows lengthRows tableName entryCount entriesOf previousOf framed isTable tableRegid tableBytes ownRows stationName body sector
 starred-rows = tt

@@ -46,6 +46,14 @@ read-agrees (suc n) s t at same =
     ap₂ (λ (a b : ℕ). a + 256 * b) (same at (omega arith) (omega arith))
     (read-agrees n s t (at + 1) (λ k low high. same k (omega arith) (omega arith)))
 
+-- a field behind the first bytes
+pub read-drop : (n : ℕ) (s : List ℕ) (at k : ℕ) → readLe n (drop at s) k ≡ readLe n s (at + k)
+unfolding readLe
+read-drop zero s at k = refl
+read-drop (suc n) s at k =
+    let e : at + (k + 1) ≡ at + k + 1 = omega arith in
+    ap₂ (λ (a b : ℕ). a + 256 * b) (getD-drop at s k 0) (read-drop n s at (k + 1) ∙ ap (readLe n s) e)
+
 -- bytes stored elsewhere leave a field as it was
 pub read-sets-apart : (n : ℕ) (s : List ℕ) (k at : ℕ) (vs : List ℕ) → (k + n ≤ at) ⊎ (at + length vs ≤ k) → readLe n (sets s at vs) k ≡ readLe n s k
 read-sets-apart n s k at vs (inl h) =

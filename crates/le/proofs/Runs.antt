@@ -1,6 +1,6 @@
 -- Runs of bytes and fields, on plain values: one turn of each loop over a run, and what is read where a run stands.
 -- Assumes nothing.
-use Prim.Native.Nat.{ℕ, zero, suc, _+_, _*_, _%_, _≤_, _<_}
+use Prim.Native.Nat.{ℕ, zero, suc, _+_, _*_, _/_, _%_, _≤_, _<_}
 use native.Mathlib.Nat.{add-zero, not-suc-le-zero, le-of-suc-le-suc}
 use native.Mathlib.Numerals.{add-one}
 use native.Mathlib.Omega.{arith}
@@ -8,13 +8,13 @@ use mathlib.Core.Path.{_≡_, refl, sym, ap, ap₂, _∙_}
 use mathlib.Core.Bool.{Bool, true, _&&_, and-assoc}
 use mathlib.Core.List.{List, [], _∷_, _++_, append-assoc}
 use lib.Dec.{eqb}
-use lib.ListN.{length, drop, set, getD, length-append}
-use lib.Seq.{sets, drop-cons, drop-at, drop-drop, getD-drop}
+use lib.ListN.{length, take, drop, set, getD, length-append}
+use lib.Seq.{sets, drop-cons, drop-at, drop-drop, getD-drop, take-add}
 use borrow.Author.Tests.{eq-eqb}
 use Rattle.le.specs.Bytes.{total, holdsText}
-use Rattle.le.specs.Field.{le, readLe, putLe, words, leWords}
+use Rattle.le.specs.Field.{le, readLe, putLe, leadingWords, words, leWords}
 use Rattle.le.proofs.Bytes.{sets-append}
-use Rattle.le.proofs.Fields.{length-le, read-le}
+use Rattle.le.proofs.Fields.{length-le, read-le, read-drop}
 
 -- ---- what is left, with its first element taken
 
@@ -62,24 +62,65 @@ abbrev pub Words : List ℕ → Type 0
 Words [] = Unit
 Words (x ∷ xs) = (x < 4294967296) × Words xs
 
+-- the first field of a run, and the others
+pub words-none : (s : List ℕ) (at : ℕ) → words 0 s at ≡ []
+unfolding words leadingWords
+words-none s at = refl
+
+pub words-step : (n : ℕ) (s : List ℕ) (at : ℕ) → words (suc n) s at ≡ readLe 4 s at ∷ words n s (at + 4)
+unfolding words leadingWords
+words-step n s at =
+    ap₂ {C = List ℕ} (λ (x : ℕ) (xs : List ℕ). x ∷ xs) (read-drop 4 s at 0 ∙ ap (readLe 4 s) (add-zero at)) (ap (leadingWords n) (drop-drop 4 at s))
+
 pub words-read : (xs s rest : List ℕ) (at : ℕ) → drop at s ≡ leWords xs ++ rest → Words xs → words (length xs) s at ≡ xs
-unfolding words leWords
-words-read [] s rest at e f = refl
+unfolding leWords
+words-read [] s rest at e f = words-none s at
 words-read (x ∷ xs) s rest at e f =
     let here : drop at s ≡ le 4 x ++ (leWords xs ++ rest) = e ∙ append-assoc (le 4 x) (leWords xs) rest in
-    ap₂ {C = List ℕ} (λ (a : ℕ) (b : List ℕ). a ∷ b) (read-le 4 x s (leWords xs ++ rest) at here (f .0))
+    words-step (length xs) s at
+    ∙ ap₂ {C = List ℕ} (λ (a : ℕ) (b : List ℕ). a ∷ b) (read-le 4 x s (leWords xs ++ rest) at here (f .0))
     (words-read xs s rest (at + 4) (drop-on s (le 4 x) (leWords xs ++ rest) at 4 here (length-le 4 x)) (f .1))
 
 pub length-words : (n : ℕ) (s : List ℕ) (at : ℕ) → length (words n s at) ≡ n
-unfolding words
-length-words zero s at = refl
-length-words (suc n) s at = ap suc (length-words n s (at + 4))
+length-words zero s at = ap length (words-none s at)
+length-words (suc n) s at = ap length (words-step n s at) ∙ ap suc (length-words n s (at + 4))
 
 -- field i of a run of fields
 pub getD-words : (n : ℕ) (s : List ℕ) (at i d : ℕ) → i < n → getD (words n s at) i d ≡ readLe 4 s (at + 4 * i)
-unfolding words
 getD-words zero s at i d h = absurd (not-suc-le-zero h)
-getD-words (suc n) s at zero d h = rw (add-zero at)
+getD-words (suc n) s at zero d h = ap (λ (l : List ℕ). getD l 0 d) (words-step n s at) ∙ ap (readLe 4 s) (sym (add-zero at))
 getD-words (suc n) s at (suc i) d h =
     let e : at + 4 + 4 * i ≡ at + 4 * suc i = omega arith in
-    getD-words n s (at + 4) i d (le-of-suc-le-suc h) ∙ ap (readLe 4 s) e
+    ap (λ (l : List ℕ). getD l (suc i) d) (words-step n s at) ∙ getD-words n s (at + 4) i d (le-of-suc-le-suc h) ∙ ap (readLe 4 s) e
+
+-- ---- what is read, put back, is what stood there
+
+-- every number of the list is a byte
+abbrev pub AllBytes : List ℕ → Type 0
+AllBytes [] = Unit
+AllBytes (x ∷ xs) = (x < 256) × AllBytes xs
+
+pub byte-at : (s : List ℕ) → AllBytes s → (i : ℕ) → getD s i 0 < 256
+byte-at [] a i = omega arith
+byte-at (x ∷ xs) a zero = a .0
+byte-at (x ∷ xs) a (suc i) = byte-at xs (a .1) i
+
+pub le-read : (n : ℕ) (s : List ℕ) (at : ℕ) → AllBytes s → at + n ≤ length s → le n (readLe n s at) ≡ take n (drop at s)
+unfolding le readLe
+le-read zero s at a h = refl
+le-read (suc n) s at a h =
+    let low : ℕ = getD s at 0 in
+    let high : ℕ = readLe n s (at + 1) in
+    let small : low < 256 = byte-at s a at in
+    let first : (low + 256 * high) % 256 ≡ low = omega arith in
+    let rest : (low + 256 * high) / 256 ≡ high = omega arith in
+    rw (first, rest, drop-cons s at 0 (omega arith), ← add-one at) (ap {B = List ℕ} (λ l. low ∷ l) (le-read n s (at + 1) a (omega arith)))
+
+pub leWords-words : (n : ℕ) (s : List ℕ) (at : ℕ) → AllBytes s → at + 4 * n ≤ length s → leWords (words n s at) ≡ take (4 * n) (drop at s)
+unfolding leWords
+leWords-words zero s at a h = ap leWords (words-none s at)
+leWords-words (suc n) s at a h =
+    let e : 4 * suc n ≡ 4 + 4 * n = omega arith in
+    ap leWords (words-step n s at)
+    ∙ ap₂ (λ (x y : List ℕ). x ++ y) (le-read 4 s at a (omega arith)) (leWords-words n s (at + 4) a (omega arith) ∙ ap (take (4 * n)) (sym (drop-drop 4 at s)))
+    ∙ sym (ap (λ (k : ℕ). take k (drop at s)) e ∙ take-add 4 (4 * n) (drop at s))

@@ -3,7 +3,7 @@ use Prim.Native.Nat.{ℕ, zero, suc, _+_, _*_, _/_, _%_}
 use mathlib.Core.Bool.{Bool, true, _&&_}
 use mathlib.Core.List.{List, [], _∷_, _++_}
 use lib.Dec.{eqb}
-use lib.ListN.{getD}
+use lib.ListN.{getD, drop}
 use lib.Seq.{sets}
 
 -- The n bytes of x, low byte first.
@@ -21,9 +21,12 @@ abbrev pub putLe : ℕ → List ℕ → ℕ → ℕ → List ℕ
 putLe n s at x = sets s at (le n x)
 
 -- The n fields of four bytes from place `at` on, and the bytes of a list of such fields.
+unfoldable pub leadingWords : ℕ → List ℕ → List ℕ
+leadingWords zero s = []
+leadingWords (suc n) s = readLe 4 s 0 ∷ leadingWords n (drop 4 s)
+
 unfoldable pub words : ℕ → List ℕ → ℕ → List ℕ
-words zero s at = []
-words (suc n) s at = readLe 4 s at ∷ words n s (at + 4)
+words n s at = leadingWords n (drop at s)
 
 unfoldable pub leWords : List ℕ → List ℕ
 leWords [] = []

@@ -11,6 +11,7 @@ use lib.ListN.{length}
 use borrow.Author.Tests.{eqb-true, leb-true}
 use Rattle.le.specs.Bytes.{every, holdsText}
 use Rattle.le.specs.Field.{readLe, words, holds}
+use Rattle.le.proofs.Runs.{words-step}
 use Rattle.tag.specs.Tag.{crcLength}
 use Rattle.vat.specs.Table.{limit, tableLength, regidAt, plainRows, lengthRows, embedded, tableName, unusedOrBelow, previousOf, framed}
 
@@ -25,11 +26,11 @@ and-right false b e = absurd (false≢true e)
 -- one of the fields that are left is taken
 pub word-taken : (held : Bool) (f : ℕ → Bool) (left : ℕ) (s : List ℕ) (at : ℕ) → 0 < left
     → ((held && f (readLe 4 s at)) && every f (words (left - 1) s (at + 4))) ≡ (held && every f (words left s at))
-unfolding every words
+unfolding every
 word-taken held f zero s at h = absurd (not-suc-le-zero h)
 word-taken held f (suc left) s at h =
     let e : suc left - 1 ≡ left = omega arith in
-    rw e (and-assoc held (f (readLe 4 s at)) (every f (words left s (at + 4))))
+    rw (e, words-step left s at) (and-assoc held (f (readLe 4 s at)) (every f (words left s (at + 4))))
 
 -- what the rows that the entry count settles say, one by one
 pub record Lengths (s : List ℕ) (n : ℕ) : Type 0 where

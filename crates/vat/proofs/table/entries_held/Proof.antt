@@ -7,7 +7,7 @@ use mathlib.Core.Bool.{Bool, _&&_, and-true}
 use mathlib.Core.List.{List}
 use lib.ListN.{length}
 use Rattle.le.specs.Bytes.{every}
-use Rattle.le.specs.Field.{readLe, words}
+use Rattle.le.specs.Field.{readLe, leadingWords, words}
 use Rattle.vat.specs.Table.{tableAt, unusedOrBelow}
 use Rattle.vat.proofs.Frame.{word-taken}
 use Rattle.vat.proofs.table.entries_held.Statement.{statement}
@@ -54,7 +54,7 @@ loop-again c =
     )
 
 returns : tie.Need-returns Inv-loop μ-loop
-unfolding every words
+unfolding every words leadingWords
 returns c =
     let at = c .before in
     let none : at .loop .left ≡ 0 = omega arith in

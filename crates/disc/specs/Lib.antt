@@ -1,0 +1,2 @@
+pub mod Disc
+pub mod Tables

@@ -1,0 +1,48 @@
+-- The tables on a disc: the newest one, and the walk back from table to table.
+use Prim.Native.Nat.{ℕ, zero, suc}
+use mathlib.Core.Bool.{Bool, true, false}
+use mathlib.Core.List.{List}
+use mathlib.Core.Option.{Option, none, some}
+use lib.Dec.{eqb}
+use Rattle.vat.specs.Table.{unused, entriesOf, previousOf, isTable}
+use Rattle.disc.specs.Disc.{Disc, recorded, kindAt, sectorAt}
+
+-- The sector at block b is a table sector; its map and its previous table.
+abbrev pub tableAt : Disc → ℕ → Bool
+tableAt d b = isTable (kindAt d b) (sectorAt d b) b
+
+abbrev pub mapAt : Disc → ℕ → List ℕ
+mapAt d b = entriesOf (sectorAt d b)
+
+abbrev pub previousAt : Disc → ℕ → ℕ
+previousAt d b = previousOf (sectorAt d b)
+
+-- "starts at the last recorded sector and goes towards block 0. The first table sector met ends the search."
+abbrev pub found : Bool → ℕ → Option ℕ → Option ℕ
+found true b lower = some b
+found false b lower = lower
+
+unfoldable pub newestBelow : (ℕ → Bool) → ℕ → Option ℕ
+newestBelow table zero = none
+newestBelow table (suc b) = let lower : Option ℕ = newestBelow table b in found (table b) b lower
+
+abbrev pub newest : Disc → Option ℕ
+newest d = newestBelow (tableAt d) (recorded d)
+
+-- "follows the previous entry k times": a block reached, or the first step that fails: it names no table sector (refusal 8), or it
+-- "meets FFFFFFFF" (refusal 9).
+pub data Walk : Type 0 where
+  reached : ℕ → Walk
+  broken : Walk
+  ended : Walk
+
+abbrev pub stepped : Bool → Bool → Walk → Walk
+stepped true table further = ended
+stepped false false further = broken
+stepped false true further = further
+
+unfoldable pub walk : (ℕ → Bool) → (ℕ → ℕ) → ℕ → ℕ → Walk
+walk table previous zero b = reached b
+walk table previous (suc k) b =
+    let further : Walk = walk table previous k (previous b) in
+    stepped (eqb (previous b) unused) (table (previous b)) further

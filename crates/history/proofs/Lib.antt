@@ -1,0 +1,5 @@
+pub mod Log
+pub mod Growth
+pub mod Steps
+pub mod Shown
+pub mod Theorem

@@ -1,0 +1,533 @@
+-- Each event on a good world is a step of the log, and leaves a good world: the real calls keep the log's rules.
+-- Assumes nothing.
+use Prim.Native.Nat.{ℕ, zero, suc, _+_, _-_, _*_, _≤_, _<_}
+use native.Mathlib.Nat.{add-zero, not-suc-le-zero, le-refl}
+use native.Mathlib.Omega.{arith}
+use mathlib.Core.Path.{_≡_, refl, sym, ap, ap₂, _∙_, subst, subst₂}
+use mathlib.Core.Bool.{Bool, true, false, _&&_, _||_, true≢false}
+use mathlib.Core.List.{List, [], _∷_, _++_}
+use mathlib.Core.Logic.{_⊎_, inl, inr}
+use mathlib.Core.Option.{Option, none, some}
+use lib.Dec.{eqb, ltb, leb, lit<, eqb·suc-zero}
+use lib.ListN.{length, take, drop, replicate}
+use lib.Arith.{lt-of-le-ne}
+use borrow.Author.Tests.{eqb-true, eqb-false}
+use Rattle.le.specs.Bytes.{every}
+use Rattle.le.proofs.Runs.{Words}
+use Rattle.vat.specs.Table.{sectorLength, limit, unused, unusedOrBelow, entryCount, entriesOf, previousOf, isTable}
+use Rattle.vat.specs.Sector.{sector}
+use Rattle.vat.proofs.Theorems.{Recognised, recognised, Tells, tells, ReadsBack, reads-back}
+use Rattle.disc.specs.Disc.{Disc, recorded, blanks, kindAt, sectorAt, content, Sector, link, plain, puts}
+use Rattle.disc.specs.Tables.{tableAt, mapAt, previousAt, newestBelow, newest, Walk, reached, walk}
+use Rattle.disc.proofs.Recording.{Sound, leading-le}
+use Rattle.disc.proofs.Tables.{table-recorded, newest-table, walk-table}
+use Rattle.volume.specs.declared.Volume.{Volume}
+use Rattle.volume.specs.Volume.{ledgerLength, idle, packetOpen, readOnly, unpack, pack, mapOf, begun, filled, wrote, released, closed, committed}
+use Rattle.volume.proofs.State.{Proper, unpack-pack, proper-begun, proper-filled, proper-wrote, proper-released, proper-closed, proper-committed, grownMap, map-filled, map-wrote, map-released, length-map}
+use Rattle.recorder.specs.Calls.{Call, begin, mount, write, release, closePacket, commit, read, lookBack, blockOf}
+use Rattle.recorder.specs.Refusals.{links, target, walkFrom, walked, outcome}
+use Rattle.recorder.specs.Effects.{Effect, effect, blockFound, blockReached, After, settled, after, ifDone, secondNumber, sectorsIf, sectorsOf}
+use Rattle.recorder.proofs.Done.{Fits, Working, WriteDone, CommitDone, begin-done, mount-done, write-done, release-done, close-done, commit-done, look-back-done}
+use Rattle.history.specs.History.{Entry, Snapshot, History, Told, Fed, answered, cut, cutCommit, feed}
+use Rattle.history.specs.Events.{World, Event, calls, cuts, lent, Restores, Follows, Torn, Allowed, cutDisc, ledgerAfter, next, told, kept, cutShort, fed}
+use Rattle.history.proofs.Log.{Format, AllBelow, all-below-more, View, State, Step, Plain, Saved, plain-same, at, working}
+use Rattle.history.proofs.Growth.{F, names-below, below-to, all-below-of, all-below-to, AllWhole, NoTables, Grown, puts-plain, whole-take, no-tables-take, behindLinks, length-behind, behind-whole, behind-no-tables, behind-content, behind-sound, behind-counted, behind-saved, Left, cut-left, cut-links-left, cut-all, cut-none}
+
+-- ---- the world as the log sees it
+
+abbrev pub viewIs : Volume → View
+viewIs v = record { map = mapOf v; last = v .last; looking = eqb (v .mode) readOnly }
+
+abbrev pub viewOf : Option (List ℕ) → Option View
+viewOf none = none
+viewOf (some l) = some (viewIs (unpack l))
+
+abbrev pub stateOf : World → State F
+stateOf w = at F (w .disc) (viewOf (w .ledger))
+
+-- a lost ledger may hold anything; any other is what a call left
+abbrev pub GoodLedger : Option (List ℕ) → Type 0
+GoodLedger none = Unit
+GoodLedger (some l) = Proper (unpack l)
+
+pub record Good (w : World) : Type 0 where
+  pub sound-disc : Sound (w .disc)
+  pub ledger-good : GoodLedger (w .ledger)
+
+pub record GoodStep (w : World) (f : Fed) (w′ : World) : Type 0 where
+  pub good : Good w′
+  pub step : Step F (stateOf w) f (stateOf w′)
+
+-- ---- states that calls leave
+
+module _ (v : Volume) (ok : Proper v) where
+  packed-view : viewIs (unpack (pack v)) ≡ viewIs v
+  packed-view = ap viewIs (unpack-pack v ok)
+
+  packed-good : Proper (unpack (pack v))
+  packed-good = subst Proper (sym (unpack-pack v ok)) ok
+
+-- not looking only
+working-view : (v : Volume) → eqb (v .mode) readOnly ≡ false → viewIs v ≡ working F (mapOf v) (v .last)
+working-view v e = λ i. record { map = mapOf v; last = v .last; looking = e i }
+
+words-below : (b : ℕ) (xs : List ℕ) → b < 4294967296 → AllBelow b xs → Words xs
+words-below b [] h a = tt
+words-below b (x ∷ xs) h a = (go (a .0), words-below b xs h (a .1))
+  where
+    go : (x ≡ unused) ⊎ (x < b) → x < 4294967296
+    go (inl e) = omega arith
+    go (inr l) = omega arith
+
+few-recorded : (d : Disc) → Sound d → recorded d < 4294967296
+few-recorded d ok = omega (arith, leading-le (d .kinds), ok .few)
+
+-- a state filled from a table
+pub proper-table : (d : Disc) → Sound d → (b mode : ℕ) → mode < 4294967296 → tableAt d b ≡ true → Proper (filled (mapAt d b) b (recorded d) mode)
+proper-table d ok b mode hm e =
+    let r : ℕ = recorded d in
+    let inside : b < r = table-recorded d ok b e in
+    let small : r < 4294967296 = few-recorded d ok in
+    let t : Tells (sectorAt d b) b = tells (kindAt d b) (sectorAt d b) b e in
+    proper-filled (mapAt d b) b r mode (omega (arith, t .counted, t .few)) (words-below b (mapAt d b) (omega arith) (names-below d b e)) (omega arith) small hm
+
+-- ---- a call that is done or refused
+
+-- what the two look like, once the outcome is known
+refused-next : (w : World) (c : Call) (junk : List ℕ) (n : ℕ) → outcome (w .disc) (lent (w .ledger) junk) c ≡ suc n → next w (calls c junk) ≡ w
+unfolding next after
+refused-next w c junk n e = rw e
+
+refused-fed : (w : World) (c : Call) (junk : List ℕ) (n : ℕ) → outcome (w .disc) (lent (w .ledger) junk) c ≡ suc n → fed w (calls c junk) ≡ answered (told c) (suc n) 0
+unfolding fed secondNumber
+refused-fed w c junk n e = rw e
+
+abbrev doneWorld : World → List ℕ → Call → World
+doneWorld w l c = record { disc = puts (w .disc) (recorded (w .disc)) (effect (w .disc) l c .sectors); ledger = some (effect (w .disc) l c .ledger) }
+
+done-next : (w : World) (c : Call) (junk : List ℕ) → outcome (w .disc) (lent (w .ledger) junk) c ≡ 0 → next w (calls c junk) ≡ doneWorld w (lent (w .ledger) junk) c
+unfolding next after
+done-next w c junk e = rw e
+
+done-fed : (w : World) (c : Call) (junk : List ℕ) → outcome (w .disc) (lent (w .ledger) junk) c ≡ 0
+    → fed w (calls c junk) ≡ answered (told c) 0 (effect (w .disc) (lent (w .ledger) junk) c .second)
+unfolding fed secondNumber
+done-fed w c junk e = rw e
+
+refused-step : (w : World) (c : Call) (n second : ℕ) → Good w → GoodStep w (answered (told c) (suc n) second) w
+unfolding feed
+refused-step w c n second g = record { good = g; step = Step.quiet (λ h. refl) }
+
+begin-step : (w : World) (l : List ℕ) → Good w → outcome (w .disc) l begin ≡ 0 → GoodStep w (answered Told.begin 0 (effect (w .disc) l begin .second)) (doneWorld w l begin)
+unfolding effect puts begun
+begin-step w l g e =
+    let d : Disc = w .disc in
+    let facts = begin-done d l e in
+    let ok : Proper (begun (recorded d)) = proper-begun (recorded d) (few-recorded d (g .sound-disc)) in
+    record {
+      good = record { sound-disc = g .sound-disc; ledger-good = packed-good (begun (recorded d)) ok };
+      step =
+          subst (λ (v : View). Step F (stateOf w) (answered Told.begin 0 0) (at F d (some v))) (sym (packed-view (begun (recorded d)) ok)) (Step.begun 0 (facts .1));
+    }
+
+filled-view : (map : List ℕ) (b r : ℕ) → viewIs (filled map b r idle) ≡ working F map b
+unfolding filled
+filled-view map b r = λ i. record { map = map-filled map b r idle i; last = b; looking = false }
+
+mount-step : (w : World) (l : List ℕ) → Good w → outcome (w .disc) l mount ≡ 0 → GoodStep w (answered Told.mount 0 (effect (w .disc) l mount .second)) (doneWorld w l mount)
+unfolding effect puts
+mount-step w l g e =
+    let d : Disc = w .disc in
+    let facts = mount-done d l e in
+    let b : ℕ = facts .1 .0 in
+    let here : blockFound (newest d) ≡ b = ap blockFound (facts .1 .1) in
+    let table : tableAt d b ≡ true = newest-table (tableAt d) (recorded d) b (facts .1 .1) in
+    let v : Volume = filled (mapAt d b) b (recorded d) idle in
+    let ok : Proper v = proper-table d (g .sound-disc) b idle (lit< tt) table in
+    let view : viewIs (unpack (pack v)) ≡ working F (mapAt d b) b = packed-view v ok ∙ filled-view (mapAt d b) b (recorded d) in
+    subst (λ (x : ℕ). GoodStep w (answered Told.mount 0 (effect d l mount .second)) (record { disc = d; ledger = some (pack (filled (mapAt d x) x (recorded d) idle)) })) (sym here)
+    (record {
+      good = record { sound-disc = g .sound-disc; ledger-good = packed-good v ok };
+      step =
+          subst (λ (u : View). Step F (stateOf w) (answered Told.mount 0 (effect d l mount .second)) (at F d (some u))) (sym view)
+          (Step.mounted (effect d l mount .second) b (facts .1 .1));
+    })
+
+-- what look back reaches is a table
+pub walked-table : (d : Disc) (k t : ℕ) → walked d k ≡ reached t → tableAt d t ≡ true
+unfolding walked
+walked-table d k t e = go (newest d) refl e
+  where
+    go : (o : Option ℕ) → newest d ≡ o → walkFrom d k o ≡ reached t → tableAt d t ≡ true
+    go none n e = absurd (let z : _≡_ {A = ℕ} 0 1 = cc in omega arith)
+    go (some b) n e = walk-table (tableAt d) (previousAt d) k b t e (newest-table (tableAt d) (recorded d) b n)
+
+looking-view : (map : List ℕ) (b r : ℕ) → viewIs (filled map b r readOnly) .looking ≡ true
+unfolding filled
+looking-view map b r = refl
+
+look-back-step : (w : World) (l : List ℕ) (k : ℕ) → Good w → outcome (w .disc) l (lookBack k) ≡ 0
+    → GoodStep w (answered (Told.lookBack k) 0 (effect (w .disc) l (lookBack k) .second)) (doneWorld w l (lookBack k))
+unfolding effect puts
+look-back-step w l k g e =
+    let d : Disc = w .disc in
+    let facts = look-back-done d l k e in
+    let b : ℕ = facts .1 .0 in
+    let second : ℕ = blockReached (walked d k) in
+    let here : blockReached (walked d k) ≡ b = ap blockReached (facts .1 .1) in
+    let v : Volume = filled (mapAt d b) b (recorded d) readOnly in
+    let ok : Proper v = proper-table d (g .sound-disc) b readOnly (lit< tt) (walked-table d k b (facts .1 .1)) in
+    subst (λ (x : ℕ). GoodStep w (answered (Told.lookBack k) 0 second) (record { disc = d; ledger = some (pack (filled (mapAt d x) x (recorded d) readOnly)) })) (sym here)
+    (record {
+      good = record { sound-disc = g .sound-disc; ledger-good = packed-good v ok };
+      step =
+          Step.looked k second (viewIs (unpack (pack v)))
+          (ap (λ (u : View). u .looking) (packed-view v ok) ∙ looking-view (mapAt d b) b (recorded d));
+    })
+
+-- ---- calls on a working state
+
+released-view : (v : Volume) (n : ℕ) → n < v .size → eqb (v .mode) readOnly ≡ false → viewIs (released n v) ≡ working F (grownMap false (mapOf v) n unused) (v .last)
+unfolding released
+released-view v n h e = λ i. record { map = map-released v n h i; last = v .last; looking = e i }
+
+closed-view : (v : Volume) → viewIs (closed v) ≡ working F (mapOf v) (v .last)
+unfolding closed
+closed-view v = refl
+
+wrote-view : (v : Volume) (n b : ℕ) → n ≤ v .size → v .size ≤ length (v .entries) → n < length (v .entries)
+    → viewIs (wrote n b v) ≡ working F (grownMap (eqb n (length (mapOf v))) (mapOf v) n b) (v .last)
+unfolding wrote
+wrote-view v n b le long inside =
+    let counted : eqb n (v .size) ≡ eqb n (length (mapOf v)) = ap (eqb n) (sym (length-map v long)) in
+    let maps : mapOf (wrote n b v) ≡ grownMap (eqb n (length (mapOf v))) (mapOf v) n b = map-wrote v n b le long inside ∙ ap (λ (t : Bool). grownMap t (mapOf v) n b) counted in
+    λ i. record { map = maps i; last = v .last; looking = false }
+
+committed-view : (v : Volume) (b : ℕ) → viewIs (committed b v) ≡ working F (mapOf v) b
+unfolding committed
+committed-view v b = refl
+
+-- the ledger is there, since a lost one lets only begin, mount and look back be done
+module _ (d : Disc) (l : List ℕ) (sound : Sound d) (good : Proper (unpack l)) where
+  enough : Fits d (unpack l) → unpack l .size ≤ length (unpack l .entries)
+  enough f = omega (arith, f .few, good .long)
+
+  release-step : (n : ℕ) → outcome d l (release n) ≡ 0
+      → GoodStep (record { disc = d; ledger = some l }) (answered (Told.release n) 0 0) (record { disc = d; ledger = some (pack (released n (unpack l))) })
+  release-step n e =
+      let facts = release-done d l n e in
+      let v : Volume = released n (unpack l) in
+      let ok : Proper v = proper-released (unpack l) good n in
+      let before : viewIs (unpack l) ≡ working F (mapOf (unpack l)) (unpack l .last) = working-view (unpack l) (facts .1 .not-looking) in
+      let after-view : viewIs (unpack (pack v)) ≡ working F (grownMap false (mapOf (unpack l)) n unused) (unpack l .last) =
+      packed-view v ok ∙ released-view (unpack l) n (facts .2) (facts .1 .not-looking) in
+      record {
+        good = record { sound-disc = sound; ledger-good = packed-good v ok };
+        step =
+            subst₂ (λ (a b : View). Step F (at F d (some a)) (answered (Told.release n) 0 0) (at F d (some b))) (sym before) (sym after-view)
+            (Step.released (mapOf (unpack l)) (unpack l .last) n 0);
+      }
+
+  close-step : outcome d l closePacket ≡ 0
+      → GoodStep (record { disc = d; ledger = some l }) (answered Told.closePacket 0 0) (record { disc = d; ledger = some (pack (closed (unpack l))) })
+  unfolding feed
+  close-step e =
+      let facts = close-done d l e in
+      let v : Volume = closed (unpack l) in
+      let ok : Proper v = proper-closed (unpack l) good in
+      let same : viewIs (unpack l) ≡ viewIs (unpack (pack v)) =
+      working-view (unpack l) (facts .1 .not-looking) ∙ sym (packed-view v ok ∙ closed-view (unpack l)) in
+      record {
+        good = record { sound-disc = sound; ledger-good = packed-good v ok };
+        step =
+            subst (λ (b : View). Step F (at F d (some (viewIs (unpack l)))) (answered Told.closePacket 0 0) (at F d (some b))) same
+            (Step.quiet (λ h. refl));
+      }
+
+  read-step : (n : ℕ) (second : ℕ) → GoodStep (record { disc = d; ledger = some l }) (answered (Told.read n) 0 second) (record { disc = d; ledger = some l })
+  unfolding feed
+  read-step n second = record { good = record { sound-disc = sound; ledger-good = good }; step = Step.quiet (λ h. refl) }
+
+  -- what write and commit record fits the disc
+  room : (n : ℕ) → n + 1 ≤ blanks d → recorded d + (n + 1) ≤ length (d .kinds)
+  room n h = omega arith
+
+  small : (n : ℕ) → n + 1 ≤ blanks d → recorded d + n < unused
+  small n h = omega (arith, sound .few)
+
+  write-step : (n : ℕ) (block : List ℕ) → outcome d l (write n block) ≡ 0
+      → GoodStep (record { disc = d; ledger = some l }) (answered (Told.write n block) 0 (target (unpack l)))
+      (record { disc = puts d (recorded d) (behindLinks (links (unpack l)) block); ledger = some (pack (wrote n (target (unpack l)) (unpack l))) })
+  write-step n block e =
+      let f : WriteDone d l n block = write-done d l n block e in
+      let v : Volume = unpack l in
+      let m : ℕ = links v in
+      let enough-room : m + 1 ≤ blanks d = omega (arith, f .room) in
+      let here : target v ≡ recorded d + m = ap (λ (r : ℕ). r + m) (f .fit .same-recorded) in
+      let lower : recorded d + m < unused = small m enough-room in
+      let fits : recorded d + (m + 1) ≤ length (d .kinds) = room m enough-room in
+      let no-table : isTable 1 block (recorded d + m) ≡ false = subst (λ (b : ℕ). isTable 1 block b ≡ false) here (f .no-table) in
+      let d′ : Disc = puts d (recorded d) (behindLinks m block) in
+      let g : Grown d d′ (length (behindLinks m block)) =
+      puts-plain (behindLinks m block) d sound (omega (arith, length-behind m block)) (behind-whole m block (f .block-long)) (behind-no-tables m block (recorded d) no-table) in
+      let ok : Proper (wrote n (target v) v) = proper-wrote v good n (target v) (f .fit .few) (omega arith) in
+      let before : viewIs v ≡ working F (mapOf v) (v .last) = working-view v (f .not-looking) in
+      let after-view : viewIs (unpack (pack (wrote n (target v) v))) ≡ working F (grownMap (eqb n (length (mapOf v))) (mapOf v) n (target v)) (v .last) =
+      packed-view (wrote n (target v) v) ok ∙ wrote-view v n (target v) (f .no-gap) (enough (f .fit)) (omega (arith, f .below-limit, good .long)) in
+      record {
+        good = record { sound-disc = g .still-sound; ledger-good = packed-good (wrote n (target v) v) ok };
+        step =
+            subst₂ (λ (a b : View). Step F (at F d (some a)) (answered (Told.write n block) 0 (target v)) (at F d′ (some b))) (sym before) (sym after-view)
+            (Step.wrote (mapOf v) (v .last) n (target v) block (g .plainly) (omega (arith, f .no-gap, length-map v (enough (f .fit)))) (omega arith)
+            (omega (arith, behind-counted d sound m block (f .block-long) fits)) (λ z. omega arith)
+            (ap (content d′) here ∙ behind-content d sound m block (f .block-long) fits));
+      }
+
+  -- the last table lies below what is recorded
+  last-below : Fits d (unpack l) → (b : ℕ) → recorded d ≤ b → unusedOrBelow b (unpack l .last) ≡ true
+  last-below f b h = go (eqb (unpack l .last) unused) refl (f .last-known)
+    where
+      go : (t : Bool) → eqb (unpack l .last) unused ≡ t → (t || tableAt d (unpack l .last)) ≡ true → unusedOrBelow b (unpack l .last) ≡ true
+      go true z e = below-to b (unpack l .last) (inl (eqb-true (unpack l .last) unused z))
+      go false z e = below-to b (unpack l .last) (inr (omega (arith, table-recorded d sound (unpack l .last) e)))
+
+  tableSector : List ℕ
+  tableSector = sector (mapOf (unpack l)) (unpack l .last) (target (unpack l))
+
+  -- the sector that commit records is a table of the working map, at the block that it takes
+  module _ (f : CommitDone d l) where
+    at-target : target (unpack l) ≡ recorded d + links (unpack l)
+    at-target = ap (λ (r : ℕ). r + links (unpack l)) (f .fit .same-recorded)
+
+    read-back : ReadsBack (mapOf (unpack l)) (unpack l .last) (target (unpack l))
+    read-back =
+        let v : Volume = unpack l in
+        let b : ℕ = target v in
+        let lower : recorded d + links v < unused = small (links v) (f .room) in
+        let below : AllBelow b (mapOf v) = all-below-more (v .recorded) b (mapOf v) (omega arith) (all-below-of (v .recorded) (mapOf v) (f .fit .entries-below)) in
+        reads-back (mapOf v) (v .last) b (omega (arith, length-map v (enough (f .fit)), f .fit .few)) (all-below-to b (mapOf v) below)
+        (last-below (f .fit) b (omega (arith, at-target))) (omega (arith, at-target))
+
+    sector-long : length tableSector ≡ sectorLength
+    unfolding tableSector
+    sector-long = recognised 1 (sector (mapOf (unpack l)) (unpack l .last) (target (unpack l))) (target (unpack l)) (read-back .is-table) .whole
+
+    save : Saved F d (puts d (recorded d) (behindLinks (links (unpack l)) tableSector)) (working F (mapOf (unpack l)) (unpack l .last)) (recorded d + links (unpack l))
+    unfolding tableSector
+    save =
+        let v : Volume = unpack l in
+        behind-saved d sound (links v) tableSector sector-long (room (links v) (f .room)) (working F (mapOf v) (v .last)) (small (links v) (f .room))
+        (subst (λ (b : ℕ). isTable 1 (sector (mapOf v) (v .last) (target v)) b ≡ true) at-target (read-back .is-table)) (read-back .entries) (read-back .previous-table)
+
+  commit-step : outcome d l commit ≡ 0
+      → GoodStep (record { disc = d; ledger = some l }) (answered Told.commit 0 (target (unpack l)))
+      (record { disc = puts d (recorded d) (behindLinks (links (unpack l)) tableSector); ledger = some (pack (committed (target (unpack l)) (unpack l))) })
+  commit-step e =
+      let f : CommitDone d l = commit-done d l e in
+      let v : Volume = unpack l in
+      let b : ℕ = target v in
+      let m : ℕ = links v in
+      let d′ : Disc = puts d (recorded d) (behindLinks m tableSector) in
+      let ok : Proper (committed b v) = proper-committed v good b (omega (arith, at-target f, small m (f .room))) in
+      let before : viewIs v ≡ working F (mapOf v) (v .last) = working-view v (f .not-looking) in
+      let after-view : viewIs (unpack (pack (committed b v))) ≡ working F (mapOf v) (recorded d + m) =
+      packed-view (committed b v) ok ∙ committed-view v b ∙ ap (working F (mapOf v)) (at-target f) in
+      record {
+        good =
+            record {
+              sound-disc = behind-sound d sound m tableSector (sector-long f) (room m (f .room));
+              ledger-good = packed-good (committed b v) ok;
+            };
+        step =
+            subst₂ (λ (x y : View). Step F (at F d (some x)) (answered Told.commit 0 b) (at F d′ (some y))) (sym before) (sym after-view)
+            (Step.committed (mapOf v) (v .last) (recorded d + m) b (save f));
+      }
+
+done-step : (d : Disc) (o : Option (List ℕ)) (c : Call) (junk : List ℕ) → Good (record { disc = d; ledger = o }) → Follows (record { disc = d; ledger = o }) c junk
+    → outcome d (lent o junk) c ≡ 0
+    → GoodStep (record { disc = d; ledger = o }) (answered (told c) 0 (effect d (lent o junk) c .second)) (doneWorld (record { disc = d; ledger = o }) (lent o junk) c)
+unfolding effect puts tableSector
+done-step d o begin junk g f e = begin-step (record { disc = d; ledger = o }) (lent o junk) g e
+done-step d o mount junk g f e = mount-step (record { disc = d; ledger = o }) (lent o junk) g e
+done-step d o (lookBack k) junk g f e = look-back-step (record { disc = d; ledger = o }) (lent o junk) k g e
+done-step d none (write n block) junk g f e = absurd (f refl e)
+done-step d none (release n) junk g f e = absurd (f refl e)
+done-step d none closePacket junk g f e = absurd (f refl e)
+done-step d none commit junk g f e = absurd (f refl e)
+done-step d none (read n block) junk g f e = absurd (f refl e)
+done-step d (some l) (write n block) junk g f e = write-step d l (g .sound-disc) (g .ledger-good) n block e
+done-step d (some l) (release n) junk g f e = release-step d l (g .sound-disc) (g .ledger-good) n e
+done-step d (some l) closePacket junk g f e = close-step d l (g .sound-disc) (g .ledger-good) e
+done-step d (some l) commit junk g f e = commit-step d l (g .sound-disc) (g .ledger-good) e
+done-step d (some l) (read n block) junk g f e = read-step d l (g .sound-disc) (g .ledger-good) n 0
+
+call-step : (w : World) (c : Call) (junk : List ℕ) → Good w → Follows w c junk → GoodStep w (fed w (calls c junk)) (next w (calls c junk))
+call-step w c junk g f = go (outcome (w .disc) (lent (w .ledger) junk) c) refl
+  where
+    go : (n : ℕ) → outcome (w .disc) (lent (w .ledger) junk) c ≡ n → GoodStep w (fed w (calls c junk)) (next w (calls c junk))
+    go zero e = subst₂ (λ (x : Fed) (y : World). GoodStep w x y) (sym (done-fed w c junk e)) (sym (done-next w c junk e)) (done-step (w .disc) (w .ledger) c junk g f e)
+    go (suc n) e = subst₂ (λ (x : Fed) (y : World). GoodStep w x y) (sym (refused-fed w c junk n e)) (sym (refused-next w c junk n e)) (refused-step w c n 0 g)
+
+-- ---- a call that is cut
+
+abbrev cutWorld : Disc → World
+cutWorld d = record { disc = d; ledger = none }
+
+abbrev Clears : Fed → Type 0
+Clears f = (h : History) → feed h f ≡ record { pages = h .pages; draft = none }
+
+lost-step : (w : World) (f : Fed) (d′ : Disc) → Clears f → Left (w .disc) d′ → GoodStep w f (cutWorld d′)
+lost-step w f d′ clears left = record { good = record { sound-disc = left .still-sound; ledger-good = tt }; step = Step.lost f clears (left .plainly) }
+
+cut-clears : (c : Told) → Clears (cut c)
+unfolding feed
+cut-clears c h = refl
+
+unsaved-clears : Clears (cutCommit false)
+unfolding feed
+unsaved-clears h = refl
+
+-- nothing was recorded
+nothing-left : (d : Disc) → Sound d → (ss : List Sector) (j : ℕ) (tear : Option (List ℕ)) → ss ≡ [] → j ≤ length ss → Left d (cutDisc d ss j tear)
+nothing-left d ok ss j tear e h =
+    subst (λ (x : Disc). Left d x) (sym (ap (λ (l : List Sector). cutDisc d l j tear) e ∙ cut-none d j tear (subst (λ (l : List Sector). j ≤ length l) e h)))
+    (record { plainly = plain-same F d; still-sound = ok })
+
+records-none : (n : ℕ) → sectorsIf n [] ≡ []
+records-none zero = refl
+records-none (suc n) = refl
+
+refused-records-none : (d : Disc) (l : List ℕ) (c : Call) (n : ℕ) → outcome d l c ≡ suc n → sectorsOf d l c ≡ []
+unfolding sectorsOf
+refused-records-none d l c n e = rw e
+
+done-records : (d : Disc) (l : List ℕ) (c : Call) → outcome d l c ≡ 0 → sectorsOf d l c ≡ effect d l c .sectors
+unfolding sectorsOf
+done-records d l c e = rw e
+
+write-records : (d : Disc) (l : List ℕ) (n : ℕ) (block : List ℕ) → effect d l (write n block) .sectors ≡ behindLinks (links (unpack l)) block
+unfolding effect
+write-records d l n block = refl
+
+cut-write-left : (d : Disc) (o : Option (List ℕ)) (n : ℕ) (block junk : List ℕ) (j : ℕ) (tear : Option (List ℕ)) → Good (record { disc = d; ledger = o })
+    → Follows (record { disc = d; ledger = o }) (write n block) junk → j ≤ length (sectorsOf d (lent o junk) (write n block)) → Torn tear
+    → (m : ℕ) → outcome d (lent o junk) (write n block) ≡ m → Left d (cutDisc d (sectorsOf d (lent o junk) (write n block)) j tear)
+cut-write-left d o n block junk j tear g f h t (suc m) e =
+    nothing-left d (g .sound-disc) (sectorsOf d (lent o junk) (write n block)) j tear (refused-records-none d (lent o junk) (write n block) m e) h
+cut-write-left d none n block junk j tear g f h t zero e = absurd (f refl e)
+cut-write-left d (some l) n block junk j tear g f h t zero e =
+    let w : WriteDone d l n block = write-done d l n block e in
+    let m : ℕ = links (unpack l) in
+    let ss : List Sector = behindLinks m block in
+    let here : target (unpack l) ≡ recorded d + m = ap (λ (r : ℕ). r + m) (w .fit .same-recorded) in
+    let same : sectorsOf d l (write n block) ≡ ss = done-records d l (write n block) e ∙ write-records d l n block in
+    subst (λ (x : List Sector). Left d (cutDisc d x j tear)) (sym same)
+    (cut-left ss d j tear (g .sound-disc) (omega (arith, length-behind m block, w .room)) (subst (λ (x : List Sector). j ≤ length x) same h)
+    (whole-take j ss (behind-whole m block (w .block-long)))
+    (no-tables-take j ss (recorded d) (behind-no-tables m block (recorded d) (subst (λ (b : ℕ). isTable 1 block b ≡ false) here (w .no-table)))) t)
+
+commit-records : (d : Disc) (l : List ℕ) (ok : Sound d) (good : Proper (unpack l)) → effect d l commit .sectors ≡ behindLinks (links (unpack l)) (tableSector d l ok good)
+unfolding effect tableSector
+commit-records d l ok good = refl
+
+not-all : (j n m : ℕ) → j ≤ n → (j ≡ n → ⊥) → n ≡ m + 1 → j ≤ m
+not-all j n m h ne e = let less : j < n = lt-of-le-ne h ne in omega arith
+
+cut-commit-step : (d : Disc) (o : Option (List ℕ)) (junk : List ℕ) (j : ℕ) (tear : Option (List ℕ)) → Good (record { disc = d; ledger = o })
+    → Follows (record { disc = d; ledger = o }) commit junk → j ≤ length (sectorsOf d (lent o junk) commit) → Torn tear
+    → (m : ℕ) → outcome d (lent o junk) commit ≡ m
+    → GoodStep (record { disc = d; ledger = o }) (cutCommit (kept d (lent o junk) commit j)) (cutWorld (cutDisc d (sectorsOf d (lent o junk) commit) j tear))
+cut-commit-step d o junk j tear g f h t (suc m) e =
+    let l : List ℕ = lent o junk in
+    let unsaved : kept d l commit j ≡ false = ap (λ (x : ℕ). eqb x 0 && eqb j (length (sectorsOf d l commit))) e ∙ ap (λ (x : Bool). x && eqb j (length (sectorsOf d l commit))) (eqb·suc-zero m) in
+    subst (λ (x : Bool). GoodStep (record { disc = d; ledger = o }) (cutCommit x) (cutWorld (cutDisc d (sectorsOf d l commit) j tear))) (sym unsaved)
+    (lost-step (record { disc = d; ledger = o }) (cutCommit false) (cutDisc d (sectorsOf d l commit) j tear) unsaved-clears
+    (nothing-left d (g .sound-disc) (sectorsOf d l commit) j tear (refused-records-none d l commit m e) h))
+cut-commit-step d none junk j tear g f h t zero e = absurd (f refl e)
+cut-commit-step d (some l) junk j tear g f h t zero e = go (eqb j (length (sectorsOf d l commit))) refl
+  where
+    done : CommitDone d l
+    done = commit-done d l e
+
+    same : sectorsOf d l commit ≡ behindLinks (links (unpack l)) (tableSector d l (g .sound-disc) (g .ledger-good))
+    same = done-records d l commit e ∙ commit-records d l (g .sound-disc) (g .ledger-good)
+
+    count : length (sectorsOf d l commit) ≡ links (unpack l) + 1
+    count = ap length same ∙ length-behind (links (unpack l)) (tableSector d l (g .sound-disc) (g .ledger-good))
+
+    is-kept : (t : Bool) → eqb j (length (sectorsOf d l commit)) ≡ t → kept d l commit j ≡ t
+    is-kept t z = ap₂ (λ (x : ℕ) (y : Bool). eqb x 0 && y) e z
+
+    before : viewIs (unpack l) ≡ working F (mapOf (unpack l)) (unpack l .last)
+    before = working-view (unpack l) (done .not-looking)
+
+    go : (t : Bool) → eqb j (length (sectorsOf d l commit)) ≡ t
+        → GoodStep (record { disc = d; ledger = some l }) (cutCommit (kept d l commit j)) (cutWorld (cutDisc d (sectorsOf d l commit) j tear))
+    go true z =
+        let all : cutDisc d (sectorsOf d l commit) j tear ≡ puts d (recorded d) (behindLinks (links (unpack l)) (tableSector d l (g .sound-disc) (g .ledger-good))) =
+        cut-all (sectorsOf d l commit) d tear j (eqb-true j (length (sectorsOf d l commit)) z) ∙ ap (puts d (recorded d)) same in
+        subst₂ (λ (x : Bool) (y : Disc). GoodStep (record { disc = d; ledger = some l }) (cutCommit x) (cutWorld y)) (sym (is-kept true z)) (sym all)
+        (record {
+          good =
+              record {
+                sound-disc = behind-sound d (g .sound-disc) (links (unpack l)) (tableSector d l (g .sound-disc) (g .ledger-good)) (sector-long d l (g .sound-disc) (g .ledger-good) done) (room d l (g .sound-disc) (g .ledger-good) (links (unpack l)) (done .room));
+                ledger-good = tt;
+              };
+          step =
+              subst (λ (v : View). Step F (at F d (some v)) (cutCommit true) (at F (puts d (recorded d) (behindLinks (links (unpack l)) (tableSector d l (g .sound-disc) (g .ledger-good)))) none)) (sym before)
+              (Step.lost-saved (mapOf (unpack l)) (unpack l .last) (recorded d + links (unpack l)) (save d l (g .sound-disc) (g .ledger-good) done));
+        })
+    go false z =
+        let fewer : j ≤ links (unpack l) = not-all j (length (sectorsOf d l commit)) (links (unpack l)) h (eqb-false j (length (sectorsOf d l commit)) z) count in
+        subst₂ (λ (x : Bool) (y : List Sector). GoodStep (record { disc = d; ledger = some l }) (cutCommit x) (cutWorld (cutDisc d y j tear))) (sym (is-kept false z)) (sym same)
+        (lost-step (record { disc = d; ledger = some l }) (cutCommit false) (cutDisc d (behindLinks (links (unpack l)) (tableSector d l (g .sound-disc) (g .ledger-good))) j tear) unsaved-clears
+        (cut-links-left (links (unpack l)) (tableSector d l (g .sound-disc) (g .ledger-good)) d j tear (g .sound-disc) (room d l (g .sound-disc) (g .ledger-good) (links (unpack l)) (done .room)) fewer t))
+
+-- the calls that record nothing
+abbrev Idle : Call → Type 0
+Idle begin = Unit
+Idle mount = Unit
+Idle (write n block) = ⊥
+Idle (release n) = Unit
+Idle closePacket = Unit
+Idle commit = ⊥
+Idle (read n block) = Unit
+Idle (lookBack k) = Unit
+
+records-nothing : (d : Disc) (l : List ℕ) (c : Call) → Idle c → sectorsOf d l c ≡ []
+unfolding sectorsOf effect
+records-nothing d l begin i = records-none (outcome d l begin)
+records-nothing d l mount i = records-none (outcome d l mount)
+records-nothing d l (write n block) i = absurd i
+records-nothing d l (release n) i = records-none (outcome d l (release n))
+records-nothing d l closePacket i = records-none (outcome d l closePacket)
+records-nothing d l commit i = absurd i
+records-nothing d l (read n block) i = records-none (outcome d l (read n block))
+records-nothing d l (lookBack k) i = records-none (outcome d l (lookBack k))
+
+idle-cut : (d : Disc) (o : Option (List ℕ)) (c : Call) (junk : List ℕ) (j : ℕ) (tear : Option (List ℕ)) → Good (record { disc = d; ledger = o })
+    → j ≤ length (sectorsOf d (lent o junk) c) → sectorsOf d (lent o junk) c ≡ []
+    → GoodStep (record { disc = d; ledger = o }) (cut (told c)) (cutWorld (cutDisc d (sectorsOf d (lent o junk) c) j tear))
+idle-cut d o c junk j tear g h none-recorded =
+    lost-step (record { disc = d; ledger = o }) (cut (told c)) (cutDisc d (sectorsOf d (lent o junk) c) j tear) (cut-clears (told c))
+    (nothing-left d (g .sound-disc) (sectorsOf d (lent o junk) c) j tear none-recorded h)
+
+cut-step : (d : Disc) (o : Option (List ℕ)) (c : Call) (junk : List ℕ) (j : ℕ) (tear : Option (List ℕ)) → Good (record { disc = d; ledger = o })
+    → Follows (record { disc = d; ledger = o }) c junk → j ≤ length (sectorsOf d (lent o junk) c) → Torn tear
+    → GoodStep (record { disc = d; ledger = o }) (cutShort d (lent o junk) c j) (cutWorld (cutDisc d (sectorsOf d (lent o junk) c) j tear))
+cut-step d o begin junk j tear g f h t = idle-cut d o begin junk j tear g h (records-nothing d (lent o junk) begin tt)
+cut-step d o mount junk j tear g f h t = idle-cut d o mount junk j tear g h (records-nothing d (lent o junk) mount tt)
+cut-step d o (write n block) junk j tear g f h t =
+    lost-step (record { disc = d; ledger = o }) (cut (Told.write n block)) (cutDisc d (sectorsOf d (lent o junk) (write n block)) j tear) (cut-clears (Told.write n block))
+    (cut-write-left d o n block junk j tear g f h t (outcome d (lent o junk) (write n block)) refl)
+cut-step d o (release n) junk j tear g f h t = idle-cut d o (release n) junk j tear g h (records-nothing d (lent o junk) (release n) tt)
+cut-step d o closePacket junk j tear g f h t = idle-cut d o closePacket junk j tear g h (records-nothing d (lent o junk) closePacket tt)
+cut-step d o commit junk j tear g f h t = cut-commit-step d o junk j tear g f h t (outcome d (lent o junk) commit) refl
+cut-step d o (read n block) junk j tear g f h t = idle-cut d o (read n block) junk j tear g h (records-nothing d (lent o junk) (read n block) tt)
+cut-step d o (lookBack k) junk j tear g f h t = idle-cut d o (lookBack k) junk j tear g h (records-nothing d (lent o junk) (lookBack k) tt)
+
+-- every event is a step
+pub event-step : (w : World) (e : Event) → Good w → Allowed w e → GoodStep w (fed w e) (next w e)
+unfolding fed next
+event-step w (calls c junk) g a = call-step w c junk g a
+event-step w (cuts c junk j tear) g a = cut-step (w .disc) (w .ledger) c junk j tear g (a .0) (a .1) (a .2)

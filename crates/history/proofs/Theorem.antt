@@ -1,0 +1,170 @@
+-- Demand 3, proved: after every list of events that document 01 allows, mount and look back show the history's pages.
+--     power-cuts         the claim of specs/Claim.antt
+--     commit-then-mount  a commit that is done, then a mount on the disc that it leaves
+-- Assumes nothing.
+use Prim.Native.Nat.{ℕ, zero, suc, _+_, _-_, _*_, _≤_, _<_}
+use native.Mathlib.Nat.{not-suc-le-zero}
+use native.Mathlib.Omega.{arith}
+use mathlib.Core.Path.{_≡_, refl, sym, ap, ap₂, _∙_, subst, subst₂}
+use mathlib.Core.Bool.{Bool, true, false, _&&_, _||_, not}
+use mathlib.Core.List.{List, [], _∷_, _++_}
+use mathlib.Core.Option.{Option, none, some}
+use lib.Dec.{eqb, lit<}
+use lib.ListN.{length, getD}
+use Rattle.vat.specs.Table.{sectorLength, unused}
+use Rattle.disc.specs.Disc.{Disc, recorded, puts}
+use Rattle.disc.specs.Tables.{tableAt, mapAt, previousAt, newest, Walk, reached, broken, ended, walk}
+use Rattle.disc.proofs.Recording.{Sound}
+use Rattle.disc.proofs.Tables.{newest-table, table-recorded}
+use Rattle.volume.specs.Volume.{ledgerLength, idle, readOnly, unpack, pack, filled}
+use Rattle.recorder.specs.Calls.{Call, begin, mount, write, release, closePacket, commit, read, lookBack}
+use Rattle.recorder.specs.Refusals.{Test, test, first, basic, isSome, walkFrom, walked, isBroken, isEnded, tests, outcome}
+use Rattle.recorder.specs.Effects.{effect, blockFound, blockReached, After, after}
+use Rattle.recorder.proofs.Done.{skip, stop, none-left, skip-basic, begin-done, mount-done}
+use Rattle.history.specs.History.{Entry, Snapshot, History, Told, Fed, answered, feed}
+use Rattle.history.specs.Events.{World, Event, calls, Follows, AllAllowed, next, fed, runs, remembers, shown, pageOf, afterCall, begunHistory, mountedHistory}
+use Rattle.history.specs.Claim.{Shows, DoneShowing, Mounts, Claim, PowerCuts}
+use Rattle.history.proofs.Log.{Inv, Pages, Chain, Link, Held, View, pageFrom, newestOf, kept, walk-page, head-link, at}
+use Rattle.history.proofs.Growth.{F, names-below}
+use Rattle.history.proofs.Steps.{Good, GoodStep, stateOf, event-step, walked-table}
+use Rattle.history.proofs.Shown.{shows-table}
+
+-- ---- the invariant over a list
+
+pub record Reached (w : World) (h : History) : Type 0 where
+  pub good : Good w
+  pub inv : Inv F (stateOf w) h
+
+pub all-reached : (es : List Event) (w : World) (h : History) → Reached w h → AllAllowed w es → Reached (runs w es) (remembers w h es)
+unfolding AllAllowed runs remembers
+all-reached [] w h r a = r
+all-reached (e ∷ es) w h r a =
+    let s : GoodStep w (fed w e) (next w e) = event-step w e (r .good) (a .0) in
+    all-reached es (next w e) (feed h (fed w e)) (record { good = s .good; inv = kept F names-below h (s .step) (r .inv) }) (a .1)
+
+-- ---- what mount and look back answer on a sound disc
+
+module _ (d : Disc) (l : List ℕ) (ok : Sound d) (long : length l ≡ ledgerLength) where
+  mount-none : newest d ≡ none → outcome d l mount ≡ 7
+  unfolding outcome tests
+  mount-none n =
+      let seven : Bool = not (isSome (newest d)) in
+      skip-basic d l (test 7 seven ∷ []) ok long ∙ stop 7 seven [] (ap (λ (o : Option ℕ). not (isSome o)) n)
+
+  mount-some : (b : ℕ) → newest d ≡ some b → outcome d l mount ≡ 0
+  unfolding outcome tests
+  mount-some b n =
+      let seven : Bool = not (isSome (newest d)) in
+      skip-basic d l (test 7 seven ∷ []) ok long ∙ skip 7 seven [] (ap (λ (o : Option ℕ). not (isSome o)) n) ∙ none-left
+
+  mount-leaves : (b : ℕ) → newest d ≡ some b → after d l mount .ledger ≡ pack (filled (mapAt d b) b (recorded d) idle)
+  unfolding after effect
+  mount-leaves b n = rw (mount-some b n) (ap (λ (o : Option ℕ). pack (filled (mapAt d (blockFound o)) (blockFound o) (recorded d) idle)) n)
+
+  -- mount shows the newest table
+  pub mount-shows : (b : ℕ) → newest d ≡ some b → DoneShowing d l mount (pageFrom F d (mapAt d b))
+  mount-shows b n =
+      record {
+        is-done = mount-some b n;
+        showing =
+            subst (λ (m : List ℕ). Shows d m (pageFrom F d (mapAt d b))) (sym (mount-leaves b n))
+            (shows-table d ok b idle (lit< tt) (refl, refl) (newest-table (tableAt d) (recorded d) b n));
+      }
+
+  walked-reached : (k b t : ℕ) → newest d ≡ some b → walk (tableAt d) (previousAt d) k b ≡ reached t → walked d k ≡ reached t
+  unfolding walked
+  walked-reached k b t n e = ap (walkFrom d k) n ∙ e
+
+  look-back-some : (k b t : ℕ) → newest d ≡ some b → walked d k ≡ reached t → outcome d l (lookBack k) ≡ 0
+  unfolding outcome tests
+  look-back-some k b t n e =
+      let seven : Bool = not (isSome (newest d)) in
+      let eight : Bool = isBroken (walked d k) in
+      let nine : Bool = isEnded (walked d k) in
+      skip-basic d l (test 7 seven ∷ test 8 eight ∷ test 9 nine ∷ []) ok long
+      ∙ skip 7 seven (test 8 eight ∷ test 9 nine ∷ []) (ap (λ (o : Option ℕ). not (isSome o)) n)
+      ∙ skip 8 eight (test 9 nine ∷ []) (ap isBroken e)
+      ∙ skip 9 nine [] (ap isEnded e)
+      ∙ none-left
+
+  look-back-leaves : (k b t : ℕ) → newest d ≡ some b → walked d k ≡ reached t → after d l (lookBack k) .ledger ≡ pack (filled (mapAt d t) t (recorded d) readOnly)
+  unfolding after effect
+  look-back-leaves k b t n e =
+      rw (look-back-some k b t n e) (ap (λ (w : Walk). pack (filled (mapAt d (blockReached w)) (blockReached w) (recorded d) readOnly)) e)
+
+  pub look-back-shows : (k b t : ℕ) → newest d ≡ some b → walked d k ≡ reached t → DoneShowing d l (lookBack k) (pageFrom F d (mapAt d t))
+  look-back-shows k b t n e =
+      record {
+        is-done = look-back-some k b t n e;
+        showing =
+            subst (λ (m : List ℕ). Shows d m (pageFrom F d (mapAt d t))) (sym (look-back-leaves k b t n e))
+            (shows-table d ok t readOnly (lit< tt) (refl, refl) (walked-table d k t e));
+      }
+
+-- ---- the claim
+
+mounts-pages : (d : Disc) (l : List ℕ) → Sound d → length l ≡ ledgerLength → (ps : List Snapshot) → Pages F d ps → Mounts d l ps
+mounts-pages d l ok long [] n = mount-none d l ok long n
+mounts-pages d l ok long (p ∷ ps) n =
+    subst (λ (q : Snapshot). DoneShowing d l mount q) (sym (head-link F names-below (n .0) p ps (n .2) .page)) (mount-shows d l ok long (n .0) (n .1))
+
+looks-pages : (d : Disc) (l : List ℕ) → Sound d → length l ≡ ledgerLength → (ps : List Snapshot) → Pages F d ps → (k : ℕ) → k < length ps
+    → DoneShowing d l (lookBack k) (getD ps k [])
+looks-pages d l ok long [] n k h = absurd (not-suc-le-zero h)
+looks-pages d l ok long (p ∷ ps) n k h =
+    let way = walk-page F names-below d (n .0) p ps (n .2) k h in
+    subst (λ (q : Snapshot). DoneShowing d l (lookBack k) q) (sym (way .2 .page))
+    (look-back-shows d l ok long k (n .0) (way .0) (n .1) (walked-reached d l ok long k (n .0) (way .0) (n .1) (way .1)))
+
+claimed : (w : World) (h : History) → Reached w h → Claim (w .disc) h
+claimed w h r =
+    record {
+      mounts = λ l long. mounts-pages (w .disc) l (r .good .sound-disc) long (h .pages) (r .inv .pages);
+      looks = λ l long k below. looks-pages (w .disc) l (r .good .sound-disc) long (h .pages) (r .inv .pages) k below;
+    }
+
+-- ---- the start
+
+abbrev lostWorld : Disc → World
+lostWorld d = record { disc = d; ledger = none }
+
+started : (d : Disc) (l : List ℕ) (c : Call) → outcome d l c ≡ 0 → next (lostWorld d) (calls c l) ≡ afterCall d l c
+unfolding next
+started d l c e = rw e
+
+begun-reached : (d : Disc) (l : List ℕ) → outcome d l begin ≡ 0 → Reached (afterCall d l begin) begunHistory
+unfolding feed fed
+begun-reached d l e =
+    let facts = begin-done d l e in
+    let g : Good (lostWorld d) = record { sound-disc = facts .0; ledger-good = tt } in
+    let s : GoodStep (lostWorld d) (fed (lostWorld d) (calls begin l)) (next (lostWorld d) (calls begin l)) = event-step (lostWorld d) (calls begin l) g (λ z y. tt) in
+    let h : History = record { pages = []; draft = none } in
+    let i : Inv F (stateOf (lostWorld d)) h = record { pages = facts .1; draft = refl } in
+    let fed-begin : feed h (fed (lostWorld d) (calls begin l)) ≡ begunHistory = rw e in
+    subst₂ (λ (w : World) (k : History). Reached w k) (started d l begin e) fed-begin (record { good = s .good; inv = kept F names-below h (s .step) i })
+
+mounted-reached : (d : Disc) (l : List ℕ) → outcome d l mount ≡ 0 → Reached (afterCall d l mount) (mountedHistory d)
+unfolding feed fed shown
+mounted-reached d l e =
+    let facts = mount-done d l e in
+    let b : ℕ = facts .1 .0 in
+    let n : newest d ≡ some b = facts .1 .1 in
+    let table : tableAt d b ≡ true = newest-table (tableAt d) (recorded d) b n in
+    let g : Good (lostWorld d) = record { sound-disc = facts .0; ledger-good = tt } in
+    let s : GoodStep (lostWorld d) (fed (lostWorld d) (calls mount l)) (next (lostWorld d) (calls mount l)) = event-step (lostWorld d) (calls mount l) g (λ z y. tt) in
+    let p : Snapshot = pageOf d (mapAt d (blockFound (newest d))) in
+    let same : p ≡ pageFrom F d (mapAt d b) = ap (λ (o : Option ℕ). pageFrom F d (mapAt d (blockFound o))) n in
+    let h : History = record { pages = p ∷ []; draft = none } in
+    let i : Inv F (stateOf (lostWorld d)) h =
+    record { pages = (b, n, record { is-table = table; inside = table-recorded d (facts .0) b table; page = same }); draft = refl } in
+    let fed-mount : feed h (fed (lostWorld d) (calls mount l)) ≡ mountedHistory d = rw e in
+    subst₂ (λ (w : World) (k : History). Reached w k) (started d l mount e) fed-mount (record { good = s .good; inv = kept F names-below h (s .step) i })
+
+pub power-cuts : PowerCuts
+power-cuts =
+    record {
+      after-begin = λ d l e es a.
+          claimed (runs (afterCall d l begin) es) (remembers (afterCall d l begin) begunHistory es) (all-reached es (afterCall d l begin) begunHistory (begun-reached d l e) a);
+      after-mount = λ d l e es a.
+          claimed (runs (afterCall d l mount) es) (remembers (afterCall d l mount) (mountedHistory d) es) (all-reached es (afterCall d l mount) (mountedHistory d) (mounted-reached d l e) a);
+    }

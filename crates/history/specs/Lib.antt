@@ -1,0 +1,3 @@
+pub mod History
+pub mod Events
+pub mod Claim

@@ -1,0 +1,121 @@
+-- Which refusal a call is given (document 01, 'Refusals, by who causes them'): "The lowest applicable number is given, never another, and none without
+-- its condition." Each call has a list of tests in order; the first that applies gives its number, and 0 is done.
+use Prim.Native.Nat.{ℕ, zero, suc, _+_}
+use mathlib.Core.Bool.{Bool, true, false, _&&_, _||_, not}
+use mathlib.Core.List.{List, [], _∷_, _++_}
+use mathlib.Core.Option.{Option, none, some}
+use lib.Dec.{eqb, ltb, leb}
+use lib.ListN.{length, getD}
+use Rattle.vat.specs.Table.{sectorLength, limit, unused, isTable}
+use Rattle.disc.specs.Disc.{Disc, sized, formed, recorded, blanks, kindAt}
+use Rattle.disc.specs.Tables.{tableAt, previousAt, newest, Walk, reached, broken, ended, walk}
+use Rattle.volume.specs.declared.Volume.{Volume}
+use Rattle.volume.specs.Volume.{ledgerLength, idle, readOnly, unpack, fits}
+use Rattle.recorder.specs.Calls.{Call, begin, mount, write, release, closePacket, commit, read, lookBack}
+
+pub record Test : Type 0 where
+  pub number : ℕ
+  pub applies : Bool
+
+abbrev pub test : ℕ → Bool → Test
+test number applies = record { number = number; applies = applies }
+
+abbrev pub orElse : Bool → ℕ → ℕ → ℕ
+orElse true number later = number
+orElse false number later = later
+
+unfoldable pub first : List Test → ℕ
+first [] = 0
+first (t ∷ ts) = let later : ℕ = first ts in orElse (t .applies) (t .number) later
+
+-- "an underrun costs seven blocks": the links that write and commit record first, "in mode 0 with recorded above 0".
+abbrev pub linkCount : ℕ
+linkCount = 7
+
+abbrev pub linksIf : Bool → ℕ
+linksIf true = linkCount
+linksIf false = 0
+
+unfoldable pub links : Volume → ℕ
+links v = linksIf (eqb (v .mode) idle && ltb 0 (v .recorded))
+
+-- The block that a write or a commit takes.
+abbrev pub target : Volume → ℕ
+target v = v .recorded + links v
+
+-- "Write needs links + 1 + 8 blank sectors".
+abbrev pub reserve : ℕ
+reserve = 8
+
+-- 1, 2, 3: the disc's size, the lent lengths, the kinds.
+abbrev pub basic : Disc → List ℕ → List Test
+basic d l = test 1 (not (sized d)) ∷ test 2 (not (eqb (length l) ledgerLength)) ∷ test 3 (not (formed d)) ∷ []
+
+abbrev pub basicWithBlock : Disc → List ℕ → List ℕ → List Test
+basicWithBlock d l block =
+    test 1 (not (sized d))
+    ∷ test 2 (not (eqb (length l) ledgerLength && eqb (length block) sectorLength))
+    ∷ test 3 (not (formed d))
+    ∷ []
+
+-- 4: the ledger does not fit. 5: looking only.
+abbrev pub unfit : Disc → List ℕ → Test
+unfit d l = test 4 (not (fits d (unpack l)))
+
+abbrev pub forbidden : List ℕ → Test
+forbidden l = test 5 (eqb (unpack l .mode) readOnly)
+
+-- 10: "v not below size, or .. an unused entry".
+abbrev pub notInUse : Volume → ℕ → Bool
+notInUse v n = leb (v .size) n || eqb (getD (v .entries) n unused) unused
+
+-- 6 and 7: a table sector exists, or none.
+abbrev pub isSome : Option ℕ → Bool
+isSome none = false
+isSome (some b) = true
+
+-- The walk of look back k: "from the table that mount would find, follows the previous entry k times".
+abbrev pub walkFrom : Disc → ℕ → Option ℕ → Walk
+walkFrom d k none = broken
+walkFrom d k (some b) = walk (tableAt d) (previousAt d) k b
+
+unfoldable pub walked : Disc → ℕ → Walk
+walked d k = walkFrom d k (newest d)
+
+abbrev pub isBroken : Walk → Bool
+isBroken (reached b) = false
+isBroken broken = true
+isBroken ended = false
+
+abbrev pub isEnded : Walk → Bool
+isEnded (reached b) = false
+isEnded broken = false
+isEnded ended = true
+
+unfoldable pub tests : Disc → List ℕ → Call → List Test
+tests d l begin = basic d l ++ (test 6 (isSome (newest d)) ∷ [])
+tests d l mount = basic d l ++ (test 7 (not (isSome (newest d))) ∷ [])
+tests d l (write n block) =
+    let v : Volume = unpack l in
+    basicWithBlock d l block
+    ++ (unfit d l
+    ∷ forbidden l
+    ∷ test 12 (ltb (v .size) n)
+    ∷ test 13 (leb limit n)
+    ∷ test 14 (ltb (blanks d) (links v + 1 + reserve))
+    ∷ test 15 (isTable 1 block (target v))
+    ∷ [])
+tests d l (release n) = basic d l ++ (unfit d l ∷ forbidden l ∷ test 10 (notInUse (unpack l) n) ∷ [])
+tests d l closePacket = basic d l ++ (unfit d l ∷ forbidden l ∷ [])
+tests d l commit = basic d l ++ (unfit d l ∷ forbidden l ∷ test 14 (ltb (blanks d) (links (unpack l) + 1)) ∷ [])
+tests d l (read n block) =
+    let v : Volume = unpack l in
+    basicWithBlock d l block
+    ++ (unfit d l ∷ test 10 (notInUse v n) ∷ test 11 (not (eqb (kindAt d (getD (v .entries) n unused)) 1)) ∷ [])
+tests d l (lookBack k) =
+    basic d l
+    ++ (test 7 (not (isSome (newest d))) ∷ test 8 (isBroken (walked d k)) ∷ test 9 (isEnded (walked d k)) ∷ [])
+
+-- The outcome: 0 done, else the refusal.
+unfoldable pub outcome : Disc → List ℕ → Call → ℕ
+outcome d l c = first (tests d l c)
