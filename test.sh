@@ -1,5 +1,5 @@
 #!/usr/bin/env bash
-# Proves and tests everything: the layout, every crate with its must-fail edits and programs, and the outside vectors.
+# Proves and tests everything: the layout, every crate with its must-fail edits and programs, the outside vectors, and the independent model in Rust.
 # The last line is 'N passed, 0 failed'; where something fails it is named above, and the exit status is 1.
 set -u
 cd "$(dirname "$0")" || exit 2
@@ -28,31 +28,36 @@ set_up() {
         echo "The Rattle kit is missing: put its bin folder, with rt, on the PATH."
         exit 2
     fi
-    if ! command -v python3 >/dev/null; then
-        apt-get update && apt-get install -y python3 || exit 2
+    local missing=()
+    command -v python3 >/dev/null || missing+=(python3)
+    command -v perl >/dev/null || missing+=(perl)
+    command -v cargo >/dev/null || missing+=(cargo)
+    if [ "${#missing[@]}" -ne 0 ]; then
+        apt-get update && apt-get install -y "${missing[@]}" || exit 2
     fi
 }
 
-# rt ci: its last line counts crates, edits and programs
-prove() {
-    local log last
-    mkdir -p target
+# counted NAME COMMAND...: many tests, counted by the lines 'N passed, M failed' and cargo's 'N passed; M failed' of the command's output.
+# Only what the runners say of themselves is printed, and the whole end of the output where something fails.
+counted() {
+    local name=$1 log good bad
+    shift
     log=$(mktemp)
-    rt ci >"$log" 2>&1
-    last=$(tail -n 1 "$log")
-    grep -E '^rt: ' "$log"
-    if [[ $last =~ ^([0-9]+)\ passed,\ ([0-9]+)\ failed$ ]]; then
-        passed=$((passed + BASH_REMATCH[1]))
-        failed=$((failed + BASH_REMATCH[2]))
-        if [ "${BASH_REMATCH[2]}" -ne 0 ]; then
-            broken+=("rt ci")
-            grep -E 'error|NOT|FAILED' "$log" | head -n 40
-        fi
-    else
-        failed=$((failed + 1))
-        broken+=("rt ci")
+    "$@" >"$log" 2>&1
+    local status=$?
+    grep -E '^(rt|edit|test result)[: ]' "$log"
+    good=$(grep -oE '[0-9]+ passed[,;]' "$log" | awk '{ n += $1 } END { print n + 0 }')
+    bad=$(grep -oE '[0-9]+ failed' "$log" | awk '{ n += $1 } END { print n + 0 }')
+    if [ "$status" -ne 0 ] && [ "$bad" -eq 0 ]; then
+        bad=1
+    fi
+    if [ "$bad" -ne 0 ]; then
+        broken+=("$name")
+        grep -E 'error|NOT PROVED|FAILED' "$log" | head -n 40
         tail -n 40 "$log"
     fi
+    passed=$((passed + good))
+    failed=$((failed + bad))
     rm -f "$log"
 }
 
@@ -60,11 +65,17 @@ outside_vectors() {
     python3 tests/vectors.py | cmp - crates/vectors/stdout
 }
 
+model_tests() {
+    cargo test --release --offline --manifest-path host/Cargo.toml
+}
+
 set_up
 echo "kit: $(rt version) (last proved with $proved_with)"
 one "rt fmt --check" rt fmt --check
 one "tests/vectors.py" outside_vectors
-prove
+counted "rt ci" rt ci
+counted "tests/must_fail.sh" tests/must_fail.sh
+counted "host tests" model_tests
 
 for name in "${broken[@]}"; do
     echo "failed: $name"

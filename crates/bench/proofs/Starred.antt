@@ -1,7 +1,7 @@
--- The starred rows of document 01's 'Bench examples' that concern the table sector, shown once, as one claim over a list of them.
+-- The starred rows of document 01's 'Bench examples', shown once, as one claim over one list of them: the checker works each out from the definitions.
 -- Assumes nothing.
-use Prim.Native.Nat.{ℕ}
-use mathlib.Core.Bool.{Bool, true, not, _&&_}
+use Prim.Native.Nat.{ℕ, _+_, _*_}
+use mathlib.Core.Bool.{Bool, true, false, not, _&&_}
 use mathlib.Core.List.{List, [], _∷_}
 use lib.Dec.{T, eqb}
 use lib.ListN.{replicate}
@@ -11,31 +11,81 @@ use Rattle.crc.specs.Crc.{crcOf, crcFrom, byteStep}
 use Rattle.tag.specs.Tag.{crcLength, checksum, bodyCrc, sealed, seal}
 use Rattle.vat.specs.Table.{unused, plainRows, lengthRows, tableName, entryCount, entriesOf, previousOf, framed, isTable}
 use Rattle.vat.specs.Sector.{tableRegid, tableBytes, ownRows, stationName, body, sector}
+use Rattle.disc.specs.Disc.{Disc, sized, leading, formed, sectorAt, content, stored, puts}
+use Rattle.disc.specs.Tables.{newestBelow, walk}
+use Rattle.volume.specs.declared.Volume.{Volume}
+use Rattle.volume.specs.Volume.{unpack, pack, fits, begun, filled, wrote, released, closed, committed}
+use Rattle.recorder.specs.Calls.{Call, begin, mount, write, release, closePacket, commit, read, lookBack}
+use Rattle.recorder.specs.Refusals.{first, links, walked, tests, outcome}
+use Rattle.recorder.specs.Effects.{effect, After, after, secondNumber, sectorsOf}
 
--- The sector that is recorded for n unused entries at block 0.
-abbrev pub sectorOf : ℕ → List ℕ
-sectorOf n = sector (replicate n unused) unused 0
+-- To open this is to open every definition that the rows and lists are worked out from.
+unfoldable pub opened : Unit {0}
+unfolding le readLe leadingWords words leWords lay holds every total holdsText crcFrom byteStep checksum bodyCrc sealed seal plainRows lengthRows tableName entryCount entriesOf previousOf framed isTable tableRegid tableBytes ownRows stationName body sector sized leading formed sectorAt content stored puts newestBelow walk unpack pack fits begun filled wrote released closed committed first links walked tests outcome effect after secondNumber sectorsOf
+opened = tt
+
+-- A blank disc of n sectors, and a lent block.
+abbrev pub blank : ℕ → Disc
+blank n = record { image = replicate (2048 * n) 0; kinds = replicate n 0 }
+
+abbrev pub block : ℕ → List ℕ
+block x = x ∷ replicate 2047 0
+
+-- What a list of calls answers, each lent disc and ledger as the one before left them.
+unfoldable pub answers : Disc → List ℕ → List Call → List ℕ
+answers d l [] = []
+answers d l (c ∷ cs) = let a : After = after d l c in a .answer ∷ answers (a .disc) (a .ledger) cs
+
+unfoldable pub same : List ℕ → List ℕ → Bool
+same [] [] = true
+same [] (y ∷ ys) = false
+same (x ∷ xs) [] = false
+same (x ∷ xs) (y ∷ ys) = eqb x y && same xs ys
+
+abbrev pub refused : ℕ → ℕ
+refused n = n * 4294967296
+
+-- 458 numbers, all unused, on a disc with nothing recorded.
+abbrev pub full : List ℕ
+full = pack (record { entries = replicate 458 unused; size = 458; recorded = 0; last = unused; mode = 0 })
 
 pub data Example : Type 0 where
   -- the CRC of these bytes
   crc-of : List ℕ → ℕ → Example
-  -- n entries: the table length and the CRC length
+  -- n entries: the table length and the CRC length that are recorded
   lengths-of : ℕ → ℕ → ℕ → Example
-  -- n entries: not a table sector
+  -- the sector of n entries: not a table sector
   no-table : ℕ → Example
+  -- calls on a blank disc of n sectors, with the ledger lent to the first of them: their answers
+  calls-on : ℕ → List ℕ → List Call → List ℕ → Example
 
 unfoldable pub right : Example → Bool
 right (crc-of bytes value) = eqb (crcOf bytes) value
-right (lengths-of n table crc) = let s : List ℕ = sectorOf n in eqb (readLe 4 s 172) table && eqb (crcLength s) crc
-right (no-table n) = not (isTable 1 (sectorOf n) 0)
+right (lengths-of n table crc) = let s : List ℕ = lay (block 0) (lengthRows n) in eqb (readLe 4 s 172) table && eqb (crcLength s) crc
+right (no-table n) = not (isTable 1 (sector (replicate n unused) unused 0) 0)
+right (calls-on n l cs expected) = same (answers (blank n) l cs) expected
 
 unfoldable pub all-right : List Example → Bool
 all-right [] = true
 all-right (e ∷ es) = right e && all-right es
 
 unfoldable pub starred : List Example
-starred = crc-of (0x70 ∷ 0x6A ∷ 0x77 ∷ []) 0x3299 ∷ lengths-of 0 36 196 ∷ lengths-of 458 1868 2028 ∷ no-table 459 ∷ []
+starred =
+    crc-of (0x70 ∷ 0x6A ∷ 0x77 ∷ []) 0x3299
+    ∷ lengths-of 0 36 196
+    ∷ lengths-of 458 1868 2028
+    ∷ no-table 459
+    ∷ calls-on 8 full (begin ∷ write 0 (block 1) ∷ commit ∷ []) (0 ∷ refused 14 ∷ 0 ∷ [])
+    ∷ calls-on 9 full (begin ∷ write 0 (block 1) ∷ write 1 (block 2) ∷ []) (0 ∷ 0 ∷ refused 14 ∷ [])
+    ∷ calls-on 10 full (begin ∷ write 0 (block 1) ∷ write 1 (block 2) ∷ write 2 (block 3) ∷ []) (0 ∷ 0 ∷ 1 ∷ refused 14 ∷ [])
+    ∷ calls-on 17 full (begin ∷ write 0 (block 1) ∷ closePacket ∷ write 1 (block 2) ∷ []) (0 ∷ 0 ∷ 0 ∷ 8 ∷ [])
+    ∷ calls-on 16 full (begin ∷ write 0 (block 1) ∷ closePacket ∷ write 1 (block 2) ∷ []) (0 ∷ 0 ∷ 0 ∷ refused 14 ∷ [])
+    ∷ calls-on 9 full (begin ∷ write 1 (block 1) ∷ []) (0 ∷ refused 12 ∷ [])
+    ∷ calls-on 9 full (write 458 (block 1) ∷ []) (refused 13 ∷ [])
+    ∷ calls-on 12 full (begin ∷ write 0 (block 1) ∷ write 1 (block 2) ∷ write 2 (sector [] unused 1) ∷ []) (0 ∷ 0 ∷ 1 ∷ 2 ∷ [])
+    ∷ calls-on 12 full (begin ∷ write 0 (block 1) ∷ write 1 (block 2) ∷ write 2 (sector [] unused 2) ∷ []) (0 ∷ 0 ∷ 1 ∷ refused 15 ∷ [])
+    ∷ []
 
 pub starred-rows : T (all-right starred)
-unfolding right all-right starred le readLe leadingWords words leWords lay holds every total holdsText crcFrom byteStep checksum bodyCrc sealed seal plainRows lengthRows tableName entryCount entriesOf previousOf framed isTable tableRegid tableBytes ownRows stationName body sector
+unfolding opened answers same right all-right starred
 starred-rows = tt

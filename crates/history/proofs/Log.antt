@@ -244,7 +244,7 @@ module _ (F : Format) where
       let e : F .recorded d + (F .recorded d′ - F .recorded d) ≡ F .recorded d′ = omega arith in
       rw e at (newest-on p (F .recorded d′ - F .recorded d) (omega arith))
 
-  newest-saved : {d d′ : F .Disc} (v : View) (b : ℕ) → Saved d d′ v b → newestOf d′ ≡ some b
+  pub newest-saved : {d d′ : F .Disc} (v : View) (b : ℕ) → Saved d d′ v b → newestOf d′ ≡ some b
   unfolding newestBelow
   newest-saved {d} {d′} v b s = rw (s .last-sector, s .a-table)
 

@@ -249,7 +249,7 @@ module _ (d : Disc) (l : List ℕ) (sound : Sound d) (good : Proper (unpack l)) 
   read-step n second = record { good = record { sound-disc = sound; ledger-good = good }; step = Step.quiet (λ h. refl) }
 
   -- what write and commit record fits the disc
-  room : (n : ℕ) → n + 1 ≤ blanks d → recorded d + (n + 1) ≤ length (d .kinds)
+  pub room : (n : ℕ) → n + 1 ≤ blanks d → recorded d + (n + 1) ≤ length (d .kinds)
   room n h = omega arith
 
   small : (n : ℕ) → n + 1 ≤ blanks d → recorded d + n < unused
@@ -291,12 +291,12 @@ module _ (d : Disc) (l : List ℕ) (sound : Sound d) (good : Proper (unpack l)) 
       go true z e = below-to b (unpack l .last) (inl (eqb-true (unpack l .last) unused z))
       go false z e = below-to b (unpack l .last) (inr (omega (arith, table-recorded d sound (unpack l .last) e)))
 
-  tableSector : List ℕ
+  unfoldable pub tableSector : List ℕ
   tableSector = sector (mapOf (unpack l)) (unpack l .last) (target (unpack l))
 
   -- the sector that commit records is a table of the working map, at the block that it takes
   module _ (f : CommitDone d l) where
-    at-target : target (unpack l) ≡ recorded d + links (unpack l)
+    pub at-target : target (unpack l) ≡ recorded d + links (unpack l)
     at-target = ap (λ (r : ℕ). r + links (unpack l)) (f .fit .same-recorded)
 
     read-back : ReadsBack (mapOf (unpack l)) (unpack l .last) (target (unpack l))
@@ -308,11 +308,11 @@ module _ (d : Disc) (l : List ℕ) (sound : Sound d) (good : Proper (unpack l)) 
         reads-back (mapOf v) (v .last) b (omega (arith, length-map v (enough (f .fit)), f .fit .few)) (all-below-to b (mapOf v) below)
         (last-below (f .fit) b (omega (arith, at-target))) (omega (arith, at-target))
 
-    sector-long : length tableSector ≡ sectorLength
+    pub sector-long : length tableSector ≡ sectorLength
     unfolding tableSector
     sector-long = recognised 1 (sector (mapOf (unpack l)) (unpack l .last) (target (unpack l))) (target (unpack l)) (read-back .is-table) .whole
 
-    save : Saved F d (puts d (recorded d) (behindLinks (links (unpack l)) tableSector)) (working F (mapOf (unpack l)) (unpack l .last)) (recorded d + links (unpack l))
+    pub save : Saved F d (puts d (recorded d) (behindLinks (links (unpack l)) tableSector)) (working F (mapOf (unpack l)) (unpack l .last)) (recorded d + links (unpack l))
     unfolding tableSector
     save =
         let v : Volume = unpack l in
@@ -426,7 +426,7 @@ cut-write-left d (some l) n block junk j tear g f h t zero e =
     (whole-take j ss (behind-whole m block (w .block-long)))
     (no-tables-take j ss (recorded d) (behind-no-tables m block (recorded d) (subst (λ (b : ℕ). isTable 1 block b ≡ false) here (w .no-table)))) t)
 
-commit-records : (d : Disc) (l : List ℕ) (ok : Sound d) (good : Proper (unpack l)) → effect d l commit .sectors ≡ behindLinks (links (unpack l)) (tableSector d l ok good)
+pub commit-records : (d : Disc) (l : List ℕ) (ok : Sound d) (good : Proper (unpack l)) → effect d l commit .sectors ≡ behindLinks (links (unpack l)) (tableSector d l ok good)
 unfolding effect tableSector
 commit-records d l ok good = refl
 

@@ -10,23 +10,28 @@ use mathlib.Core.Bool.{Bool, true, false, _&&_, _||_, not}
 use mathlib.Core.List.{List, [], _∷_, _++_}
 use mathlib.Core.Option.{Option, none, some}
 use lib.Dec.{eqb, lit<}
+use native.Mathlib.Numerals.{add-one}
+use borrow.Author.Tests.{eq-eqb}
 use lib.ListN.{length, getD}
 use Rattle.vat.specs.Table.{sectorLength, unused}
 use Rattle.disc.specs.Disc.{Disc, recorded, puts}
 use Rattle.disc.specs.Tables.{tableAt, mapAt, previousAt, newest, Walk, reached, broken, ended, walk}
 use Rattle.disc.proofs.Recording.{Sound}
 use Rattle.disc.proofs.Tables.{newest-table, table-recorded}
-use Rattle.volume.specs.Volume.{ledgerLength, idle, readOnly, unpack, pack, filled}
+use Rattle.le.proofs.Runs.{AllBytes}
+use Rattle.volume.specs.declared.Volume.{Volume}
+use Rattle.volume.specs.Volume.{ledgerLength, idle, readOnly, unpack, pack, mapOf, filled}
+use Rattle.volume.proofs.State.{Proper, unpack-pack, proper-unpack, map-filled, length-map}
 use Rattle.recorder.specs.Calls.{Call, begin, mount, write, release, closePacket, commit, read, lookBack}
-use Rattle.recorder.specs.Refusals.{Test, test, first, basic, isSome, walkFrom, walked, isBroken, isEnded, tests, outcome}
-use Rattle.recorder.specs.Effects.{effect, blockFound, blockReached, After, after}
-use Rattle.recorder.proofs.Done.{skip, stop, none-left, skip-basic, begin-done, mount-done}
+use Rattle.recorder.specs.Refusals.{Test, test, first, basic, isSome, walkFrom, walked, isBroken, isEnded, tests, outcome, links, target}
+use Rattle.recorder.specs.Effects.{effect, blockFound, blockReached, cleanNumber, After, after}
+use Rattle.recorder.proofs.Done.{skip, stop, none-left, skip-basic, begin-done, mount-done, CommitDone, commit-done}
 use Rattle.history.specs.History.{Entry, Snapshot, History, Told, Fed, answered, feed}
 use Rattle.history.specs.Events.{World, Event, calls, Follows, AllAllowed, next, fed, runs, remembers, shown, pageOf, afterCall, begunHistory, mountedHistory}
 use Rattle.history.specs.Claim.{Shows, DoneShowing, Mounts, Claim, PowerCuts}
-use Rattle.history.proofs.Log.{Inv, Pages, Chain, Link, Held, View, pageFrom, newestOf, kept, walk-page, head-link, at}
-use Rattle.history.proofs.Growth.{F, names-below}
-use Rattle.history.proofs.Steps.{Good, GoodStep, stateOf, event-step, walked-table}
+use Rattle.history.proofs.Log.{Inv, Pages, Saved, View, pageFrom, newestOf, newest-saved, kept, walk-page, head-link, at, working}
+use Rattle.history.proofs.Growth.{F, names-below, behindLinks, behind-sound}
+use Rattle.history.proofs.Steps.{Good, GoodStep, stateOf, event-step, walked-table, proper-table, tableSector, sector-long, room, save, at-target, commit-records}
 use Rattle.history.proofs.Shown.{shows-table}
 
 -- ---- the invariant over a list
@@ -167,4 +172,55 @@ power-cuts =
           claimed (runs (afterCall d l begin) es) (remembers (afterCall d l begin) begunHistory es) (all-reached es (afterCall d l begin) begunHistory (begun-reached d l e) a);
       after-mount = λ d l e es a.
           claimed (runs (afterCall d l mount) es) (remembers (afterCall d l mount) (mountedHistory d) es) (all-reached es (afterCall d l mount) (mountedHistory d) (mounted-reached d l e) a);
+    }
+
+-- ---- a commit, then a mount
+
+-- what mount says of the disc that a commit left, lent any 1,848 bytes: the same map and size, that block as last table, clean
+pub record Remounted (d : Disc) (l m : List ℕ) : Type 0 where
+  pub clean : after (after d l commit .disc) m mount .answer ≡ 1
+  pub same-map : mapOf (unpack (after (after d l commit .disc) m mount .ledger)) ≡ mapOf (unpack l)
+  pub same-size : unpack (after (after d l commit .disc) m mount .ledger) .size ≡ unpack l .size
+  pub that-block : unpack (after (after d l commit .disc) m mount .ledger) .last ≡ after d l commit .answer
+
+committed-disc : (d : Disc) (l : List ℕ) (ok : Sound d) (good : Proper (unpack l)) → outcome d l commit ≡ 0
+    → after d l commit .disc ≡ puts d (recorded d) (behindLinks (links (unpack l)) (tableSector d l ok good))
+unfolding after
+committed-disc d l ok good e = rw e (ap (puts d (recorded d)) (commit-records d l ok good))
+
+committed-block : (d : Disc) (l : List ℕ) → outcome d l commit ≡ 0 → after d l commit .answer ≡ target (unpack l)
+unfolding after effect
+committed-block d l e = rw e
+
+mount-clean : (d : Disc) (m : List ℕ) → Sound d → length m ≡ ledgerLength → (b : ℕ) → newest d ≡ some b → recorded d ≡ suc b → after d m mount .answer ≡ 1
+unfolding after effect
+mount-clean d m ok long b n last =
+    let clean : eqb (b + 1) (recorded d) ≡ true = eq-eqb (b + 1) (recorded d) (add-one b ∙ sym last) in
+    rw (mount-some d m ok long b n) (ap (λ (o : Option ℕ). cleanNumber (eqb (blockFound o + 1) (recorded d))) n ∙ ap cleanNumber clean)
+
+pub commit-then-mount : (d : Disc) (l : List ℕ) → AllBytes l → outcome d l commit ≡ 0 → (m : List ℕ) → length m ≡ ledgerLength → Remounted d l m
+unfolding filled
+commit-then-mount d l bytes e m long =
+    let v : Volume = unpack l in
+    let good : Proper v = proper-unpack l bytes in
+    let f : CommitDone d l = commit-done d l e in
+    let ok : Sound d = f .sound-disc in
+    let b : ℕ = recorded d + links v in
+    let s : List ℕ = tableSector d l ok good in
+    let d′ : Disc = puts d (recorded d) (behindLinks (links v) s) in
+    let same : after d l commit .disc ≡ d′ = committed-disc d l ok good e in
+    let ok′ : Sound d′ = behind-sound d ok (links v) s (sector-long d l ok good f) (room d l ok good (links v) (f .room)) in
+    let saved : Saved F d d′ (working F (mapOf v) (v .last)) b = save d l ok good f in
+    let n : newest d′ ≡ some b = newest-saved F (working F (mapOf v) (v .last)) b saved in
+    let state : Volume = filled (mapAt d′ b) b (recorded d′) idle in
+    let proper : Proper state = proper-table d′ ok′ b idle (lit< tt) (saved .a-table) in
+    let left : unpack (after d′ m mount .ledger) ≡ state = ap unpack (mount-leaves d′ m ok′ long b n) ∙ unpack-pack state proper in
+    let map : mapOf state ≡ mapOf v = map-filled (mapAt d′ b) b (recorded d′) idle ∙ saved .its-map in
+    let counted : length (mapOf v) ≡ v .size = length-map v (omega (arith, f .fit .few, good .long)) in
+    let all : (e : Disc) → e ≡ d′ → unpack (after e m mount .ledger) ≡ state = λ e p. ap (λ (x : Disc). unpack (after x m mount .ledger)) p ∙ left in
+    record {
+      clean = ap (λ (x : Disc). after x m mount .answer) same ∙ mount-clean d′ m ok′ long b n (saved .last-sector);
+      same-map = ap mapOf (all (after d l commit .disc) same) ∙ map;
+      same-size = ap (λ (x : Volume). x .size) (all (after d l commit .disc) same) ∙ ap length (saved .its-map) ∙ counted;
+      that-block = ap (λ (x : Volume). x .last) (all (after d l commit .disc) same) ∙ sym (committed-block d l e ∙ at-target d l ok good f);
     }

@@ -1,0 +1,274 @@
+//! Every row of "Bench examples" of document 01, and its example disc of 31.
+
+mod common;
+
+use common::station::{done, refused, Station};
+use station::model::calls::Call;
+use station::model::disc::{DATA, LINK};
+use station::model::fields::{u16_at, u32_at};
+use station::model::table::{crc, recognise, seal, table_length, vat_sector, LIMIT, NONE, SECTOR};
+
+const BLOCK: [u8; SECTOR] = [0x5A; SECTOR];
+
+/// Begin, one write, and close packet.
+fn written_and_closed(sectors: usize) -> Station {
+    let mut station = Station::begun(sectors);
+    assert_eq!(station.write(0, &BLOCK), done(0));
+    assert_eq!(station.call(Call::ClosePacket), done(0));
+    station
+}
+
+/// Begin and writes of 0, 1, ... up to the size.
+fn of_size(sectors: usize, size: u32) -> Station {
+    let mut station = Station::begun(sectors);
+    for v in 0..size {
+        assert_eq!(station.write(v, &BLOCK), done(v));
+    }
+    station
+}
+
+/// Block, size and entries in use of the table that look back k shows.
+fn row(station: &Station, k: u32) -> (u32, u32, usize) {
+    let mut looking = station.clone();
+    let answer = looking.call(Call::LookBack(k));
+    assert_eq!(answer.outcome, 0);
+    let volume = looking.volume();
+    let used = volume.entries().iter().filter(|b| **b != NONE).count();
+    (answer.second, volume.size, used)
+}
+
+/// "CRC of hex 70 6A 77 is hex 3299."
+#[test]
+fn crc_of_ecma_167() {
+    assert_eq!(crc(&[0x70, 0x6A, 0x77]), 0x3299);
+}
+
+/// "N 0: table 36 bytes, CRC length 196."
+#[test]
+fn table_of_no_entries() {
+    let mut station = Station::begun(8);
+    assert_eq!(station.call(Call::Commit), done(0));
+    let sector = station.sector(0);
+    assert_eq!(u32_at(sector, 172), 36);
+    assert_eq!(u16_at(sector, 10), 196);
+    assert_eq!(recognise(sector, 0).map(|vat| vat.map), Some(vec![]));
+}
+
+/// "N 458: 1,868 and 2,028."
+#[test]
+fn table_of_458_entries() {
+    let mut station = of_size(600, 458);
+    assert_eq!(station.call(Call::Commit), done(458));
+    let sector = station.sector(458);
+    assert_eq!(u32_at(sector, 172), 1868);
+    assert_eq!(u16_at(sector, 10), 2028);
+    let map = recognise(sector, 458).map(|vat| vat.map);
+    assert_eq!(map, Some((0..458).collect()));
+}
+
+/// "N 459: not a table sector." One entry less, made alike, is one.
+#[test]
+fn table_of_459_entries() {
+    assert_eq!(176 + table_length(459), SECTOR);
+    assert!(recognise(&vat_sector(5, &[NONE; 459], NONE), 5).is_none());
+    assert!(recognise(&vat_sector(5, &[NONE; LIMIT], NONE), 5).is_some());
+}
+
+/// "Blank disc of 8: write gives 14; commit is done at block 0."
+#[test]
+fn blank_disc_of_8() {
+    let mut station = Station::begun(8);
+    assert_eq!(station.write(0, &BLOCK), refused(14));
+    assert_eq!(station.call(Call::Commit), done(0));
+}
+
+/// "Disc of 9: first write done, second 14."
+#[test]
+fn disc_of_9() {
+    let mut station = Station::begun(9);
+    assert_eq!(station.write(0, &BLOCK), done(0));
+    assert_eq!(station.write(1, &BLOCK), refused(14));
+}
+
+/// "Disc of 10: two writes done, third 14."
+#[test]
+fn disc_of_10() {
+    let mut station = Station::begun(10);
+    assert_eq!(station.write(0, &BLOCK), done(0));
+    assert_eq!(station.write(1, &BLOCK), done(1));
+    assert_eq!(station.write(2, &BLOCK), refused(14));
+}
+
+/// "One write, then close packet: with 17 sectors the next write takes block 8".
+#[test]
+fn write_after_close_packet_on_17() {
+    let mut station = written_and_closed(17);
+    assert_eq!(station.write(1, &BLOCK), done(8));
+    assert_eq!(station.kinds[..9], [1, 2, 2, 2, 2, 2, 2, 2, 1]);
+}
+
+/// "with 16 it gives 14"
+#[test]
+fn write_after_close_packet_on_16() {
+    let mut station = written_and_closed(16);
+    assert_eq!(station.write(1, &BLOCK), refused(14));
+}
+
+/// "Write of 1 at size 0: 12."
+#[test]
+fn write_above_size() {
+    let mut station = Station::begun(30);
+    assert_eq!(station.write(1, &BLOCK), refused(12));
+}
+
+/// "Write of 458 at size 458 with space: 13."
+#[test]
+fn write_at_limit() {
+    let mut station = of_size(600, 458);
+    assert_eq!(station.write(458, &BLOCK), refused(13));
+}
+
+/// "Write of 500 at size 3: 12."
+#[test]
+fn write_above_size_and_limit() {
+    let mut station = of_size(30, 3);
+    assert_eq!(station.write(500, &BLOCK), refused(12));
+}
+
+/// A disc of 30 whose block 0 is data and block 1 a table sector; the next
+/// write takes block 2.
+fn with_table_at_1() -> Station {
+    let mut station = of_size(30, 1);
+    assert_eq!(station.call(Call::Commit), done(1));
+    station
+}
+
+/// "A table sector of block 1, written as a block at 2: accepted."
+#[test]
+fn copied_table_sector() {
+    let mut station = with_table_at_1();
+    let copy = *station.sector(1);
+    assert_eq!(station.write(1, &copy), done(2));
+    assert_eq!(
+        station.disc().newest_vat().map(|found| found.block),
+        Some(1)
+    );
+}
+
+/// "The same with location 2 and right sums: 15."
+#[test]
+fn table_sector_for_its_own_block() {
+    let mut station = with_table_at_1();
+    let mut forged = *station.sector(1);
+    seal(&mut forged, 2);
+    assert_eq!(station.write(1, &forged), refused(15));
+}
+
+/// "Commit after close packet, cut after j of 8 sectors: 0 to 7 show the old
+/// save, 8 the new."
+#[test]
+fn commit_cut_after_each_sector() {
+    let mut saved = with_table_at_1();
+    assert_eq!(saved.write(1, &BLOCK), done(2));
+    assert_eq!(saved.call(Call::ClosePacket), done(0));
+    let table = vat_sector(10, &[0, 2], 1);
+    for torn in [None, Some(&table)] {
+        for j in 0..=8 {
+            let mut station = saved.clone();
+            station.cut(Call::Commit, &[], j, torn);
+            let kept = if j == 8 { [0, 2].as_slice() } else { &[0] };
+            assert_eq!(station.call(Call::Mount).outcome, 0);
+            assert_eq!(station.volume().entries(), kept);
+        }
+    }
+}
+
+/// "Cut before the first table: mount 7; begin is done."
+#[test]
+fn cut_before_the_first_table() {
+    let written = of_size(30, 2);
+    for (call, j) in [(Call::Write(2), 1), (Call::Commit, 0)] {
+        for torn in [None, Some(&vat_sector(2, &[0, 1], NONE))] {
+            let mut station = written.clone();
+            station.cut(call, &BLOCK, j, torn);
+            assert_eq!(station.call(Call::Mount), refused(7));
+            assert_eq!(station.call(Call::Begin), done(0));
+        }
+    }
+}
+
+/// "A blank disc of 31: begin, write 0, commit, write 1, release 0, commit,
+/// close packet, commit." The blank sectors' bytes, which "mean nothing", are
+/// not zero, so that it shows which of them stay.
+fn disc_of_31() -> Station {
+    let mut station = Station::begun(31);
+    station.image.fill(0x77);
+    assert_eq!(station.write(0, &BLOCK), done(0));
+    assert_eq!(station.call(Call::Commit), done(1));
+    assert_eq!(station.write(1, &BLOCK), done(2));
+    assert_eq!(station.call(Call::Release(0)), done(0));
+    assert_eq!(station.call(Call::Commit), done(3));
+    assert_eq!(station.call(Call::ClosePacket), done(0));
+    assert_eq!(station.call(Call::Commit), done(11));
+    station
+}
+
+/// The rows that the listing program prints: block, size, used; then `clean`.
+#[test]
+fn listing_of_the_disc_of_31() {
+    let mut station = disc_of_31();
+    assert_eq!(row(&station, 0), (11, 2, 1));
+    assert_eq!(row(&station, 1), (3, 2, 1));
+    assert_eq!(row(&station, 2), (1, 1, 1));
+    assert_eq!(station.call(Call::LookBack(3)), refused(9));
+    assert_eq!(station.call(Call::Mount), done(1));
+}
+
+/// "For a link sector only its kind changes, to 2; its image bytes stay."
+#[test]
+fn links_of_the_disc_of_31() {
+    let station = disc_of_31();
+    assert_eq!(station.kinds[..4], [DATA; 4]);
+    assert_eq!(station.kinds[4..11], [LINK; 7]);
+    assert_eq!(station.kinds[11..], [&[DATA][..], &[0; 19]].concat());
+    for block in (4..11).chain(12..31) {
+        assert_eq!(station.sector(block), &[0x77; SECTOR]);
+    }
+}
+
+/// CRC and sum of the sector below, computed apart from this package.
+const CRC_BYTES: [u8; 2] = [0xD9, 0x4A];
+const TAG_SUM: u8 = 0x02;
+
+/// "What commit records", byte for byte, at block 11.
+#[test]
+fn bytes_of_the_last_table_of_the_disc_of_31() {
+    let fields: [(usize, &[u8]); 21] = [
+        (0, &[0x05, 0x01]),
+        (2, &[0x02, 0x00]),
+        (4, &[TAG_SUM]),
+        (8, &CRC_BYTES),
+        (10, &[204, 0]),
+        (12, &[11, 0, 0, 0]),
+        (20, &[4, 0]),
+        (24, &[1, 0]),
+        (27, &[0]),
+        (34, &[3, 0]),
+        (36, &[0xFF; 4]),
+        (40, &[0xFF; 4]),
+        (56, &[44, 0, 0, 0, 0, 0, 0, 0]),
+        (108, &[1, 0, 0, 0]),
+        (128, b"\0*Bench Station\0"),
+        (172, &[44, 0, 0, 0]),
+        (176, &[0xFF; 4]),
+        (180, &[2, 0, 0, 0]),
+        (184, b"\0*UDF Virtual Alloc Tbl\0"),
+        (208, &[0x50, 0x01, 0, 0, 0, 0, 0, 0]),
+        (216, &[3, 0, 0, 0]),
+    ];
+    let mut expected = [0; SECTOR];
+    for (at, field) in fields {
+        expected[at..at + field.len()].copy_from_slice(field);
+    }
+    assert_eq!(disc_of_31().sector(11), &expected);
+}

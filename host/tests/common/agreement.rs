@@ -1,0 +1,100 @@
+//! Document 01's claim after a list: what mount, look back and read then show
+//! is what the book has.
+
+use station::model::answer::Answer;
+use station::model::book::{Content, History, Snapshot};
+use station::model::calls::Call;
+use station::model::ledger::{Volume, LEDGER};
+use station::model::table::{LIMIT, NONE, SECTOR};
+
+use super::random::Random;
+use super::station::{refused, Station};
+
+/// Compares a disc with the book on a copy, or says where they differ.
+pub fn compare(station: &Station, history: &History, random: &mut Random) -> Result<(), String> {
+    let mut copy = station.clone();
+    match history.page_back(0) {
+        None => mount_finds_nothing(&mut copy, random)?,
+        Some(page) => shows(&mut copy, Call::Mount, page, random)?,
+    }
+    for k in 0..history.pages.len() {
+        let page = history
+            .page_back(k)
+            .expect("k is below the number of pages");
+        shows(&mut copy, Call::LookBack(k as u32), page, random)?;
+    }
+    let untouched = copy.image == station.image && copy.kinds == station.kinds;
+    check(untouched, || {
+        "mount, look back and read changed the disc".into()
+    })
+}
+
+/// "done exactly if there is a page, else 7"
+fn mount_finds_nothing(copy: &mut Station, random: &mut Random) -> Result<(), String> {
+    copy.ledger = random.bytes(LEDGER);
+    let before = copy.ledger.clone();
+    let answer = copy.call(Call::Mount);
+    check(answer == refused(7), || {
+        format!("no page, and mount answers {answer:?}")
+    })?;
+    check(copy.ledger == before, || {
+        "a refused mount changed the ledger".into()
+    })
+}
+
+/// "lent any 1,848 bytes as ledger": the call is done, "size and entries are
+/// the [...] page's", and reads give what it has.
+fn shows(
+    copy: &mut Station,
+    call: Call,
+    page: &Snapshot,
+    random: &mut Random,
+) -> Result<(), String> {
+    copy.ledger = random.bytes(LEDGER);
+    let answer = copy.call(call);
+    check(answer.outcome == 0, || {
+        format!("{call:?} answers {answer:?}")
+    })?;
+    check(copy.volume().size == page.size(), || {
+        let size = copy.volume().size;
+        format!("{call:?} shows size {size}, the page has {}", page.size())
+    })?;
+    check(same_map(&copy.volume(), page), || {
+        format!("{call:?} shows other entries than the page")
+    })?;
+    for v in (0..page.size() + 3).chain([LIMIT as u32, NONE]) {
+        reads(copy, v, page).map_err(|found| format!("after {call:?}, {found}"))?;
+    }
+    Ok(())
+}
+
+fn same_map(volume: &Volume, page: &Snapshot) -> bool {
+    let block = |v| page.in_use(v).map_or(NONE, |entry| entry.block);
+    let mut numbered = (0..).zip(volume.map);
+    numbered.all(|(v, entry)| entry == block(v))
+}
+
+/// "gives what that page has for v, or 10 if not in use"; a refusal leaves the
+/// lent block as it was.
+fn reads(copy: &mut Station, v: u32, page: &Snapshot) -> Result<(), String> {
+    let before = v as u8 ^ 0x3C;
+    let (answer, block) = copy.read(v, before);
+    let unchanged = [before; SECTOR];
+    let (expected, bytes) = match page.in_use(v).map(|entry| &entry.content) {
+        None => (refused(10), &unchanged),
+        Some(Content::Unreadable) => (refused(11), &unchanged),
+        Some(Content::Bytes(bytes)) => (Answer::done(0), &**bytes),
+    };
+    check(answer == expected, || {
+        format!("read {v} answers {answer:?}, the page has {expected:?}")
+    })?;
+    check(block == *bytes, || format!("read {v} gives other bytes"))
+}
+
+fn check(holds: bool, difference: impl FnOnce() -> String) -> Result<(), String> {
+    if holds {
+        Ok(())
+    } else {
+        Err(difference())
+    }
+}

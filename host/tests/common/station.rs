@@ -1,0 +1,100 @@
+//! A disc and a ledger to make calls on.
+
+use station::model::answer::Answer;
+use station::model::calls::{effect, perform, Call, Effect, Lent};
+use station::model::disc::{fail_power, Disc};
+use station::model::ledger::{Volume, LEDGER};
+use station::model::table::SECTOR;
+
+#[derive(Clone, PartialEq)]
+pub struct Station {
+    pub image: Vec<u8>,
+    pub kinds: Vec<u8>,
+    pub ledger: Vec<u8>,
+}
+
+impl Station {
+    pub fn blank(sectors: usize) -> Station {
+        Station {
+            image: vec![0; sectors * SECTOR],
+            kinds: vec![0; sectors],
+            ledger: vec![0; LEDGER],
+        }
+    }
+
+    /// A blank disc on which begin was done.
+    pub fn begun(sectors: usize) -> Station {
+        let mut station = Station::blank(sectors);
+        assert_eq!(station.call(Call::Begin), Answer::done(0));
+        station
+    }
+
+    pub fn disc(&self) -> Disc<'_> {
+        Disc::lent(&self.image, &self.kinds).expect("a disc of right size")
+    }
+
+    pub fn volume(&self) -> Volume {
+        Volume::load(&self.ledger).expect("1,848 bytes")
+    }
+
+    pub fn sector(&self, block: u32) -> &[u8; SECTOR] {
+        &self.image.as_chunks::<SECTOR>().0[block as usize]
+    }
+
+    pub fn put_sector(&mut self, block: u32, kind: u8, bytes: &[u8; SECTOR]) {
+        self.kinds[block as usize] = kind;
+        self.image.as_chunks_mut::<SECTOR>().0[block as usize] = *bytes;
+    }
+
+    /// A call that is lent no block.
+    pub fn call(&mut self, call: Call) -> Answer {
+        self.call_lent(call, &mut [])
+    }
+
+    pub fn call_lent(&mut self, call: Call, block: &mut [u8]) -> Answer {
+        perform(
+            &mut self.image,
+            &mut self.kinds,
+            &mut self.ledger,
+            block,
+            call,
+        )
+    }
+
+    pub fn write(&mut self, v: u32, block: &[u8]) -> Answer {
+        self.call_lent(Call::Write(v), &mut block.to_vec())
+    }
+
+    /// A read into a block of the given byte.
+    pub fn read(&mut self, v: u32, before: u8) -> (Answer, [u8; SECTOR]) {
+        let mut block = [before; SECTOR];
+        let answer = self.call_lent(Call::Read(v), &mut block);
+        (answer, block)
+    }
+
+    /// What the call would do, if it is not refused.
+    pub fn effect(&self, call: Call, block: &[u8]) -> Option<Effect> {
+        let lent = Lent {
+            image: &self.image,
+            kinds: &self.kinds,
+            ledger: &self.ledger,
+            block,
+        };
+        effect(&lent, call).ok()
+    }
+
+    /// The call cut after j sectors; the ledger is lost.
+    pub fn cut(&mut self, call: Call, block: &[u8], j: usize, torn: Option<&[u8; SECTOR]>) {
+        let sectors = self.effect(call, block).map_or(Vec::new(), |e| e.sectors);
+        fail_power(&mut self.image, &mut self.kinds, &sectors, j, torn);
+        self.ledger.fill(0xA5);
+    }
+}
+
+pub fn done(second: u32) -> Answer {
+    Answer::done(second)
+}
+
+pub fn refused(outcome: u32) -> Answer {
+    Answer { outcome, second: 0 }
+}
