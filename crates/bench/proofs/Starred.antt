@@ -1,6 +1,6 @@
 -- The starred rows of document 01's 'Bench examples', shown once, as one claim over one list of them: the checker works each out from the definitions.
 -- Assumes nothing.
-use Prim.Native.Nat.{ℕ, _+_, _*_}
+use Prim.Native.Nat.{ℕ, _*_}
 use mathlib.Core.Bool.{Bool, true, false, not, _&&_}
 use mathlib.Core.List.{List, [], _∷_}
 use lib.Dec.{T, eqb}
@@ -13,9 +13,8 @@ use Rattle.vat.specs.Table.{unused, plainRows, lengthRows, tableName, entryCoun
 use Rattle.vat.specs.Sector.{tableRegid, tableBytes, ownRows, stationName, body, sector}
 use Rattle.disc.specs.Disc.{Disc, sized, leading, formed, sectorAt, content, stored, puts}
 use Rattle.disc.specs.Tables.{newestBelow, walk}
-use Rattle.volume.specs.declared.Volume.{Volume}
 use Rattle.volume.specs.Volume.{unpack, pack, fits, begun, filled, wrote, released, closed, committed}
-use Rattle.recorder.specs.Calls.{Call, begin, mount, write, release, closePacket, commit, read, lookBack}
+use Rattle.recorder.specs.Calls.{Call, begin, write, closePacket, commit}
 use Rattle.recorder.specs.Refusals.{first, links, walked, tests, outcome}
 use Rattle.recorder.specs.Effects.{effect, After, after, secondNumber, sectorsOf}
 

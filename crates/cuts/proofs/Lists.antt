@@ -1,20 +1,18 @@
 -- The claim about power cuts is not empty: lists of events that the checker works out from the definitions. Each leaves pages with real bytes in them, and
 -- mount on the disc that it leaves finds the newest of them. Those with a cut in mid-list are shown to be allowed.
 -- Assumes nothing.
-use Prim.Native.Nat.{ℕ, zero, suc, _+_, _*_}
+use Prim.Native.Nat.{ℕ, _+_, _*_}
 use native.Mathlib.Omega.{arith}
-use mathlib.Core.Bool.{Bool, true, false, not, _&&_}
+use mathlib.Core.Bool.{Bool, true, false, _&&_}
 use mathlib.Core.List.{List, [], _∷_}
 use mathlib.Core.Option.{Option, none, some}
 use mathlib.Core.Path.{_≡_, refl}
 use lib.Dec.{T, eqb, lit≤}
-use lib.ListN.{length, getD, replicate}
-use Rattle.vat.specs.Table.{unused}
+use lib.ListN.{length, getD}
 use Rattle.vat.specs.Sector.{sector}
 use Rattle.disc.specs.Disc.{Disc}
-use Rattle.volume.specs.declared.Volume.{Volume}
 use Rattle.volume.specs.Volume.{unpack}
-use Rattle.recorder.specs.Calls.{Call, begin, mount, write, release, closePacket, commit, read, lookBack}
+use Rattle.recorder.specs.Calls.{begin, mount, write, release, closePacket, commit, read, lookBack}
 use Rattle.recorder.specs.Refusals.{outcome}
 use Rattle.recorder.specs.Effects.{After, after}
 use Rattle.history.specs.History.{Entry, unusedEntry, shows, Snapshot, History, feed}
@@ -66,10 +64,29 @@ leaves w h ps = same-pages (h .pages) ps && mounts-to (w .disc) ps
 abbrev start : ℕ → World
 start n = afterCall (blank n) full begin
 
+-- World and history worked out side by side, each step once. They are what the claim speaks of.
+record Played : Type 0 where
+  world : World
+  past : History
+
+played : World → History → List Event → Played
+played w h [] = record { world = w; past = h }
+played w h (e ∷ es) = let w′ : World = next w e in played w′ (feed h (fed w e)) es
+
+played-world : (w : World) (h : History) (es : List Event) → played w h es .world ≡ runs w es
+unfolding played runs
+played-world w h [] = refl
+played-world w h (e ∷ es) = played-world (next w e) (feed h (fed w e)) es
+
+played-past : (w : World) (h : History) (es : List Event) → played w h es .past ≡ remembers w h es
+unfolding played remembers
+played-past w h [] = refl
+played-past w h (e ∷ es) = played-past (next w e) (feed h (fed w e)) es
+
 -- The list is worked out on a blank disc of n sectors, after begin.
 works : ℕ → List Event → List Snapshot → Bool
-unfolding opened same leaves cutDisc next fed feed runs remembers shown
-works n es ps = leaves (runs (start n) es) (remembers (start n) begunHistory es) ps
+unfolding opened same leaves cutDisc next fed feed played shown
+works n es ps = let p : Played = played (start n) begunHistory es in leaves (p .world) (p .past) ps
 
 some-none : {l : List ℕ} → _≡_ {A = Option (List ℕ)} (some l) none → ⊥
 some-none e = let z : _≡_ {A = ℕ} 0 1 = cc in omega arith
@@ -80,11 +97,11 @@ some-none e = let z : _≡_ {A = ℕ} 0 1 = cc in omega arith
 in-the-links : List Event
 in-the-links = calls (write 0 (block 5)) [] ∷ calls commit [] ∷ calls closePacket [] ∷ cuts commit [] 3 (some (block 9)) ∷ calls mount full ∷ []
 
-shown-in-the-links : T (works 20 in-the-links ((shows 0 (some (block 5)) ∷ []) ∷ []))
+shown-in-the-links : T (works 10 in-the-links ((shows 0 (some (block 5)) ∷ []) ∷ []))
 unfolding works in-the-links
 shown-in-the-links = tt
 
-allowed-in-the-links : AllAllowed (start 20) in-the-links
+allowed-in-the-links : AllAllowed (start 10) in-the-links
 unfolding opened AllAllowed cutDisc next in-the-links
 allowed-in-the-links =
     ((λ z y. some-none z), ((λ z y. some-none z), ((λ z y. some-none z), (((λ z y. some-none z), lit≤ tt, refl), ((λ z y. tt), tt)))))
@@ -94,11 +111,11 @@ before-the-first-table : List Event
 before-the-first-table =
     cuts (write 0 (block 4)) [] 1 none ∷ calls mount full ∷ calls begin [] ∷ calls begin full ∷ calls (write 0 (block 6)) [] ∷ calls commit [] ∷ []
 
-shown-before-the-first-table : T (works 20 before-the-first-table ((shows 8 (some (block 6)) ∷ []) ∷ []))
+shown-before-the-first-table : T (works 17 before-the-first-table ((shows 8 (some (block 6)) ∷ []) ∷ []))
 unfolding works before-the-first-table
 shown-before-the-first-table = tt
 
-allowed-before-the-first-table : AllAllowed (start 20) before-the-first-table
+allowed-before-the-first-table : AllAllowed (start 17) before-the-first-table
 unfolding opened AllAllowed cutDisc next before-the-first-table
 allowed-before-the-first-table =
     (((λ z y. some-none z), lit≤ tt, tt), ((λ z y. tt), ((λ z y. tt), ((λ z y. tt), ((λ z y. some-none z), ((λ z y. some-none z), tt))))))
@@ -107,11 +124,11 @@ allowed-before-the-first-table =
 looks-like-a-table : List Event
 looks-like-a-table = calls (write 0 (block 5)) [] ∷ calls commit [] ∷ cuts commit [] 0 (some (sector [] 1 2)) ∷ []
 
-shown-looks-like-a-table : T (works 12 looks-like-a-table ((shows 0 (some (block 5)) ∷ []) ∷ []))
+shown-looks-like-a-table : T (works 9 looks-like-a-table ((shows 0 (some (block 5)) ∷ []) ∷ []))
 unfolding works looks-like-a-table
 shown-looks-like-a-table = tt
 
-allowed-looks-like-a-table : AllAllowed (start 12) looks-like-a-table
+allowed-looks-like-a-table : AllAllowed (start 9) looks-like-a-table
 unfolding opened AllAllowed cutDisc next looks-like-a-table
 allowed-looks-like-a-table = ((λ z y. some-none z), ((λ z y. some-none z), (((λ z y. some-none z), lit≤ tt, refl), tt)))
 
@@ -120,7 +137,7 @@ three-back : List Event
 three-back =
     calls (write 0 (block 1)) [] ∷ calls commit [] ∷ calls (write 1 (block 2)) [] ∷ calls commit [] ∷ calls (release 0) [] ∷ calls commit [] ∷ calls (write 0 (block 3)) [] ∷ calls commit [] ∷ []
 
-shown-three-back : T (works 16 three-back (
+shown-three-back : T (works 14 three-back (
     (shows 5 (some (block 3)) ∷ shows 2 (some (block 2)) ∷ [])
     ∷ (unusedEntry ∷ shows 2 (some (block 2)) ∷ [])
     ∷ (shows 0 (some (block 1)) ∷ shows 2 (some (block 2)) ∷ [])
@@ -134,7 +151,7 @@ looks-back : ℕ → List Event → ℕ → Snapshot → Bool
 unfolding opened same reads-as reads-page cutDisc next runs
 looks-back n es k p = let d : Disc = runs (start n) es .disc in reads-page d (after d full (lookBack k) .ledger) 0 p
 
-looked-three-back : T (looks-back 16 three-back 3 (shows 0 (some (block 1)) ∷ []))
+looked-three-back : T (looks-back 14 three-back 3 (shows 0 (some (block 1)) ∷ []))
 unfolding looks-back three-back
 looked-three-back = tt
 
@@ -159,11 +176,8 @@ each-cut w h [] ps = true
 each-cut w h (j ∷ js) ps = let e : Event = cuts commit [] j (some (block 9)) in finds (next w e) (feed h (fed w e)) ps && each-cut w h js ps
 
 cut-at : List ℕ → List Snapshot → Bool
-unfolding each-cut before-the-cut runs remembers
-cut-at js ps =
-    let w : World = runs (start 20) before-the-cut in
-    let h : History = remembers (start 20) begunHistory before-the-cut in
-    each-cut w h js ps
+unfolding each-cut before-the-cut played
+cut-at js ps = let p : Played = played (start 11) begunHistory before-the-cut in each-cut (p .world) (p .past) js ps
 
 shown-cut-early : T (cut-at (0 ∷ 1 ∷ 2 ∷ 3 ∷ []) (old-page ∷ []))
 unfolding cut-at old-page

@@ -1,22 +1,20 @@
 -- What recording one sector at the end of what is recorded does to a sound disc: one sector more is recorded, it holds what was put, and every lower
 -- one stays.
 -- Assumes nothing.
-use Prim.Native.Nat.{ℕ, zero, suc, _+_, _-_, _*_, _≤_, _<_}
+use Prim.Native.Nat.{ℕ, zero, suc, _+_, _*_, _≤_, _<_}
 use native.Mathlib.Nat.{not-suc-le-zero, le-of-suc-le-suc, add-zero}
 use native.Mathlib.Omega.{arith}
-use mathlib.Core.Path.{_≡_, refl, sym, ap, ap₂, _∙_}
-use mathlib.Core.Bool.{Bool, true, false, _&&_, false≢true}
-use mathlib.Core.List.{List, [], _∷_, _++_, append-assoc}
-use mathlib.Core.Option.{Option, none, some}
+use mathlib.Core.Path.{_≡_, refl, sym, ap, _∙_}
+use mathlib.Core.Bool.{Bool, true, false, _&&_}
+use mathlib.Core.List.{List, [], _∷_, _++_}
 use lib.Dec.{eqb, ltb, leb}
 use lib.ListN.{length, getD, take, drop, set, length-set, length-append, length-drop, take-append-drop}
-use lib.Seq.{getD-set-same, getD-set-other, drop-set-lt, take-append-le, drop-append-le, take-at, drop-at, drop-drop, length-take-le, take-take}
+use lib.Seq.{getD-set-same, getD-set-other, drop-set-lt, take-append-le, drop-append-le, take-at, drop-at, length-take-le}
 use borrow.Author.Tests.{eq-eqb, ne-eqb, eqb-true, ltb-true, ltb-false, leb-true, lt-ltb, le-leb}
 use Rattle.le.specs.Bytes.{every}
-use Rattle.vat.specs.Table.{sectorLength, isTable, entriesOf, previousOf}
+use Rattle.vat.specs.Table.{sectorLength}
 use Rattle.vat.proofs.Frame.{and-left, and-right}
-use Rattle.disc.specs.Disc.{Disc, mostSectors, sized, counted, leading, recorded, formed, kindAt, sectorAt, readable, content, Sector, link, plain, torn, stored, put, puts}
-use Rattle.disc.specs.Tables.{tableAt, mapAt, previousAt}
+use Rattle.disc.specs.Disc.{Disc, mostSectors, sized, counted, leading, recorded, formed, kindAt, sectorAt, Sector, link, plain, torn, stored, put, puts}
 
 -- ---- the kinds
 

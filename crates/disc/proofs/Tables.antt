@@ -1,17 +1,15 @@
 -- What a search or a walk finds is a table, and on a sound disc a table lies within what is recorded.
 -- Assumes nothing.
-use Prim.Native.Nat.{ℕ, zero, suc, _+_, _≤_, _<_}
+use Prim.Native.Nat.{ℕ, zero, suc, _<_}
 use native.Mathlib.Omega.{arith}
 use mathlib.Core.Path.{_≡_, refl, sym, ap, _∙_}
 use mathlib.Core.Bool.{Bool, true, false}
-use mathlib.Core.List.{List}
-use mathlib.Core.Option.{Option, none, some}
+use mathlib.Core.Option.{some}
 use lib.Dec.{eqb}
-use lib.ListN.{length}
-use Rattle.vat.specs.Table.{unused, isTable}
+use Rattle.vat.specs.Table.{unused}
 use Rattle.vat.proofs.Theorems.{recognised}
 use Rattle.disc.specs.Disc.{Disc, recorded, kindAt, sectorAt}
-use Rattle.disc.specs.Tables.{tableAt, found, newestBelow, newest, Walk, reached, broken, ended, stepped, walk}
+use Rattle.disc.specs.Tables.{tableAt, found, newestBelow, reached, stepped, walk}
 use Rattle.disc.proofs.Recording.{Sound, kind-recorded}
 
 pub table-recorded : (d : Disc) → Sound d → (b : ℕ) → tableAt d b ≡ true → b < recorded d

@@ -1,6 +1,6 @@
 -- The disc (document 01, 'The disc, the ledger and the two numbers'): "two lent buffers: the image, 2048 bytes a sector, and the kinds, one byte a
 -- sector: 0 blank, 1 data, 2 link, 3 unreadable". What is recorded, when the disc is sound, and how a sector is recorded.
-use Prim.Native.Nat.{ℕ, zero, suc, _+_, _-_, _*_}
+use Prim.Native.Nat.{ℕ, suc, _+_, _-_, _*_}
 use mathlib.Core.Bool.{Bool, true, false, _&&_}
 use mathlib.Core.List.{List, [], _∷_, _++_}
 use mathlib.Core.Option.{Option, none, some}

@@ -1,28 +1,27 @@
 -- The real format as an instance of the log, and what recording a list of sectors does to its disc: plain sectors, a table, or what a cut leaves.
 -- Assumes nothing.
-use Prim.Native.Nat.{ℕ, zero, suc, _+_, _-_, _*_, _≤_, _<_}
-use native.Mathlib.Nat.{add-zero, add-suc, le-refl, not-suc-le-zero, le-of-suc-le-suc}
+use Prim.Native.Nat.{ℕ, zero, suc, _+_, _≤_, _<_}
+use native.Mathlib.Nat.{add-zero, le-refl, not-suc-le-zero, le-of-suc-le-suc}
 use native.Mathlib.Numerals.{add-one}
 use native.Mathlib.Omega.{arith}
 use mathlib.Core.Path.{_≡_, refl, sym, ap, ap₂, _∙_, subst}
 use mathlib.Core.Bool.{Bool, true, false, _&&_, _||_}
 use mathlib.Core.List.{List, [], _∷_, _++_}
-use mathlib.Core.Logic.{_⊎_, inl, inr, ⊎-elim}
+use mathlib.Core.Logic.{inl, inr}
 use mathlib.Core.Option.{Option, none, some}
-use lib.Dec.{eqb, ltb, lit<}
-use lib.ListN.{length, getD, take, drop, replicate, length-append, length-replicate, length-take}
+use lib.Dec.{eqb, ltb}
+use lib.ListN.{length, take, replicate, length-append, length-replicate}
 use lib.Seq.{take-append-le, length-take-le, take-length}
 use borrow.Author.Tests.{eq-eqb, ltb-true, eqb-true, lt-ltb, le-ltb}
 use Rattle.le.specs.Bytes.{every}
-use Rattle.vat.specs.Table.{sectorLength, limit, unused, unusedOrBelow, entryCount, entriesOf, previousOf, isTable}
-use Rattle.vat.specs.Sector.{sector}
+use Rattle.vat.specs.Table.{sectorLength, unused, unusedOrBelow, entriesOf, previousOf, isTable}
 use Rattle.vat.proofs.Frame.{and-left, and-right}
-use Rattle.vat.proofs.Theorems.{Named, Recognised, recognised, of-kind-1, ReadsBack, reads-back}
+use Rattle.vat.proofs.Theorems.{recognised, of-kind-1}
 use Rattle.disc.specs.Disc.{Disc, recorded, kindAt, sectorAt, readable, content, Sector, link, plain, torn, put, puts}
-use Rattle.disc.specs.Tables.{tableAt, mapAt, previousAt, newest}
-use Rattle.disc.proofs.Recording.{Sound, leading-le, kindOf, Whole, Recorded, put-recorded, plain-here, puts-append}
+use Rattle.disc.specs.Tables.{tableAt, mapAt, previousAt}
+use Rattle.disc.proofs.Recording.{Sound, Whole, Recorded, put-recorded, plain-here, puts-append}
 use Rattle.history.specs.Events.{Torn, tornAt, cutDisc}
-use Rattle.history.proofs.Log.{Format, Below, AllBelow, NamesBelow, View, Extends, Plain, Saved, extends-on, plain-same, plain-on, working}
+use Rattle.history.proofs.Log.{Format, Below, AllBelow, NamesBelow, View, Extends, Plain, Saved, extends-on, plain-same, plain-on}
 
 abbrev pub F : Format
 F = record { Disc = Disc; recorded = recorded; table = tableAt; mapAt = mapAt; previousAt = previousAt; content = content }

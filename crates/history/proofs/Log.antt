@@ -5,20 +5,20 @@
 --     walk-page     the walk back k tables reaches the page k before the newest
 -- Assumes nothing.
 use Prim.Native.Nat.{ℕ, zero, suc, _+_, _-_, _≤_, _<_}
-use native.Mathlib.Nat.{add-zero, add-suc, not-suc-le-zero, le-of-suc-le-suc, le-refl, eq-or-lt-of-le}
+use native.Mathlib.Nat.{add-zero, add-suc, not-suc-le-zero, le-of-suc-le-suc, le-refl}
 use native.Mathlib.Omega.{arith}
 use mathlib.Core.Path.{_≡_, refl, sym, ap, ap₂, _∙_, subst}
 use mathlib.Core.Bool.{Bool, true, false}
 use mathlib.Core.List.{List, [], _∷_, _++_, map}
 use mathlib.Core.Option.{Option, none, some}
-use mathlib.Core.Logic.{_⊎_, inl, inr, ⊎-elim}
+use mathlib.Core.Logic.{_⊎_, inl, inr}
 use lib.Dec.{eqb, ltb}
 use lib.ListN.{length, getD, set}
 use borrow.Author.Tests.{eq-eqb, ne-eqb, ltb-true, ltb-false}
 use Rattle.vat.specs.Table.{unused}
 use Rattle.volume.proofs.State.{grownMap}
-use Rattle.disc.specs.Tables.{found, newestBelow, Walk, reached, stepped, walk}
-use Rattle.history.specs.History.{Entry, unusedEntry, shows, Snapshot, History, Told, Fed, answered, cut, cutCommit, placed, onDraft, newestPage, saved, feed}
+use Rattle.disc.specs.Tables.{found, newestBelow, reached, walk}
+use Rattle.history.specs.History.{Entry, unusedEntry, shows, Snapshot, History, Told, Fed, answered, cutCommit, placed, onDraft, newestPage, saved, feed}
 use Rattle.history.specs.Events.{shownIf}
 
 -- ---- a format

@@ -1,34 +1,32 @@
 -- What mount and look back leave shows the page of its table, and reads it.
 -- Assumes nothing.
-use Prim.Native.Nat.{ℕ, zero, suc, _+_, _-_, _*_, _≤_, _<_}
-use native.Mathlib.Nat.{not-suc-le-zero, le-refl}
+use Prim.Native.Nat.{ℕ, zero, suc, _-_, _<_}
 use native.Mathlib.Omega.{arith}
 use mathlib.Core.Path.{_≡_, refl, sym, ap, ap₂, _∙_, subst}
-use mathlib.Core.Bool.{Bool, true, false, _&&_, _||_, not, or-true}
-use mathlib.Core.List.{List, [], _∷_, _++_, map}
-use mathlib.Core.Option.{Option, none, some}
-use lib.Dec.{eqb, ltb, leb, lit<, lit≤}
+use mathlib.Core.Bool.{Bool, true, false, _||_, not, or-true}
+use mathlib.Core.List.{List, [], _∷_, _++_}
+use lib.Dec.{eqb, leb}
 use lib.ListN.{length, getD, drop, replicate}
 use lib.Seq.{drop-at}
-use borrow.Author.Tests.{eq-eqb, ne-eqb, eqb-true, eqb-false, le-leb, lt-leb, leb-true}
+use borrow.Author.Tests.{eq-eqb, eqb-true, eqb-false, le-leb, lt-leb}
 use Rattle.le.specs.Bytes.{every}
-use Rattle.vat.specs.Table.{sectorLength, limit, unused, unusedOrBelow, isTable}
+use Rattle.vat.specs.Table.{sectorLength, limit, unused, unusedOrBelow}
 use Rattle.vat.proofs.Theorems.{Tells, tells}
 use Rattle.disc.specs.Disc.{Disc, recorded, kindAt, sectorAt, readable, content, puts}
-use Rattle.disc.specs.Tables.{tableAt, mapAt, newest, Walk, reached}
+use Rattle.disc.specs.Tables.{tableAt, mapAt}
 use Rattle.disc.proofs.Recording.{Sound}
 use Rattle.disc.proofs.Tables.{table-recorded}
 use Rattle.volume.specs.declared.Volume.{Volume}
-use Rattle.volume.specs.Volume.{ledgerLength, idle, packetOpen, readOnly, unpack, pack, mapOf, fits, filled}
+use Rattle.volume.specs.Volume.{ledgerLength, packetOpen, readOnly, unpack, pack, mapOf, fits, filled}
 use Rattle.volume.proofs.State.{Proper, unpack-pack, length-pack, map-filled}
-use Rattle.recorder.specs.Calls.{Call, begin, mount, write, release, closePacket, commit, read, lookBack}
-use Rattle.recorder.specs.Refusals.{Test, test, first, basicWithBlock, unfit, notInUse, isSome, walked, tests, outcome}
-use Rattle.recorder.specs.Effects.{effect, After, after}
-use Rattle.recorder.proofs.Done.{skip, stop, none-left, skip-basic, skip-basic-with-block}
-use Rattle.history.specs.History.{Entry, unusedEntry, shows, Snapshot}
+use Rattle.recorder.specs.Calls.{read}
+use Rattle.recorder.specs.Refusals.{Test, test, first, unfit, notInUse, tests, outcome}
+use Rattle.recorder.specs.Effects.{effect, after}
+use Rattle.recorder.proofs.Done.{skip, stop, none-left, skip-basic-with-block}
+use Rattle.history.specs.History.{unusedEntry}
 use Rattle.history.specs.Events.{shownIf}
 use Rattle.history.specs.Claim.{blockNumber, reading, Shows}
-use Rattle.history.proofs.Log.{AllBelow, all-below-more, shownOf, pageFrom, length-page}
+use Rattle.history.proofs.Log.{all-below-more, shownOf, pageFrom, length-page}
 use Rattle.history.proofs.Growth.{F, names-below, all-below-to}
 use Rattle.history.proofs.Steps.{proper-table}
 

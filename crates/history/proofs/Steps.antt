@@ -1,37 +1,35 @@
 -- Each event on a good world is a step of the log, and leaves a good world: the real calls keep the log's rules.
 -- Assumes nothing.
-use Prim.Native.Nat.{ℕ, zero, suc, _+_, _-_, _*_, _≤_, _<_}
-use native.Mathlib.Nat.{add-zero, not-suc-le-zero, le-refl}
+use Prim.Native.Nat.{ℕ, zero, suc, _+_, _≤_, _<_}
 use native.Mathlib.Omega.{arith}
 use mathlib.Core.Path.{_≡_, refl, sym, ap, ap₂, _∙_, subst, subst₂}
-use mathlib.Core.Bool.{Bool, true, false, _&&_, _||_, true≢false}
-use mathlib.Core.List.{List, [], _∷_, _++_}
+use mathlib.Core.Bool.{Bool, true, false, _&&_, _||_}
+use mathlib.Core.List.{List, [], _∷_}
 use mathlib.Core.Logic.{_⊎_, inl, inr}
 use mathlib.Core.Option.{Option, none, some}
-use lib.Dec.{eqb, ltb, leb, lit<, eqb·suc-zero}
-use lib.ListN.{length, take, drop, replicate}
+use lib.Dec.{eqb, lit<, eqb·suc-zero}
+use lib.ListN.{length}
 use lib.Arith.{lt-of-le-ne}
 use borrow.Author.Tests.{eqb-true, eqb-false}
-use Rattle.le.specs.Bytes.{every}
 use Rattle.le.proofs.Runs.{Words}
-use Rattle.vat.specs.Table.{sectorLength, limit, unused, unusedOrBelow, entryCount, entriesOf, previousOf, isTable}
+use Rattle.vat.specs.Table.{sectorLength, unused, unusedOrBelow, isTable}
 use Rattle.vat.specs.Sector.{sector}
-use Rattle.vat.proofs.Theorems.{Recognised, recognised, Tells, tells, ReadsBack, reads-back}
-use Rattle.disc.specs.Disc.{Disc, recorded, blanks, kindAt, sectorAt, content, Sector, link, plain, puts}
-use Rattle.disc.specs.Tables.{tableAt, mapAt, previousAt, newestBelow, newest, Walk, reached, walk}
+use Rattle.vat.proofs.Theorems.{recognised, Tells, tells, ReadsBack, reads-back}
+use Rattle.disc.specs.Disc.{Disc, recorded, blanks, kindAt, sectorAt, content, Sector, puts}
+use Rattle.disc.specs.Tables.{tableAt, mapAt, previousAt, newest, reached}
 use Rattle.disc.proofs.Recording.{Sound, leading-le}
 use Rattle.disc.proofs.Tables.{table-recorded, newest-table, walk-table}
 use Rattle.volume.specs.declared.Volume.{Volume}
-use Rattle.volume.specs.Volume.{ledgerLength, idle, packetOpen, readOnly, unpack, pack, mapOf, begun, filled, wrote, released, closed, committed}
+use Rattle.volume.specs.Volume.{idle, readOnly, unpack, pack, mapOf, begun, filled, wrote, released, closed, committed}
 use Rattle.volume.proofs.State.{Proper, unpack-pack, proper-begun, proper-filled, proper-wrote, proper-released, proper-closed, proper-committed, grownMap, map-filled, map-wrote, map-released, length-map}
-use Rattle.recorder.specs.Calls.{Call, begin, mount, write, release, closePacket, commit, read, lookBack, blockOf}
+use Rattle.recorder.specs.Calls.{Call, begin, mount, write, release, closePacket, commit, read, lookBack}
 use Rattle.recorder.specs.Refusals.{links, target, walkFrom, walked, outcome}
-use Rattle.recorder.specs.Effects.{Effect, effect, blockFound, blockReached, After, settled, after, ifDone, secondNumber, sectorsIf, sectorsOf}
-use Rattle.recorder.proofs.Done.{Fits, Working, WriteDone, CommitDone, begin-done, mount-done, write-done, release-done, close-done, commit-done, look-back-done}
-use Rattle.history.specs.History.{Entry, Snapshot, History, Told, Fed, answered, cut, cutCommit, feed}
-use Rattle.history.specs.Events.{World, Event, calls, cuts, lent, Restores, Follows, Torn, Allowed, cutDisc, ledgerAfter, next, told, kept, cutShort, fed}
-use Rattle.history.proofs.Log.{Format, AllBelow, all-below-more, View, State, Step, Plain, Saved, plain-same, at, working}
-use Rattle.history.proofs.Growth.{F, names-below, below-to, all-below-of, all-below-to, AllWhole, NoTables, Grown, puts-plain, whole-take, no-tables-take, behindLinks, length-behind, behind-whole, behind-no-tables, behind-content, behind-sound, behind-counted, behind-saved, Left, cut-left, cut-links-left, cut-all, cut-none}
+use Rattle.recorder.specs.Effects.{effect, blockFound, blockReached, after, secondNumber, sectorsIf, sectorsOf}
+use Rattle.recorder.proofs.Done.{Fits, WriteDone, CommitDone, begin-done, mount-done, write-done, release-done, close-done, commit-done, look-back-done}
+use Rattle.history.specs.History.{History, Told, Fed, answered, cut, cutCommit, feed}
+use Rattle.history.specs.Events.{World, Event, calls, cuts, lent, Follows, Torn, Allowed, cutDisc, next, told, kept, cutShort, fed}
+use Rattle.history.proofs.Log.{AllBelow, all-below-more, View, State, Step, Saved, plain-same, at, working}
+use Rattle.history.proofs.Growth.{F, names-below, below-to, all-below-of, all-below-to, Grown, puts-plain, whole-take, no-tables-take, behindLinks, length-behind, behind-whole, behind-no-tables, behind-content, behind-sound, behind-counted, behind-saved, Left, cut-left, cut-links-left, cut-all, cut-none}
 
 -- ---- the world as the log sees it
 

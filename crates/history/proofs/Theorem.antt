@@ -2,34 +2,33 @@
 --     power-cuts         the claim of specs/Claim.antt
 --     commit-then-mount  a commit that is done, then a mount on the disc that it leaves
 -- Assumes nothing.
-use Prim.Native.Nat.{ℕ, zero, suc, _+_, _-_, _*_, _≤_, _<_}
+use Prim.Native.Nat.{ℕ, suc, _+_, _<_}
 use native.Mathlib.Nat.{not-suc-le-zero}
 use native.Mathlib.Omega.{arith}
-use mathlib.Core.Path.{_≡_, refl, sym, ap, ap₂, _∙_, subst, subst₂}
-use mathlib.Core.Bool.{Bool, true, false, _&&_, _||_, not}
-use mathlib.Core.List.{List, [], _∷_, _++_}
+use mathlib.Core.Path.{_≡_, refl, sym, ap, _∙_, subst, subst₂}
+use mathlib.Core.Bool.{Bool, true, not}
+use mathlib.Core.List.{List, [], _∷_}
 use mathlib.Core.Option.{Option, none, some}
 use lib.Dec.{eqb, lit<}
 use native.Mathlib.Numerals.{add-one}
 use borrow.Author.Tests.{eq-eqb}
 use lib.ListN.{length, getD}
-use Rattle.vat.specs.Table.{sectorLength, unused}
 use Rattle.disc.specs.Disc.{Disc, recorded, puts}
-use Rattle.disc.specs.Tables.{tableAt, mapAt, previousAt, newest, Walk, reached, broken, ended, walk}
+use Rattle.disc.specs.Tables.{tableAt, mapAt, previousAt, newest, Walk, reached, walk}
 use Rattle.disc.proofs.Recording.{Sound}
 use Rattle.disc.proofs.Tables.{newest-table, table-recorded}
 use Rattle.le.proofs.Runs.{AllBytes}
 use Rattle.volume.specs.declared.Volume.{Volume}
 use Rattle.volume.specs.Volume.{ledgerLength, idle, readOnly, unpack, pack, mapOf, filled}
 use Rattle.volume.proofs.State.{Proper, unpack-pack, proper-unpack, map-filled, length-map}
-use Rattle.recorder.specs.Calls.{Call, begin, mount, write, release, closePacket, commit, read, lookBack}
-use Rattle.recorder.specs.Refusals.{Test, test, first, basic, isSome, walkFrom, walked, isBroken, isEnded, tests, outcome, links, target}
-use Rattle.recorder.specs.Effects.{effect, blockFound, blockReached, cleanNumber, After, after}
+use Rattle.recorder.specs.Calls.{Call, begin, mount, commit, lookBack}
+use Rattle.recorder.specs.Refusals.{test, isSome, walkFrom, walked, isBroken, isEnded, tests, outcome, links, target}
+use Rattle.recorder.specs.Effects.{effect, blockFound, blockReached, cleanNumber, after}
 use Rattle.recorder.proofs.Done.{skip, stop, none-left, skip-basic, begin-done, mount-done, CommitDone, commit-done}
-use Rattle.history.specs.History.{Entry, Snapshot, History, Told, Fed, answered, feed}
-use Rattle.history.specs.Events.{World, Event, calls, Follows, AllAllowed, next, fed, runs, remembers, shown, pageOf, afterCall, begunHistory, mountedHistory}
+use Rattle.history.specs.History.{Snapshot, History, feed}
+use Rattle.history.specs.Events.{World, Event, calls, AllAllowed, next, fed, runs, remembers, shown, pageOf, afterCall, begunHistory, mountedHistory}
 use Rattle.history.specs.Claim.{Shows, DoneShowing, Mounts, Claim, PowerCuts}
-use Rattle.history.proofs.Log.{Inv, Pages, Saved, View, pageFrom, newestOf, newest-saved, kept, walk-page, head-link, at, working}
+use Rattle.history.proofs.Log.{Inv, Pages, Saved, pageFrom, newest-saved, kept, walk-page, head-link, working}
 use Rattle.history.proofs.Growth.{F, names-below, behindLinks, behind-sound}
 use Rattle.history.proofs.Steps.{Good, GoodStep, stateOf, event-step, walked-table, proper-table, tableSector, sector-long, room, save, at-target, commit-records}
 use Rattle.history.proofs.Shown.{shows-table}

@@ -1,18 +1,17 @@
 -- The claim about power cuts (demand 3; document 01, 'The book', last paragraph), for the disc and the history that a list of events leaves.
-use Prim.Native.Nat.{ℕ, zero, suc, _+_, _*_, _<_}
+use Prim.Native.Nat.{ℕ, _*_, _<_}
 use mathlib.Core.List.{List, [], _∷_}
-use mathlib.Core.Option.{Option, none, some}
+use mathlib.Core.Option.{none, some}
 use mathlib.Core.Path.{_≡_}
 use lib.ListN.{length, getD}
 use Rattle.vat.specs.Table.{sectorLength, unused}
 use Rattle.disc.specs.Disc.{Disc}
-use Rattle.volume.specs.declared.Volume.{Volume}
 use Rattle.volume.specs.Volume.{ledgerLength, unpack}
-use Rattle.recorder.specs.Calls.{Call, begin, mount, write, release, closePacket, commit, read, lookBack}
+use Rattle.recorder.specs.Calls.{Call, begin, mount, read, lookBack}
 use Rattle.recorder.specs.Refusals.{outcome}
 use Rattle.recorder.specs.Effects.{After, after}
 use Rattle.history.specs.History.{Entry, unusedEntry, shows, Snapshot, History}
-use Rattle.history.specs.Events.{World, Event, AllAllowed, runs, remembers, afterCall, begunHistory, mountedHistory}
+use Rattle.history.specs.Events.{Event, AllAllowed, runs, remembers, afterCall, begunHistory, mountedHistory}
 
 -- The block number of an entry.
 abbrev pub blockNumber : Entry → ℕ

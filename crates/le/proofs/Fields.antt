@@ -5,10 +5,10 @@ use native.Mathlib.Nat.{add-zero, zero-add, suc-add, pow-suc, pow-succ', div-add
 use lib.Arith.{mod-mul, digits-div, digits-mod}
 use native.Mathlib.Omega.{arith}
 use mathlib.Core.Path.{_≡_, refl, sym, ap, ap₂, _∙_}
-use mathlib.Core.List.{List, [], _∷_, _++_}
-use mathlib.Core.Logic.{_⊎_, inl, inr, ⊎-elim}
+use mathlib.Core.List.{List, _++_}
+use mathlib.Core.Logic.{_⊎_, inl, inr}
 use lib.Dec.{lit<}
-use lib.ListN.{length, take, drop, set, getD, length-set}
+use lib.ListN.{length, drop, getD}
 use lib.Seq.{sets, length-sets, getD-drop, drop-drop}
 use Rattle.le.specs.Field.{le, readLe, putLe}
 use Rattle.le.proofs.Bytes.{drop-sets, getD-sets-other, sets-append}

@@ -1,15 +1,14 @@
 -- What is known of a call that is done: none of its tests applies. And what a call answers on a sound disc, where its tests settle it.
 -- Assumes nothing.
-use Prim.Native.Nat.{ℕ, zero, suc, _+_, _-_, _*_, _≤_, _<_}
+use Prim.Native.Nat.{ℕ, suc, _+_, _-_, _≤_, _<_}
 use native.Mathlib.Omega.{arith}
-use mathlib.Core.Path.{_≡_, refl, sym, ap, _∙_}
+use mathlib.Core.Path.{_≡_, refl, ap, _∙_}
 use mathlib.Core.Bool.{Bool, true, false, _&&_, _||_, not}
 use mathlib.Core.List.{List, [], _∷_, _++_}
-use mathlib.Core.Logic.{_⊎_, inl, inr}
 use mathlib.Core.Option.{Option, none, some}
 use lib.Dec.{eqb, ltb, leb}
-use lib.ListN.{length, getD, take, drop}
-use borrow.Author.Tests.{eqb-true, eqb-false, ltb-false, leb-true, leb-false, ltb-true, eq-eqb, not-false}
+use lib.ListN.{length, getD, drop}
+use borrow.Author.Tests.{eqb-true, ltb-false, leb-true, leb-false, eq-eqb, not-false}
 use Rattle.le.specs.Bytes.{every}
 use Rattle.vat.specs.Table.{sectorLength, limit, unused, unusedOrBelow, isTable}
 use Rattle.vat.proofs.Frame.{and-left, and-right}
@@ -18,8 +17,8 @@ use Rattle.disc.specs.Tables.{tableAt, newest, Walk, reached, broken, ended}
 use Rattle.disc.proofs.Recording.{Sound, sound, sound-sized, sound-formed}
 use Rattle.volume.specs.declared.Volume.{Volume}
 use Rattle.volume.specs.Volume.{ledgerLength, packetOpen, readOnly, mapOf, unpack, fits}
-use Rattle.recorder.specs.Calls.{Call, begin, mount, write, release, closePacket, commit, read, lookBack}
-use Rattle.recorder.specs.Refusals.{Test, test, orElse, first, links, target, reserve, basic, basicWithBlock, unfit, forbidden, notInUse, isSome, walked, isBroken, isEnded, tests, outcome}
+use Rattle.recorder.specs.Calls.{begin, mount, write, release, closePacket, commit, lookBack}
+use Rattle.recorder.specs.Refusals.{Test, test, first, links, target, reserve, basic, basicWithBlock, unfit, forbidden, notInUse, isSome, walked, isBroken, isEnded, tests, outcome}
 
 -- ---- lists of tests
 

@@ -1,13 +1,13 @@
 -- Which refusal a call is given (document 01, 'Refusals, by who causes them'): "The lowest applicable number is given, never another, and none without
 -- its condition." Each call has a list of tests in order; the first that applies gives its number, and 0 is done.
-use Prim.Native.Nat.{ℕ, zero, suc, _+_}
+use Prim.Native.Nat.{ℕ, _+_}
 use mathlib.Core.Bool.{Bool, true, false, _&&_, _||_, not}
 use mathlib.Core.List.{List, [], _∷_, _++_}
 use mathlib.Core.Option.{Option, none, some}
 use lib.Dec.{eqb, ltb, leb}
 use lib.ListN.{length, getD}
 use Rattle.vat.specs.Table.{sectorLength, limit, unused, isTable}
-use Rattle.disc.specs.Disc.{Disc, sized, formed, recorded, blanks, kindAt}
+use Rattle.disc.specs.Disc.{Disc, sized, formed, blanks, kindAt}
 use Rattle.disc.specs.Tables.{tableAt, previousAt, newest, Walk, reached, broken, ended, walk}
 use Rattle.volume.specs.declared.Volume.{Volume}
 use Rattle.volume.specs.Volume.{ledgerLength, idle, readOnly, unpack, fits}

@@ -3,13 +3,12 @@
 use Prim.Native.Nat.{ℕ, _+_, _%_, _≤_, _<_}
 use native.Mathlib.Nat.{mod-lt}
 use native.Mathlib.Omega.{arith}
-use mathlib.Core.Path.{_≡_, refl, sym, ap, ap₂, _∙_}
+use mathlib.Core.Path.{_≡_, refl, sym, ap₂, _∙_}
 use mathlib.Core.Bool.{Bool, true, _&&_}
 use mathlib.Core.List.{List, [], _∷_}
-use mathlib.Core.Logic.{inl, inr}
+use mathlib.Core.Logic.{inr}
 use lib.Dec.{lit<, lit≤}
 use lib.ListN.{length, take, drop}
-use lib.Seq.{sets}
 use borrow.Author.Tests.{eq-eqb}
 use Rattle.le.specs.Bytes.{total}
 use Rattle.le.specs.Field.{Row, row, le, readLe, putLe, lay}

@@ -1,19 +1,18 @@
 -- What the recording functions need of the sector's definition, on plain values.
 -- Assumes nothing.
-use Prim.Native.Nat.{ℕ, _+_, _*_, _≤_, _<_}
+use Prim.Native.Nat.{ℕ, _+_, _≤_, _<_}
 use native.Mathlib.Omega.{arith}
 use mathlib.Core.Path.{_≡_, refl, sym, ap, _∙_}
-use mathlib.Core.Bool.{Bool, true, _&&_}
-use mathlib.Core.List.{List, [], _∷_, _++_}
+use mathlib.Core.Bool.{true, _&&_}
+use mathlib.Core.List.{List, _++_}
 use lib.ListN.{length, replicate, length-replicate}
 use lib.Seq.{sets, length-sets}
 use Rattle.le.specs.Field.{Row, le, lay, holds, leWords}
 use Rattle.le.proofs.Bytes.{sets-append}
 use Rattle.le.proofs.Fields.{length-le}
-use Rattle.le.proofs.Rows.{apart, within, Fit, lay-append, holds-lay, holds-append}
+use Rattle.le.proofs.Rows.{lay-append, holds-lay, holds-append}
 use Rattle.le.proofs.Runs.{length-leWords}
-use Rattle.tag.specs.Tag.{crcLength}
-use Rattle.vat.specs.Table.{sectorLength, limit, tableAt, tableLength, regidAt, plainRows, lengthRows, tableName}
+use Rattle.vat.specs.Table.{sectorLength, limit, tableAt, regidAt, plainRows, lengthRows, tableName}
 use Rattle.vat.specs.Sector.{tableRegid, tableBytes, ownRows, stationAt, stationName, body}
 use Rattle.vat.proofs.Frame.{and-left, and-right, Lengths, lengths}
 

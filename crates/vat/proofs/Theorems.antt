@@ -4,27 +4,27 @@
 --     of-kind-1        a sector of any other kind is none
 --     tells            what is recognised holds at most 458 entries, each and its previous FFFFFFFF or below b; at block 0 all are FFFFFFFF
 -- Assumes nothing.
-use Prim.Native.Nat.{ℕ, zero, suc, _+_, _-_, _*_, _/_, _%_, _≤_, _<_}
+use Prim.Native.Nat.{ℕ, zero, suc, _+_, _*_, _≤_, _<_}
 use native.Mathlib.Nat.{not-suc-le-zero}
 use native.Mathlib.Omega.{arith}
-use mathlib.Core.Path.{_≡_, refl, sym, ap, ap₂, _∙_}
-use mathlib.Core.Bool.{Bool, true, false, _&&_, _||_, and-true, false≢true, true≢false}
+use mathlib.Core.Path.{_≡_, refl, sym, ap, _∙_}
+use mathlib.Core.Bool.{Bool, true, false, _&&_, _||_}
 use mathlib.Core.List.{List, [], _∷_, _++_, append-assoc}
 use mathlib.Core.Logic.{_⊎_, inl, inr}
-use lib.Dec.{eqb, ltb, leb, lit<, lit≤}
+use lib.Dec.{eqb, ltb, lit≤}
 use lib.ListN.{length, drop, getD, replicate, length-append, length-replicate}
 use lib.Seq.{sets}
 use borrow.Author.Tests.{eq-eqb, eqb-true, ltb-true, le-leb}
 use Rattle.le.specs.Bytes.{every, holdsText}
-use Rattle.le.specs.Field.{Row, row, le, readLe, putLe, words, leWords, holds, lay}
+use Rattle.le.specs.Field.{le, readLe, words, leWords, holds, lay}
 use Rattle.le.proofs.Bytes.{drop-sets, drop-sets-after}
 use Rattle.le.proofs.Fields.{length-le, read-le}
-use Rattle.le.proofs.Rows.{length-lay, holds-spared, holds-append, drop-lay, read-lay}
+use Rattle.le.proofs.Rows.{length-lay, holds-spared, holds-append, drop-lay}
 use Rattle.le.proofs.Runs.{length-leWords, drop-on, text-held, Words, words-read, length-words}
-use Rattle.tag.specs.Tag.{sealed, seal}
+use Rattle.tag.specs.Tag.{sealed}
 use Rattle.vat.specs.Table.{sectorLength, limit, unused, tableAt, tableLength, regidAt, plainRows, lengthRows, embedded, tableName, unusedOrBelow, entryCount, entriesOf, previousOf, framed, isTable}
 use Rattle.vat.specs.Sector.{tableRegid, tableBytes, ownRows, stationName, stationAt, body, sector}
-use Rattle.vat.proofs.Frame.{and-left, and-right, Lengths, lengths, Framed, framed-tells}
+use Rattle.vat.proofs.Frame.{and-left, and-right, lengths, Framed, framed-tells}
 use Rattle.vat.proofs.Record.{header, header-held, length-body}
 use Rattle.tag.proofs.Sums.{sealRows, seal-lays, sealed-seal}
 

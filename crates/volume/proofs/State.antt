@@ -3,12 +3,12 @@
 use Prim.Native.Nat.{ℕ, zero, suc, _+_, _-_, _*_, _^_, _≤_, _<_}
 use native.Mathlib.Nat.{pow-suc}
 use native.Mathlib.Omega.{arith}
-use mathlib.Core.Path.{_≡_, refl, sym, ap, ap₂, _∙_, subst}
-use mathlib.Core.Bool.{Bool, true, false, _&&_, _||_}
-use mathlib.Core.List.{List, [], _∷_, _++_, append-assoc, append-nil}
-use lib.Dec.{eqb, lit<, lit≤}
+use mathlib.Core.Path.{_≡_, refl, sym, ap, _∙_, subst}
+use mathlib.Core.Bool.{Bool, true, false}
+use mathlib.Core.List.{List, [], _∷_, _++_, append-nil}
+use lib.Dec.{eqb, lit<}
 use lib.ListN.{length, getD, take, drop, set, replicate, length-set, length-append, length-replicate, length-drop, take-append-drop}
-use lib.Seq.{drop-drop, take-at, take-add, take-all, take-set-lt, take-suc, take-suc-set, take-append-le, length-take-le}
+use lib.Seq.{drop-drop, take-at, take-all, take-set-lt, take-suc-set, length-take-le}
 use lib.Arith.{lt-of-le-ne}
 use native.Mathlib.Numerals.{add-one}
 use borrow.Author.Tests.{eqb-true, eqb-false}
@@ -17,7 +17,7 @@ use Rattle.le.proofs.Fields.{length-le, read-le}
 use Rattle.le.proofs.Runs.{Words, words-read, length-words, length-leWords, words-none, words-step, drop-on, AllBytes, byte-at, le-read, leWords-words}
 use Rattle.vat.specs.Table.{limit, unused}
 use Rattle.volume.specs.declared.Volume.{Volume}
-use Rattle.volume.specs.Volume.{entriesLength, ledgerLength, unpack, pack, idle, packetOpen, readOnly, mapOf, begun, filled, grown, wrote, released, closed, committed}
+use Rattle.volume.specs.Volume.{entriesLength, ledgerLength, unpack, pack, mapOf, begun, filled, grown, wrote, released, closed, committed}
 
 -- every number of the state has 32 bits, and there are 458 entries
 pub record Proper (v : Volume) : Type 0 where

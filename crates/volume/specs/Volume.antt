@@ -1,9 +1,9 @@
 -- The volume's working state (document 01: the ledger): 1,848 bytes, what they say, when they fit a disc, and what each call makes of them.
-use Prim.Native.Nat.{ℕ, zero, suc, _+_, _-_, _*_}
+use Prim.Native.Nat.{ℕ, _+_, _-_, _*_}
 use mathlib.Core.Bool.{Bool, true, false, _&&_, _||_, not}
-use mathlib.Core.List.{List, [], _∷_, _++_}
+use mathlib.Core.List.{List, _++_}
 use lib.Dec.{eqb, ltb, leb}
-use lib.ListN.{length, getD, take, drop, set, replicate}
+use lib.ListN.{length, take, drop, set, replicate}
 use Rattle.le.specs.Bytes.{every}
 use Rattle.le.specs.Field.{le, readLe, words, leWords}
 use Rattle.vat.specs.Table.{limit, unused, unusedOrBelow}

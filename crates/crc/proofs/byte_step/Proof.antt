@@ -1,6 +1,6 @@
 -- `crc::byte_step` meets its contract: the steps that are left, taken from here, give the answer.
 -- Assumes nothing.
-use mathlib.Core.Path.{_≡_, refl, ap, sym, _∙_}
+use mathlib.Core.Path.{_≡_, ap, sym, _∙_}
 use mathlib.Core.Bool.{Bool}
 use mathlib.Core.Logic.{⊎-elim}
 use Prim.Native.Nat.{ℕ, _-_, _*_, _/_, _%_}
@@ -12,8 +12,6 @@ use Rattle.crc.specs.Crc.{reduced, bitStep, bitSteps, byteStep}
 use Rattle.crc.proofs.Laws.{bit-taken}
 use Rattle.crc.proofs.byte_step.Statement.{statement}
 use Rattle.crc.proofs.byte_step.Tie as tie
-use Rattle.crc.proofs.byte_step.Reads as reads
-use Rattle.crc.proofs.byte_step.Lts as lts
 
 abbrev Inv-loop : tie.InvT-loop
 Inv-loop crc x c₀ left₀ c left = bitSteps left c ≡ byteStep crc x

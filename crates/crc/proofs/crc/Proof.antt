@@ -9,8 +9,6 @@ use Rattle.crc.specs.Crc.{crcFrom, crcOf}
 use Rattle.crc.proofs.Laws.{byte-taken}
 use Rattle.crc.proofs.crc.Statement.{statement}
 use Rattle.crc.proofs.crc.Tie as tie
-use Rattle.crc.proofs.crc.Reads as reads
-use Rattle.crc.proofs.crc.Lts as lts
 
 abbrev Inv-loop : tie.InvT-loop
 Inv-loop s c₀ i₀ c i = (i ≤ length s) × (crcFrom c (drop i s) ≡ crcOf s)

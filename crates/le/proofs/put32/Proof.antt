@@ -1,3 +1,5 @@
+-- `le::put32` meets its contract: four stores, one behind the other.
+-- Assumes nothing.
 use borrow.Author.Needs.{needs}
 use Rattle.le.specs.Field.{le}
 use native.Mathlib.Omega.{arith}
@@ -5,58 +7,43 @@ use native.Mathlib.Numerals.{towards-suc}
 use lib.ListN.{length-set}
 use Rattle.le.proofs.put32.Statement.{statement}
 use Rattle.le.proofs.put32.Tie as tie
-use Rattle.le.proofs.put32.Reads as reads
-use Rattle.le.proofs.put32.Lts as lts
 
--- src/lib.rt:83:13
 cast-s : tie.Need-cast-s
 cast-s c = search needs
 
--- src/lib.rt:83:5
 slice-write-s : tie.Need-slice-write-s
 slice-write-s c = search needs
 
--- src/lib.rt:84:17
 cast-s-2 : tie.Need-cast-s-2
 cast-s-2 c = search needs
 
--- src/lib.rt:84:7
 add-s : tie.Need-add-s
 add-s c = search needs
 
--- src/lib.rt:84:5
 slice-write-s-2 : tie.Need-slice-write-s-2
 slice-write-s-2 c = simp length-set (omega arith)
 
--- src/lib.rt:85:17
 cast-s-3 : tie.Need-cast-s-3
 cast-s-3 c = search needs
 
--- src/lib.rt:85:7
 add-s-2 : tie.Need-add-s-2
 add-s-2 c = search needs
 
--- src/lib.rt:85:5
 slice-write-s-3 : tie.Need-slice-write-s-3
 slice-write-s-3 c = simp length-set (omega arith)
 
--- src/lib.rt:86:17
 cast-s-4 : tie.Need-cast-s-4
 cast-s-4 c = search needs
 
--- src/lib.rt:86:7
 add-s-3 : tie.Need-add-s-3
 add-s-3 c = search needs
 
--- src/lib.rt:86:5
 slice-write-s-4 : tie.Need-slice-write-s-4
 slice-write-s-4 c = simp length-set (omega arith)
 
--- src/lib.rt:76:1
 same-length : tie.Need-same-length
 same-length c = search needs
 
--- src/lib.rt:76:1
 returns : tie.Need-returns
 unfolding le
 returns c = simp towards-suc

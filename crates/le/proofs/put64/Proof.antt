@@ -1,3 +1,5 @@
+-- `le::put64` meets its contract: a number put in two halves is put whole.
+-- Assumes nothing.
 use borrow.Author.Needs.{needs}
 use Prim.Native.Nat.{ℕ, _+_, _/_}
 use mathlib.Core.Path.{_∙_, ap}
@@ -7,35 +9,25 @@ use Rattle.le.specs.Field.{putLe}
 use Rattle.le.proofs.Fields.{put-add}
 use Rattle.le.proofs.put64.Statement.{statement}
 use Rattle.le.proofs.put64.Tie as tie
-use Rattle.le.proofs.put64.Reads as reads
-use Rattle.le.proofs.put64.Lts as lts
-use Rattle.le.proofs.put32.Reads as put32-reads
 
--- src/lib.rt:93:18
 cast-put32 : tie.Need-cast-put32
 cast-put32 c = search needs
 
--- src/lib.rt:93:5
 put32-requires : tie.Need-put32-requires
 put32-requires c κs = search needs
 
--- src/lib.rt:94:14
 add-put32 : tie.Need-add-put32
 add-put32 c = search needs
 
--- src/lib.rt:94:22
 cast-put32-2 : tie.Need-cast-put32-2
 cast-put32-2 c = search needs
 
--- src/lib.rt:94:5
 put32-requires-2 : tie.Need-put32-requires-2
 put32-requires-2 c κs = search needs
 
--- src/lib.rt:89:1
 same-length : tie.Need-same-length
 same-length c = search needs
 
--- src/lib.rt:89:1
 returns : tie.Need-returns
 returns c =
     let a = c .before .before .before .before .before .before .before .before .before .args in

@@ -1,20 +1,17 @@
+-- `le::put8` meets its contract: a byte is its own low byte.
+-- Assumes nothing.
 use borrow.Author.Needs.{needs}
 use Rattle.le.specs.Field.{le}
 use native.Mathlib.Nat.{mod-eq-of-lt}
 use Rattle.le.proofs.put8.Statement.{statement}
 use Rattle.le.proofs.put8.Tie as tie
-use Rattle.le.proofs.put8.Reads as reads
-use Rattle.le.proofs.put8.Lts as lts
 
--- src/lib.rt:64:5
 slice-write-s : tie.Need-slice-write-s
 slice-write-s c = search needs
 
--- src/lib.rt:60:1
 same-length : tie.Need-same-length
 same-length c = search needs
 
--- src/lib.rt:60:1
 returns : tie.Need-returns
 unfolding le
 returns c = rw (mod-eq-of-lt (c .fits .x .fits))

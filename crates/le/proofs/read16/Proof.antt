@@ -1,29 +1,23 @@
+-- `le::read16` meets its contract: two bytes, joined as the definition nests them.
+-- Assumes nothing.
 use borrow.Author.Needs.{needs}
 use native.Mathlib.Omega.{arith}
 use Rattle.le.specs.Field.{readLe}
 use Rattle.le.proofs.read16.Statement.{statement}
 use Rattle.le.proofs.read16.Tie as tie
-use Rattle.le.proofs.read16.Reads as reads
-use Rattle.le.proofs.read16.Lts as lts
-use Rattle.le.proofs.join16.Reads as join16-reads
 
--- src/lib.rt:37:13
 add-b : tie.Need-add-b
 add-b c = search needs
 
--- src/lib.rt:38:12
 shared-slice-read-join16 : tie.Need-shared-slice-read-join16
 shared-slice-read-join16 c = search needs
 
--- src/lib.rt:38:19
 shared-slice-read-join16-2 : tie.Need-shared-slice-read-join16-2
 shared-slice-read-join16-2 c = search needs
 
--- src/lib.rt:38:5
 join16-requires : tie.Need-join16-requires
 join16-requires c κs = search needs
 
--- src/lib.rt:33:1
 returns : tie.Need-returns
 unfolding readLe
 returns c = omega arith

@@ -1,3 +1,5 @@
+-- `le::read64` meets its contract: two fields of 32 bits side by side are one of 64.
+-- Assumes nothing.
 use borrow.Author.Needs.{needs}
 use Prim.Native.Nat.{ℕ, _+_, _*_}
 use mathlib.Core.Path.{_∙_, sym, ap₂}
@@ -5,28 +7,19 @@ use denote.Ref.{now}
 use Rattle.le.proofs.Fields.{read-add}
 use Rattle.le.proofs.read64.Statement.{statement}
 use Rattle.le.proofs.read64.Tie as tie
-use Rattle.le.proofs.read64.Reads as reads
-use Rattle.le.proofs.read64.Lts as lts
-use Rattle.le.proofs.join64.Reads as join64-reads
-use Rattle.le.proofs.read32.Reads as read32-reads
 
--- src/lib.rt:55:9
 read32-requires : tie.Need-read32-requires
 read32-requires c κs = search needs
 
--- src/lib.rt:56:26
 add-read32 : tie.Need-add-read32
 add-read32 c = search needs
 
--- src/lib.rt:56:9
 read32-requires-2 : tie.Need-read32-requires-2
 read32-requires-2 c κs = search needs
 
--- src/lib.rt:57:5
 join64-requires : tie.Need-join64-requires
 join64-requires c κs = search needs
 
--- src/lib.rt:51:1
 returns : tie.Need-returns
 returns c =
     let a = c .before .before .before .before .args in

@@ -11,10 +11,6 @@ use Rattle.tag.specs.Tag.{bodyCrc}
 use borrow.Author.Needs.{needs}
 use Rattle.tag.proofs.body_crc.Statement.{statement}
 use Rattle.tag.proofs.body_crc.Tie as tie
-use Rattle.tag.proofs.body_crc.Reads as reads
-use Rattle.tag.proofs.body_crc.Lts as lts
-use Rattle.crc.proofs.crc.Reads as crc-reads
-use Rattle.le.proofs.read16.Reads as read16-reads
 
 read16-requires : tie.Need-read16-requires
 read16-requires c κs = search needs

@@ -5,9 +5,6 @@ use Rattle.tag.specs.Tag.{checksum}
 use borrow.Author.Needs.{needs}
 use Rattle.tag.proofs.checksum.Statement.{statement}
 use Rattle.tag.proofs.checksum.Tie as tie
-use Rattle.tag.proofs.checksum.Reads as reads
-use Rattle.tag.proofs.checksum.Lts as lts
-use Rattle.le.proofs.run.byte_sum.Reads as byte-sum-reads
 
 sub-byte-sum : tie.Need-sub-byte-sum
 sub-byte-sum c = search needs

@@ -8,12 +8,6 @@ use Rattle.tag.specs.Tag.{bodyCrc, checked, seal}
 use borrow.Author.Needs.{needs}
 use Rattle.tag.proofs.seal.Statement.{statement}
 use Rattle.tag.proofs.seal.Tie as tie
-use Rattle.tag.proofs.seal.Reads as reads
-use Rattle.tag.proofs.seal.Lts as lts
-use Rattle.le.proofs.put16.Reads as put16-reads
-use Rattle.le.proofs.put8.Reads as put8-reads
-use Rattle.tag.proofs.body_crc.Reads as body-crc-reads
-use Rattle.tag.proofs.checksum.Reads as checksum-reads
 
 body-crc-requires : tie.Need-body-crc-requires
 body-crc-requires c κs = search needs

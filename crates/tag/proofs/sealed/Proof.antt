@@ -11,12 +11,6 @@ use Rattle.tag.specs.Tag.{checksum, sealed}
 use borrow.Author.Needs.{needs}
 use Rattle.tag.proofs.sealed.Statement.{statement}
 use Rattle.tag.proofs.sealed.Tie as tie
-use Rattle.tag.proofs.sealed.Reads as reads
-use Rattle.tag.proofs.sealed.Lts as lts
-use Rattle.le.proofs.read16.Reads as read16-reads
-use Rattle.le.proofs.read8.Reads as read8-reads
-use Rattle.tag.proofs.body_crc.Reads as body-crc-reads
-use Rattle.tag.proofs.checksum.Reads as checksum-reads
 
 read8-requires : tie.Need-read8-requires
 read8-requires c κs = search needs

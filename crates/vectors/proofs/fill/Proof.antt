@@ -1,15 +1,12 @@
 -- `vectors::fill` is safe and ends: the entries keep their count.
 -- Assumes nothing.
-use Prim.Native.Nat.{_-_, _≤_, _<_}
+use Prim.Native.Nat.{_-_, _≤_}
 use mathlib.Core.Path.{_≡_}
 use native.Mathlib.Omega.{arith}
 use borrow.Author.Needs.{needs}
 use lib.ListN.{length, length-set}
 use Rattle.vectors.proofs.fill.Statement.{statement}
 use Rattle.vectors.proofs.fill.Tie as tie
-use Rattle.vectors.proofs.fill.Reads as reads
-use Rattle.vectors.proofs.fill.Lts as lts
-use Rattle.vectors.proofs.third.Reads as third-reads
 
 abbrev Inv-loop : tie.InvT-loop
 Inv-loop map₀ i₀ map i = (i ≤ length map) × (length map ≡ length map₀)

@@ -7,8 +7,6 @@ use borrow.Author.Needs.{needs}
 use lib.ListN.{length, length-set}
 use Rattle.vectors.proofs.ramp.Statement.{statement}
 use Rattle.vectors.proofs.ramp.Tie as tie
-use Rattle.vectors.proofs.ramp.Reads as reads
-use Rattle.vectors.proofs.ramp.Lts as lts
 
 abbrev Inv-loop : tie.InvT-loop
 Inv-loop s₀ i₀ x₀ s i x = (i ≤ length s) × (x < 256) × (length s ≡ length s₀)

@@ -1,20 +1,11 @@
 -- `vectors::show_map` is safe and ends: the index stays below the count.
 -- Assumes nothing.
-use Prim.Native.Nat.{_-_, _≤_, _<_}
+use Prim.Native.Nat.{_-_, _≤_}
 use mathlib.Core.Path.{_≡_}
-use native.Mathlib.Omega.{arith}
 use borrow.Author.Needs.{needs}
-use lib.ListN.{length, length-set}
+use lib.ListN.{length}
 use Rattle.vectors.proofs.show_map.Statement.{statement}
 use Rattle.vectors.proofs.show_map.Tie as tie
-use Rattle.vectors.proofs.show_map.Reads as reads
-use Rattle.vectors.proofs.show_map.Lts as lts
-use Rattle.io.proofs.print_decimal.Reads as print-decimal-reads
-use Rattle.io.proofs.print_hex.Reads as print-hex-reads
-use Rattle.vat.proofs.table.entry.Reads as entry-reads
-use Rattle.vat.proofs.table.entry_count.Reads as entry-count-reads
-use Rattle.vat.proofs.table.previous.Reads as previous-reads
-use Rattle.vectors.proofs.say.Reads as say-reads
 
 abbrev Inv-loop : tie.InvT-loop
 Inv-loop s n i₀ t5 t6 t7 i = (i ≤ n) × (length t5 ≡ 1) × (length t6 ≡ 10) × (length t7 ≡ 1)

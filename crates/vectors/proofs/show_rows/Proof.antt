@@ -1,16 +1,11 @@
 -- `vectors::show_rows` is safe and ends: the index stays within the bytes.
 -- Assumes nothing.
-use Prim.Native.Nat.{_-_, _≤_, _<_}
+use Prim.Native.Nat.{_-_, _≤_}
 use mathlib.Core.Path.{_≡_}
-use native.Mathlib.Omega.{arith}
 use borrow.Author.Needs.{needs}
-use lib.ListN.{length, length-set}
+use lib.ListN.{length}
 use Rattle.vectors.proofs.show_rows.Statement.{statement}
 use Rattle.vectors.proofs.show_rows.Tie as tie
-use Rattle.vectors.proofs.show_rows.Reads as reads
-use Rattle.vectors.proofs.show_rows.Lts as lts
-use Rattle.vectors.proofs.say.Reads as say-reads
-use Rattle.vectors.proofs.show_byte.Reads as show-byte-reads
 
 abbrev Inv-loop : tie.InvT-loop
 Inv-loop s i₀ t3 i = (i ≤ length s) × (length t3 ≡ 1)

@@ -1,7 +1,7 @@
 -- `le::run::byte_sum` meets its contract: the sum so far and the sum of what is left make the whole, modulo 256.
 -- Assumes nothing.
 use Prim.Native.Nat.{ℕ, _+_, _-_, _%_, _≤_, _<_}
-use mathlib.Core.Path.{_≡_, refl, sym, ap, _∙_}
+use mathlib.Core.Path.{_≡_, ap, _∙_}
 use native.Mathlib.Nat.{zero-add}
 use native.Mathlib.Omega.{arith}
 use lib.ListN.{length, drop, drop-of-length-le}
@@ -9,9 +9,6 @@ use Rattle.le.specs.Bytes.{total}
 use Rattle.le.proofs.Runs.{total-taken}
 use Rattle.le.proofs.run.byte_sum.Statement.{statement}
 use Rattle.le.proofs.run.byte_sum.Tie as tie
-use Rattle.le.proofs.run.byte_sum.Reads as reads
-use Rattle.le.proofs.run.byte_sum.Lts as lts
-use Rattle.le.proofs.run.wide.Reads as wide-reads
 
 abbrev Inv-loop : tie.InvT-loop
 Inv-loop s sum₀ i₀ sum i = (i ≤ length s) × (sum < 256) × ((sum + total (drop i s)) % 256 ≡ total s % 256)

@@ -1,7 +1,7 @@
 -- `le::run::clear` meets its contract: zeros so far, then what was there.
 -- Assumes nothing.
-use Prim.Native.Nat.{ℕ, _+_, _-_, _≤_}
-use mathlib.Core.Path.{_≡_, refl, sym, ap, _∙_}
+use Prim.Native.Nat.{ℕ, _-_, _≤_}
+use mathlib.Core.Path.{_≡_, refl, ap, _∙_}
 use mathlib.Core.List.{List, _++_, append-nil}
 use native.Mathlib.Nat.{le-refl}
 use native.Mathlib.Omega.{arith}
@@ -9,8 +9,6 @@ use borrow.Author.Fill.{fill-more}
 use lib.ListN.{length, drop, set, replicate, length-set, drop-of-length-le}
 use Rattle.le.proofs.run.clear.Statement.{statement}
 use Rattle.le.proofs.run.clear.Tie as tie
-use Rattle.le.proofs.run.clear.Reads as reads
-use Rattle.le.proofs.run.clear.Lts as lts
 
 abbrev Inv-loop : tie.InvT-loop
 Inv-loop s₀ i₀ s i = (i ≤ length s) × (length s ≡ length s₀) × (s ≡ replicate i 0 ++ drop i s₀)

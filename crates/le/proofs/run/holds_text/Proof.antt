@@ -1,7 +1,7 @@
 -- `le::run::holds_text` meets its contract: what is left of the text decides the rest.
 -- Assumes nothing.
-use Prim.Native.Nat.{ℕ, _+_, _-_, _≤_}
-use mathlib.Core.Path.{_≡_, refl, sym, ap, _∙_}
+use Prim.Native.Nat.{_+_, _-_, _≤_}
+use mathlib.Core.Path.{_≡_, refl, sym, _∙_}
 use mathlib.Core.Bool.{_&&_, and-true}
 use native.Mathlib.Omega.{arith}
 use lib.ListN.{length, drop, drop-of-length-le}
@@ -9,8 +9,6 @@ use Rattle.le.specs.Bytes.{holdsText}
 use Rattle.le.proofs.Runs.{text-taken}
 use Rattle.le.proofs.run.holds_text.Statement.{statement}
 use Rattle.le.proofs.run.holds_text.Tie as tie
-use Rattle.le.proofs.run.holds_text.Reads as reads
-use Rattle.le.proofs.run.holds_text.Lts as lts
 
 abbrev Inv-loop : tie.InvT-loop
 Inv-loop s at text same₀ i₀ place₀ same i place = (i ≤ length text) × (place ≡ at + i) × ((same && holdsText s place (drop i text)) ≡ holdsText s at text)

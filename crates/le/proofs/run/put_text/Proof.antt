@@ -1,7 +1,7 @@
 -- `le::run::put_text` meets its contract: what is left, put from here, gives the whole.
 -- Assumes nothing.
 use Prim.Native.Nat.{ℕ, _+_, _-_, _≤_}
-use mathlib.Core.Path.{_≡_, refl, sym, ap, _∙_}
+use mathlib.Core.Path.{_≡_, refl, _∙_}
 use mathlib.Core.List.{List}
 use native.Mathlib.Omega.{arith}
 use lib.ListN.{length, drop, getD, length-set, drop-of-length-le}
@@ -9,8 +9,6 @@ use lib.Seq.{sets}
 use Rattle.le.proofs.Runs.{byte-put}
 use Rattle.le.proofs.run.put_text.Statement.{statement}
 use Rattle.le.proofs.run.put_text.Tie as tie
-use Rattle.le.proofs.run.put_text.Reads as reads
-use Rattle.le.proofs.run.put_text.Lts as lts
 
 abbrev Inv-loop : tie.InvT-loop
 Inv-loop s₀ at text i₀ place₀ s i place = (i ≤ length text) × (place ≡ at + i) × (length s ≡ length s₀) × (sets s place (drop i text) ≡ sets s₀ at text)

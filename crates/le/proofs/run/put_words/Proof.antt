@@ -1,19 +1,15 @@
 -- `le::run::put_words` meets its contract: what is left, put from here, gives the whole.
 -- Assumes nothing.
 use Prim.Native.Nat.{ℕ, _+_, _-_, _*_, _≤_}
-use mathlib.Core.Path.{_≡_, refl, sym, ap, _∙_}
+use mathlib.Core.Path.{_≡_, refl, ap, _∙_}
 use mathlib.Core.List.{List}
 use native.Mathlib.Omega.{arith}
-use borrow.Author.Needs.{needs}
 use lib.ListN.{length, drop, drop-of-length-le}
 use lib.Seq.{sets}
 use Rattle.le.specs.Field.{leWords}
 use Rattle.le.proofs.Runs.{word-put}
 use Rattle.le.proofs.run.put_words.Statement.{statement}
 use Rattle.le.proofs.run.put_words.Tie as tie
-use Rattle.le.proofs.run.put_words.Reads as reads
-use Rattle.le.proofs.run.put_words.Lts as lts
-use Rattle.le.proofs.put32.Reads as put32-reads
 
 abbrev Inv-loop : tie.InvT-loop
 Inv-loop s₀ at xs i₀ place₀ s i place = (i ≤ length xs) × (place ≡ at + 4 * i) × (length s ≡ length s₀) × (sets s place (leWords (drop i xs)) ≡ sets s₀ at (leWords xs))

@@ -5,11 +5,6 @@ use Rattle.vat.specs.Table.{lengthRows}
 use borrow.Author.Needs.{needs}
 use Rattle.vat.proofs.sector.put_lengths.Statement.{statement}
 use Rattle.vat.proofs.sector.put_lengths.Tie as tie
-use Rattle.vat.proofs.sector.put_lengths.Reads as reads
-use Rattle.vat.proofs.sector.put_lengths.Lts as lts
-use Rattle.le.proofs.put16.Reads as put16-reads
-use Rattle.le.proofs.put32.Reads as put32-reads
-use Rattle.le.proofs.put64.Reads as put64-reads
 
 mul-length : tie.Need-mul-length
 mul-length c = search needs

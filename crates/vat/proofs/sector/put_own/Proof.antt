@@ -5,10 +5,6 @@ use Rattle.vat.specs.Sector.{ownRows}
 use borrow.Author.Needs.{needs}
 use Rattle.vat.proofs.sector.put_own.Statement.{statement}
 use Rattle.vat.proofs.sector.put_own.Tie as tie
-use Rattle.vat.proofs.sector.put_own.Reads as reads
-use Rattle.vat.proofs.sector.put_own.Lts as lts
-use Rattle.le.proofs.put16.Reads as put16-reads
-use Rattle.le.proofs.put32.Reads as put32-reads
 
 put16-requires : tie.Need-put16-requires
 put16-requires c κs = search needs

@@ -5,11 +5,6 @@ use Rattle.vat.specs.Table.{plainRows}
 use borrow.Author.Needs.{needs}
 use Rattle.vat.proofs.sector.put_plain.Statement.{statement}
 use Rattle.vat.proofs.sector.put_plain.Tie as tie
-use Rattle.vat.proofs.sector.put_plain.Reads as reads
-use Rattle.vat.proofs.sector.put_plain.Lts as lts
-use Rattle.le.proofs.put16.Reads as put16-reads
-use Rattle.le.proofs.put32.Reads as put32-reads
-use Rattle.le.proofs.put8.Reads as put8-reads
 
 put16-requires : tie.Need-put16-requires
 put16-requires c κs = search needs

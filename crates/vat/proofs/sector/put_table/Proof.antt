@@ -11,13 +11,6 @@ use Rattle.vat.proofs.Record.{table-put}
 use borrow.Author.Needs.{needs}
 use Rattle.vat.proofs.sector.put_table.Statement.{statement}
 use Rattle.vat.proofs.sector.put_table.Tie as tie
-use Rattle.vat.proofs.sector.put_table.Reads as reads
-use Rattle.vat.proofs.sector.put_table.Lts as lts
-use Rattle.le.proofs.put32.Reads as put32-reads
-use Rattle.le.proofs.put64.Reads as put64-reads
-use Rattle.le.proofs.put8.Reads as put8-reads
-use Rattle.le.proofs.run.put_text.Reads as put-text-reads
-use Rattle.le.proofs.run.put_words.Reads as put-words-reads
 
 mul-regid : tie.Need-mul-regid
 mul-regid c = search needs

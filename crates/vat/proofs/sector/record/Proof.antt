@@ -1,8 +1,8 @@
 -- `vat::sector::record` meets its contract: zeros, the table, the name, the header and the sums, in this order.
 -- Assumes nothing.
-use Prim.Native.Nat.{ℕ, _+_}
+use Prim.Native.Nat.{ℕ}
 use native.Mathlib.Omega.{arith}
-use mathlib.Core.Path.{_≡_, refl, ap, _∙_}
+use mathlib.Core.Path.{_≡_, ap, _∙_}
 use mathlib.Core.List.{List}
 use lib.ListN.{length}
 use Rattle.le.specs.Field.{lay}
@@ -15,15 +15,6 @@ use Rattle.vat.proofs.Record.{header, header-lengths, header-laid, leng
 use borrow.Author.Needs.{needs}
 use Rattle.vat.proofs.sector.record.Statement.{statement}
 use Rattle.vat.proofs.sector.record.Tie as tie
-use Rattle.vat.proofs.sector.record.Reads as reads
-use Rattle.vat.proofs.sector.record.Lts as lts
-use Rattle.le.proofs.run.clear.Reads as clear-reads
-use Rattle.le.proofs.run.put_text.Reads as put-text-reads
-use Rattle.vat.proofs.sector.put_lengths.Reads as put-lengths-reads
-use Rattle.vat.proofs.sector.put_own.Reads as put-own-reads
-use Rattle.vat.proofs.sector.put_plain.Reads as put-plain-reads
-use Rattle.vat.proofs.sector.put_table.Reads as put-table-reads
-use Rattle.tag.proofs.seal.Reads as seal-reads
 
 -- what is sealed: the header laid over the body
 laid : (c : tie.After-seal-arg)

@@ -12,10 +12,6 @@ use Rattle.vat.specs.Table.{tableAt, unusedOrBelow}
 use Rattle.vat.proofs.Frame.{word-taken}
 use Rattle.vat.proofs.table.entries_held.Statement.{statement}
 use Rattle.vat.proofs.table.entries_held.Tie as tie
-use Rattle.vat.proofs.table.entries_held.Reads as reads
-use Rattle.vat.proofs.table.entries_held.Lts as lts
-use Rattle.le.proofs.read32.Reads as read32-reads
-use Rattle.vat.proofs.table.may_name.Reads as may-name-reads
 
 abbrev Inv-loop : tie.InvT-loop
 Inv-loop s n b held₀ at₀ left₀ held at left = (at + 4 * left ≤ length s) × ((held && every (unusedOrBelow b) (words left s at)) ≡ every (unusedOrBelow b) (words n s tableAt))

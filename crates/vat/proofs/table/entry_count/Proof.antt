@@ -5,9 +5,6 @@ use Rattle.vat.specs.Table.{entryCount}
 use borrow.Author.Needs.{needs}
 use Rattle.vat.proofs.table.entry_count.Statement.{statement}
 use Rattle.vat.proofs.table.entry_count.Tie as tie
-use Rattle.vat.proofs.table.entry_count.Reads as reads
-use Rattle.vat.proofs.table.entry_count.Lts as lts
-use Rattle.le.proofs.read32.Reads as read32-reads
 
 read32-requires : tie.Need-read32-requires
 read32-requires c κs = search needs

@@ -1,27 +1,18 @@
 -- `vat::table::framed` meets its contract: the plain rows decide first, then the entry count, then the rest together.
 -- Assumes nothing.
-use Prim.Native.Nat.{ℕ, _≤_, _<_}
+use Prim.Native.Nat.{ℕ}
 use native.Mathlib.Omega.{arith}
-use mathlib.Core.Path.{_≡_, sym, ap, _∙_}
-use mathlib.Core.Bool.{true, false, _&&_, and-false}
+use mathlib.Core.Path.{_≡_, sym, _∙_}
+use mathlib.Core.Bool.{true, false, and-false}
 use mathlib.Core.List.{List}
 use lib.Bits.{and-mask}
-use lib.Dec.{eqb, leb}
+use lib.Dec.{leb}
 use borrow.Author.Tests.{le-leb, lt-leb, not-true, not-false}
-use Rattle.le.specs.Field.{readLe, holds}
-use Rattle.vat.specs.Table.{limit, plainRows, lengthRows, embedded, tableName, entryCount, framed}
+use Rattle.le.specs.Field.{holds}
+use Rattle.vat.specs.Table.{limit, plainRows, embedded, tableName, entryCount, framed}
 use borrow.Author.Needs.{needs}
 use Rattle.vat.proofs.table.framed.Statement.{statement}
 use Rattle.vat.proofs.table.framed.Tie as tie
-use Rattle.vat.proofs.table.framed.Reads as reads
-use Rattle.vat.proofs.table.framed.Lts as lts
-use Rattle.le.proofs.read16.Reads as read16-reads
-use Rattle.le.proofs.run.holds_text.Reads as holds-text-reads
-use Rattle.vat.proofs.table.entry_count.Reads as entry-count-reads
-use Rattle.vat.proofs.table.lengths_held.Reads as lengths-held-reads
-use Rattle.vat.proofs.table.may_name.Reads as may-name-reads
-use Rattle.vat.proofs.table.plain_held.Reads as plain-held-reads
-use Rattle.vat.proofs.table.previous.Reads as previous-reads
 
 plain-held-requires : tie.Need-plain-held-requires
 plain-held-requires c κs = search needs

@@ -1,27 +1,20 @@
 -- `vat::table::is_table` meets its contract: each test that fails settles the answer, in the order of the definition.
 -- Assumes nothing.
-use Prim.Native.Nat.{ℕ, _+_, _≤_}
+use Prim.Native.Nat.{ℕ}
 use native.Mathlib.Omega.{arith}
 use mathlib.Core.Path.{_≡_, sym, ap, _∙_}
-use mathlib.Core.Bool.{true, false, _&&_}
+use mathlib.Core.Bool.{true, false}
 use mathlib.Core.List.{List}
 use lib.Dec.{eqb}
 use lib.ListN.{length}
 use borrow.Author.Tests.{eq-eqb, ne-eqb, not-true, not-false}
 use Rattle.le.specs.Bytes.{every}
 use Rattle.le.specs.Field.{words}
-use Rattle.tag.specs.Tag.{crcLength, sealed}
 use Rattle.vat.specs.Table.{sectorLength, tableAt, unusedOrBelow, entryCount, entriesOf, framed, isTable}
 use Rattle.vat.proofs.Frame.{Framed, framed-tells}
 use borrow.Author.Needs.{needs}
 use Rattle.vat.proofs.table.is_table.Statement.{statement}
 use Rattle.vat.proofs.table.is_table.Tie as tie
-use Rattle.vat.proofs.table.is_table.Reads as reads
-use Rattle.vat.proofs.table.is_table.Lts as lts
-use Rattle.vat.proofs.table.entries_held.Reads as entries-held-reads
-use Rattle.vat.proofs.table.entry_count.Reads as entry-count-reads
-use Rattle.vat.proofs.table.framed.Reads as framed-reads
-use Rattle.tag.proofs.sealed.Reads as sealed-reads
 
 data-sector : (c : tie.Else1) → eqb (c .before .before .args .kind) 1 ≡ true
 data-sector c = eq-eqb (c .before .before .args .kind) 1 (c .if1 .left)

@@ -6,11 +6,6 @@ use mathlib.Core.Bool.{and-true}
 use borrow.Author.Needs.{needs}
 use Rattle.vat.proofs.table.lengths_held.Statement.{statement}
 use Rattle.vat.proofs.table.lengths_held.Tie as tie
-use Rattle.vat.proofs.table.lengths_held.Reads as reads
-use Rattle.vat.proofs.table.lengths_held.Lts as lts
-use Rattle.le.proofs.read16.Reads as read16-reads
-use Rattle.le.proofs.read32.Reads as read32-reads
-use Rattle.le.proofs.read64.Reads as read64-reads
 
 mul-length : tie.Need-mul-length
 mul-length c = search needs

@@ -1,6 +1,5 @@
 -- `vat::table::plain_held` meets its contract: the identifier decides first, then all the other rows together.
 -- Assumes nothing.
-use native.Mathlib.Omega.{arith}
 use Rattle.le.specs.Field.{holds}
 use Rattle.vat.specs.Table.{sectorLength, plainRows}
 use Prim.Native.Nat.{ℕ, _≤_}
@@ -11,14 +10,8 @@ use lib.Dec.{eqb, lit≤}
 use lib.ListN.{length}
 use borrow.Author.Tests.{eq-eqb, ne-eqb}
 use Rattle.le.specs.Field.{readLe}
-use borrow.Author.Needs.{needs}
 use Rattle.vat.proofs.table.plain_held.Statement.{statement}
 use Rattle.vat.proofs.table.plain_held.Tie as tie
-use Rattle.vat.proofs.table.plain_held.Reads as reads
-use Rattle.vat.proofs.table.plain_held.Lts as lts
-use Rattle.le.proofs.read16.Reads as read16-reads
-use Rattle.le.proofs.read32.Reads as read32-reads
-use Rattle.le.proofs.read8.Reads as read8-reads
 
 -- a place below 2048 is within the sector
 inside : (c : tie.Start) {k : ℕ} → k ≤ sectorLength → k ≤ length (c .args .s .now)

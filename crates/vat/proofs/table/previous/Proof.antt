@@ -8,10 +8,6 @@ use Rattle.vat.specs.Table.{regidAt, previousOf}
 use borrow.Author.Needs.{needs}
 use Rattle.vat.proofs.table.previous.Statement.{statement}
 use Rattle.vat.proofs.table.previous.Tie as tie
-use Rattle.vat.proofs.table.previous.Reads as reads
-use Rattle.vat.proofs.table.previous.Lts as lts
-use Rattle.le.proofs.read32.Reads as read32-reads
-use Rattle.vat.proofs.table.entry_count.Reads as entry-count-reads
 
 entry-count-requires : tie.Need-entry-count-requires
 entry-count-requires c κs = search needs
