@@ -20,9 +20,9 @@ use Rattle.volume.specs.declared.Volume.{Volume}
 use Rattle.volume.specs.Volume.{ledgerLength, packetOpen, readOnly, unpack, pack, mapOf, fits, filled}
 use Rattle.volume.proofs.State.{Proper, unpack-pack, length-pack, map-filled}
 use Rattle.recorder.specs.Calls.{read}
-use Rattle.recorder.specs.Refusals.{Test, test, first, unfit, notInUse, tests, outcome}
+use Rattle.recorder.specs.Refusals.{Test, test, first, blockLent, unfit, notInUse, tests, outcome}
 use Rattle.recorder.specs.Effects.{effect, after}
-use Rattle.recorder.proofs.Done.{skip, stop, none-left, skip-basic-with-block}
+use Rattle.recorder.proofs.Done.{skip, stop, none-left, skip-basic}
 use Rattle.history.specs.History.{unusedEntry}
 use Rattle.history.specs.Events.{shownIf}
 use Rattle.history.specs.Claim.{blockNumber, reading, Shows}
@@ -76,7 +76,8 @@ module _ (d : Disc) (l : List ℕ) (n : ℕ) (block : List ℕ) (ok : Sound d) (
   read-outcome =
       let v : Volume = unpack l in
       let rest : List Test = test 10 (notInUse v n) ∷ test 11 (not (eqb (kindAt d (getD (v .entries) n unused)) 1)) ∷ [] in
-      skip-basic-with-block d l block (unfit d l ∷ rest) ok long whole ∙ skip 4 (not (fits d v)) rest (ap not fit)
+      let lent : blockLent l block ≡ true = rw (eq-eqb (length l) ledgerLength long, eq-eqb (length block) sectorLength whole) in
+      skip-basic d (blockLent l block) (unfit d l ∷ rest) ok lent ∙ skip 4 (not (fits d v)) rest (ap not fit)
 
   -- the answer, by what the entry shows
   pub read-answer : ((getD (unpack l .entries) n unused ≡ unused → ⊥) → n < unpack l .size)

@@ -22,7 +22,7 @@ use Rattle.volume.specs.declared.Volume.{Volume}
 use Rattle.volume.specs.Volume.{ledgerLength, idle, readOnly, unpack, pack, mapOf, filled}
 use Rattle.volume.proofs.State.{Proper, unpack-pack, proper-unpack, map-filled, length-map}
 use Rattle.recorder.specs.Calls.{Call, begin, mount, commit, lookBack}
-use Rattle.recorder.specs.Refusals.{test, isSome, walkFrom, walked, isBroken, isEnded, tests, outcome, links, target}
+use Rattle.recorder.specs.Refusals.{test, ledgerLent, isSome, walkFrom, walked, isBroken, isEnded, tests, outcome, links, target}
 use Rattle.recorder.specs.Effects.{effect, blockFound, blockReached, cleanNumber, after}
 use Rattle.recorder.proofs.Done.{skip, stop, none-left, skip-basic, begin-done, mount-done, CommitDone, commit-done}
 use Rattle.history.specs.History.{Snapshot, History, feed}
@@ -53,13 +53,13 @@ module _ (d : Disc) (l : List ℕ) (ok : Sound d) (long : length l ≡ ledgerLen
   unfolding outcome tests
   mount-none n =
       let seven : Bool = not (isSome (newest d)) in
-      skip-basic d l (test 7 seven ∷ []) ok long ∙ stop 7 seven [] (ap (λ (o : Option ℕ). not (isSome o)) n)
+      skip-basic d (ledgerLent l) (test 7 seven ∷ []) ok (eq-eqb (length l) ledgerLength long) ∙ stop 7 seven [] (ap (λ (o : Option ℕ). not (isSome o)) n)
 
   mount-some : (b : ℕ) → newest d ≡ some b → outcome d l mount ≡ 0
   unfolding outcome tests
   mount-some b n =
       let seven : Bool = not (isSome (newest d)) in
-      skip-basic d l (test 7 seven ∷ []) ok long ∙ skip 7 seven [] (ap (λ (o : Option ℕ). not (isSome o)) n) ∙ none-left
+      skip-basic d (ledgerLent l) (test 7 seven ∷ []) ok (eq-eqb (length l) ledgerLength long) ∙ skip 7 seven [] (ap (λ (o : Option ℕ). not (isSome o)) n) ∙ none-left
 
   mount-leaves : (b : ℕ) → newest d ≡ some b → after d l mount .ledger ≡ pack (filled (mapAt d b) b (recorded d) idle)
   unfolding after effect
@@ -85,7 +85,7 @@ module _ (d : Disc) (l : List ℕ) (ok : Sound d) (long : length l ≡ ledgerLen
       let seven : Bool = not (isSome (newest d)) in
       let eight : Bool = isBroken (walked d k) in
       let nine : Bool = isEnded (walked d k) in
-      skip-basic d l (test 7 seven ∷ test 8 eight ∷ test 9 nine ∷ []) ok long
+      skip-basic d (ledgerLent l) (test 7 seven ∷ test 8 eight ∷ test 9 nine ∷ []) ok (eq-eqb (length l) ledgerLength long)
       ∙ skip 7 seven (test 8 eight ∷ test 9 nine ∷ []) (ap (λ (o : Option ℕ). not (isSome o)) n)
       ∙ skip 8 eight (test 9 nine ∷ []) (ap isBroken e)
       ∙ skip 9 nine [] (ap isEnded e)

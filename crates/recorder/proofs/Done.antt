@@ -18,7 +18,7 @@ use Rattle.disc.proofs.Recording.{Sound, sound, sound-sized, sound-formed}
 use Rattle.volume.specs.declared.Volume.{Volume}
 use Rattle.volume.specs.Volume.{ledgerLength, packetOpen, readOnly, mapOf, unpack, fits}
 use Rattle.recorder.specs.Calls.{begin, mount, write, release, closePacket, commit, lookBack}
-use Rattle.recorder.specs.Refusals.{Test, test, first, links, target, reserve, basic, basicWithBlock, unfit, forbidden, notInUse, isSome, walked, isBroken, isEnded, tests, outcome}
+use Rattle.recorder.specs.Refusals.{Test, test, first, links, target, reserve, basic, ledgerLent, blockLent, unfit, forbidden, notInUse, isSome, walked, isBroken, isEnded, tests, outcome}
 
 -- ---- lists of tests
 
@@ -45,61 +45,28 @@ unfolding first
 none-left = refl
 
 -- 1, 2, 3 do not apply
-pub record Basic (d : Disc) (l : List ℕ) (rest : List Test) : Type 0 where
+pub record Basic (d : Disc) (lengths : Bool) (rest : List Test) : Type 0 where
   pub sound-disc : Sound d
-  pub long : length l ≡ ledgerLength
+  pub lent : lengths ≡ true
   pub rest-passed : first rest ≡ 0
 
-basic-passed : (d : Disc) (l : List ℕ) (rest : List Test) → first (basic d l ++ rest) ≡ 0 → Basic d l rest
-basic-passed d l rest e =
+basic-passed : (d : Disc) (lengths : Bool) (rest : List Test) → first (basic d lengths ++ rest) ≡ 0 → Basic d lengths rest
+basic-passed d lengths rest e =
     let one : Bool = not (sized d) in
-    let two : Bool = not (eqb (length l) ledgerLength) in
-    let three : Bool = not (formed d) in
-    let e₂ : first (test 2 two ∷ test 3 three ∷ rest) ≡ 0 = later 0 one (test 2 two ∷ test 3 three ∷ rest) e in
-    let e₃ : first (test 3 three ∷ rest) ≡ 0 = later 1 two (test 3 three ∷ rest) e₂ in
-    record {
-      sound-disc = sound d (not-false (sized d) (passed 0 one (test 2 two ∷ test 3 three ∷ rest) e)) (not-false (formed d) (passed 2 three rest e₃));
-      long = eqb-true (length l) ledgerLength (not-false (eqb (length l) ledgerLength) (passed 1 two (test 3 three ∷ rest) e₂));
-      rest-passed = later 2 three rest e₃;
-    }
-
-pub record BasicWithBlock (d : Disc) (l block : List ℕ) (rest : List Test) : Type 0 where
-  pub sound-disc : Sound d
-  pub long : length l ≡ ledgerLength
-  pub block-long : length block ≡ sectorLength
-  pub rest-passed : first rest ≡ 0
-
-basic-with-block-passed : (d : Disc) (l block : List ℕ) (rest : List Test) → first (basicWithBlock d l block ++ rest) ≡ 0 → BasicWithBlock d l block rest
-basic-with-block-passed d l block rest e =
-    let one : Bool = not (sized d) in
-    let lengths : Bool = eqb (length l) ledgerLength && eqb (length block) sectorLength in
     let three : Bool = not (formed d) in
     let e₂ : first (test 2 (not lengths) ∷ test 3 three ∷ rest) ≡ 0 = later 0 one (test 2 (not lengths) ∷ test 3 three ∷ rest) e in
     let e₃ : first (test 3 three ∷ rest) ≡ 0 = later 1 (not lengths) (test 3 three ∷ rest) e₂ in
-    let both : lengths ≡ true = not-false lengths (passed 1 (not lengths) (test 3 three ∷ rest) e₂) in
     record {
       sound-disc = sound d (not-false (sized d) (passed 0 one (test 2 (not lengths) ∷ test 3 three ∷ rest) e)) (not-false (formed d) (passed 2 three rest e₃));
-      long = eqb-true (length l) ledgerLength (and-left (eqb (length l) ledgerLength) (eqb (length block) sectorLength) both);
-      block-long = eqb-true (length block) sectorLength (and-right (eqb (length l) ledgerLength) (eqb (length block) sectorLength) both);
+      lent = not-false lengths (passed 1 (not lengths) (test 3 three ∷ rest) e₂);
       rest-passed = later 2 three rest e₃;
     }
 
-pub skip-basic : (d : Disc) (l : List ℕ) (rest : List Test) → Sound d → length l ≡ ledgerLength → first (basic d l ++ rest) ≡ first rest
-skip-basic d l rest s h =
+pub skip-basic : (d : Disc) (lengths : Bool) (rest : List Test) → Sound d → lengths ≡ true → first (basic d lengths ++ rest) ≡ first rest
+skip-basic d lengths rest s h =
     let three : Test = test 3 (not (formed d)) in
-    let two : Test = test 2 (not (eqb (length l) ledgerLength)) in
-    skip 1 (not (sized d)) (two ∷ three ∷ rest) (ap not (sound-sized d s))
-    ∙ skip 2 (not (eqb (length l) ledgerLength)) (three ∷ rest) (ap not (eq-eqb (length l) ledgerLength h))
-    ∙ skip 3 (not (formed d)) rest (ap not (sound-formed d s))
-
-pub skip-basic-with-block : (d : Disc) (l block : List ℕ) (rest : List Test) → Sound d → length l ≡ ledgerLength → length block ≡ sectorLength
-    → first (basicWithBlock d l block ++ rest) ≡ first rest
-skip-basic-with-block d l block rest s h hb =
-    let three : Test = test 3 (not (formed d)) in
-    let lengths : Bool = eqb (length l) ledgerLength && eqb (length block) sectorLength in
-    let both : lengths ≡ true = rw (eq-eqb (length l) ledgerLength h, eq-eqb (length block) sectorLength hb) in
     skip 1 (not (sized d)) (test 2 (not lengths) ∷ three ∷ rest) (ap not (sound-sized d s))
-    ∙ skip 2 (not lengths) (three ∷ rest) (ap not both)
+    ∙ skip 2 (not lengths) (three ∷ rest) (ap not h)
     ∙ skip 3 (not (formed d)) rest (ap not (sound-formed d s))
 
 -- ---- the state fits
@@ -167,14 +134,14 @@ pub begin-done : (d : Disc) (l : List ℕ) → outcome d l begin ≡ 0 → Sound
 unfolding outcome tests
 begin-done d l e =
     let six : Bool = isSome (newest d) in
-    let b : Basic d l (test 6 six ∷ []) = basic-passed d l (test 6 six ∷ []) e in
+    let b : Basic d (ledgerLent l) (test 6 six ∷ []) = basic-passed d (ledgerLent l) (test 6 six ∷ []) e in
     (b .sound-disc, none-found (newest d) (passed 5 six [] (b .rest-passed)))
 
 pub mount-done : (d : Disc) (l : List ℕ) → outcome d l mount ≡ 0 → Sound d × ((b : ℕ) × (newest d ≡ some b))
 unfolding outcome tests
 mount-done d l e =
     let seven : Bool = not (isSome (newest d)) in
-    let b : Basic d l (test 7 seven ∷ []) = basic-passed d l (test 7 seven ∷ []) e in
+    let b : Basic d (ledgerLent l) (test 7 seven ∷ []) = basic-passed d (ledgerLent l) (test 7 seven ∷ []) e in
     (b .sound-disc, some-found (newest d) (passed 6 seven [] (b .rest-passed)))
 
 pub record WriteDone (d : Disc) (l : List ℕ) (n : ℕ) (block : List ℕ) : Type 0 where
@@ -196,13 +163,13 @@ write-done d l n block e =
     let fourteen : Bool = ltb (blanks d) (links v + 1 + reserve) in
     let fifteen : Bool = isTable 1 block (target v) in
     let rest : List Test = test 12 twelve ∷ test 13 thirteen ∷ test 14 fourteen ∷ test 15 fifteen ∷ [] in
-    let b : BasicWithBlock d l block (unfit d l ∷ forbidden l ∷ rest) = basic-with-block-passed d l block (unfit d l ∷ forbidden l ∷ rest) e in
+    let b : Basic d (blockLent l block) (unfit d l ∷ forbidden l ∷ rest) = basic-passed d (blockLent l block) (unfit d l ∷ forbidden l ∷ rest) e in
     let w : Working d l rest = working-passed d l rest (b .rest-passed) in
     let e₁ : first (test 13 thirteen ∷ test 14 fourteen ∷ test 15 fifteen ∷ []) ≡ 0 = later 11 twelve (test 13 thirteen ∷ test 14 fourteen ∷ test 15 fifteen ∷ []) (w .rest-passed) in
     let e₂ : first (test 14 fourteen ∷ test 15 fifteen ∷ []) ≡ 0 = later 12 thirteen (test 14 fourteen ∷ test 15 fifteen ∷ []) e₁ in
     record {
       sound-disc = b .sound-disc;
-      block-long = b .block-long;
+      block-long = eqb-true (length block) sectorLength (and-right (ledgerLent l) (eqb (length block) sectorLength) (b .lent));
       fit = w .fit;
       not-looking = w .not-looking;
       no-gap = ltb-false (v .size) n (passed 11 twelve (test 13 thirteen ∷ test 14 fourteen ∷ test 15 fifteen ∷ []) (w .rest-passed));
@@ -223,14 +190,14 @@ pub release-done : (d : Disc) (l : List ℕ) (n : ℕ) → outcome d l (release 
 unfolding outcome tests
 release-done d l n e =
     let ten : Bool = notInUse (unpack l) n in
-    let b : Basic d l (unfit d l ∷ forbidden l ∷ test 10 ten ∷ []) = basic-passed d l (unfit d l ∷ forbidden l ∷ test 10 ten ∷ []) e in
+    let b : Basic d (ledgerLent l) (unfit d l ∷ forbidden l ∷ test 10 ten ∷ []) = basic-passed d (ledgerLent l) (unfit d l ∷ forbidden l ∷ test 10 ten ∷ []) e in
     let w : Working d l (test 10 ten ∷ []) = working-passed d l (test 10 ten ∷ []) (b .rest-passed) in
     (b .sound-disc, w, in-use (unpack l) n (passed 9 ten [] (w .rest-passed)))
 
 pub close-done : (d : Disc) (l : List ℕ) → outcome d l closePacket ≡ 0 → Sound d × Working d l []
 unfolding outcome tests
 close-done d l e =
-    let b : Basic d l (unfit d l ∷ forbidden l ∷ []) = basic-passed d l (unfit d l ∷ forbidden l ∷ []) e in
+    let b : Basic d (ledgerLent l) (unfit d l ∷ forbidden l ∷ []) = basic-passed d (ledgerLent l) (unfit d l ∷ forbidden l ∷ []) e in
     (b .sound-disc, working-passed d l [] (b .rest-passed))
 
 pub record CommitDone (d : Disc) (l : List ℕ) : Type 0 where
@@ -243,7 +210,7 @@ pub commit-done : (d : Disc) (l : List ℕ) → outcome d l commit ≡ 0 → Com
 unfolding outcome tests
 commit-done d l e =
     let fourteen : Bool = ltb (blanks d) (links (unpack l) + 1) in
-    let b : Basic d l (unfit d l ∷ forbidden l ∷ test 14 fourteen ∷ []) = basic-passed d l (unfit d l ∷ forbidden l ∷ test 14 fourteen ∷ []) e in
+    let b : Basic d (ledgerLent l) (unfit d l ∷ forbidden l ∷ test 14 fourteen ∷ []) = basic-passed d (ledgerLent l) (unfit d l ∷ forbidden l ∷ test 14 fourteen ∷ []) e in
     let w : Working d l (test 14 fourteen ∷ []) = working-passed d l (test 14 fourteen ∷ []) (b .rest-passed) in
     record {
       sound-disc = b .sound-disc;
@@ -263,6 +230,6 @@ look-back-done d l k e =
     let seven : Bool = not (isSome (newest d)) in
     let eight : Bool = isBroken (walked d k) in
     let nine : Bool = isEnded (walked d k) in
-    let b : Basic d l (test 7 seven ∷ test 8 eight ∷ test 9 nine ∷ []) = basic-passed d l (test 7 seven ∷ test 8 eight ∷ test 9 nine ∷ []) e in
+    let b : Basic d (ledgerLent l) (test 7 seven ∷ test 8 eight ∷ test 9 nine ∷ []) = basic-passed d (ledgerLent l) (test 7 seven ∷ test 8 eight ∷ test 9 nine ∷ []) e in
     let e₁ : first (test 8 eight ∷ test 9 nine ∷ []) ≡ 0 = later 6 seven (test 8 eight ∷ test 9 nine ∷ []) (b .rest-passed) in
     (b .sound-disc, way-reached (walked d k) (passed 7 eight (test 9 nine ∷ []) e₁) (passed 8 nine [] (later 7 eight (test 9 nine ∷ []) e₁)))

@@ -48,15 +48,14 @@ abbrev pub reserve : ℕ
 reserve = 8
 
 -- 1, 2, 3: the disc's size, the lent lengths, the kinds.
-abbrev pub basic : Disc → List ℕ → List Test
-basic d l = test 1 (not (sized d)) ∷ test 2 (not (eqb (length l) ledgerLength)) ∷ test 3 (not (formed d)) ∷ []
+abbrev pub basic : Disc → Bool → List Test
+basic d lengths = test 1 (not (sized d)) ∷ test 2 (not lengths) ∷ test 3 (not (formed d)) ∷ []
 
-abbrev pub basicWithBlock : Disc → List ℕ → List ℕ → List Test
-basicWithBlock d l block =
-    test 1 (not (sized d))
-    ∷ test 2 (not (eqb (length l) ledgerLength && eqb (length block) sectorLength))
-    ∷ test 3 (not (formed d))
-    ∷ []
+abbrev pub ledgerLent : List ℕ → Bool
+ledgerLent l = eqb (length l) ledgerLength
+
+abbrev pub blockLent : List ℕ → List ℕ → Bool
+blockLent l block = ledgerLent l && eqb (length block) sectorLength
 
 -- 4: the ledger does not fit. 5: looking only.
 abbrev pub unfit : Disc → List ℕ → Test
@@ -93,11 +92,11 @@ isEnded broken = false
 isEnded ended = true
 
 unfoldable pub tests : Disc → List ℕ → Call → List Test
-tests d l begin = basic d l ++ (test 6 (isSome (newest d)) ∷ [])
-tests d l mount = basic d l ++ (test 7 (not (isSome (newest d))) ∷ [])
+tests d l begin = basic d (ledgerLent l) ++ (test 6 (isSome (newest d)) ∷ [])
+tests d l mount = basic d (ledgerLent l) ++ (test 7 (not (isSome (newest d))) ∷ [])
 tests d l (write n block) =
     let v : Volume = unpack l in
-    basicWithBlock d l block
+    basic d (blockLent l block)
     ++ (unfit d l
     ∷ forbidden l
     ∷ test 12 (ltb (v .size) n)
@@ -105,15 +104,15 @@ tests d l (write n block) =
     ∷ test 14 (ltb (blanks d) (links v + 1 + reserve))
     ∷ test 15 (isTable 1 block (target v))
     ∷ [])
-tests d l (release n) = basic d l ++ (unfit d l ∷ forbidden l ∷ test 10 (notInUse (unpack l) n) ∷ [])
-tests d l closePacket = basic d l ++ (unfit d l ∷ forbidden l ∷ [])
-tests d l commit = basic d l ++ (unfit d l ∷ forbidden l ∷ test 14 (ltb (blanks d) (links (unpack l) + 1)) ∷ [])
+tests d l (release n) = basic d (ledgerLent l) ++ (unfit d l ∷ forbidden l ∷ test 10 (notInUse (unpack l) n) ∷ [])
+tests d l closePacket = basic d (ledgerLent l) ++ (unfit d l ∷ forbidden l ∷ [])
+tests d l commit = basic d (ledgerLent l) ++ (unfit d l ∷ forbidden l ∷ test 14 (ltb (blanks d) (links (unpack l) + 1)) ∷ [])
 tests d l (read n block) =
     let v : Volume = unpack l in
-    basicWithBlock d l block
+    basic d (blockLent l block)
     ++ (unfit d l ∷ test 10 (notInUse v n) ∷ test 11 (not (eqb (kindAt d (getD (v .entries) n unused)) 1)) ∷ [])
 tests d l (lookBack k) =
-    basic d l
+    basic d (ledgerLent l)
     ++ (test 7 (not (isSome (newest d))) ∷ test 8 (isBroken (walked d k)) ∷ test 9 (isEnded (walked d k)) ∷ [])
 
 -- The outcome: 0 done, else the refusal.
