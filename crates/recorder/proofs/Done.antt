@@ -8,7 +8,7 @@ use mathlib.Core.List.{List, [], _∷_, _++_}
 use mathlib.Core.Option.{Option, none, some}
 use lib.Dec.{eqb, ltb, leb}
 use lib.ListN.{length, getD, drop}
-use borrow.Author.Tests.{eqb-true, ltb-false, leb-true, leb-false, eq-eqb, not-false}
+use borrow.Author.Tests.{eqb-true, ltb-false, leb-true, leb-false, not-false}
 use Rattle.le.specs.Bytes.{every}
 use Rattle.vat.specs.Table.{sectorLength, limit, unused, unusedOrBelow, isTable}
 use Rattle.vat.proofs.Frame.{and-left, and-right}
@@ -16,7 +16,7 @@ use Rattle.disc.specs.Disc.{Disc, sized, formed, recorded, blanks, kindAt}
 use Rattle.disc.specs.Tables.{tableAt, newest, Walk, reached, broken, ended}
 use Rattle.disc.proofs.Recording.{Sound, sound, sound-sized, sound-formed}
 use Rattle.volume.specs.declared.Volume.{Volume}
-use Rattle.volume.specs.Volume.{ledgerLength, packetOpen, readOnly, mapOf, unpack, fits}
+use Rattle.volume.specs.Volume.{packetOpen, readOnly, mapOf, unpack, fits}
 use Rattle.recorder.specs.Calls.{begin, mount, write, release, closePacket, commit, lookBack}
 use Rattle.recorder.specs.Refusals.{Test, test, first, links, target, reserve, basic, ledgerLent, blockLent, unfit, forbidden, notInUse, isSome, walked, isBroken, isEnded, tests, outcome}
 

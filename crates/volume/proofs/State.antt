@@ -1,18 +1,19 @@
 -- The working state and its 1,848 bytes are inverse to each other, each call's state is well formed, and what it makes of the map.
 -- Assumes nothing.
 use Prim.Native.Nat.{ℕ, zero, suc, _+_, _-_, _*_, _^_, _≤_, _<_}
-use native.Mathlib.Nat.{pow-suc}
+use native.Mathlib.Nat.{add-zero, pow-suc}
 use native.Mathlib.Omega.{arith}
-use mathlib.Core.Path.{_≡_, refl, sym, ap, _∙_, subst}
+use mathlib.Core.Path.{_≡_, refl, sym, ap, ap₂, _∙_, subst}
 use mathlib.Core.Bool.{Bool, true, false}
 use mathlib.Core.List.{List, [], _∷_, _++_, append-nil}
 use lib.Dec.{eqb, lit<}
-use lib.ListN.{length, getD, take, drop, set, replicate, length-set, length-append, length-replicate, length-drop, take-append-drop}
-use lib.Seq.{drop-drop, take-at, take-all, take-set-lt, take-suc-set, length-take-le}
+use lib.ListN.{length, getD, take, drop, set, replicate, length-set, length-append, length-replicate, length-drop, take-append-drop, drop-of-length-le}
+use lib.Seq.{sets, sets-eq, drop-drop, take-at, take-all, take-set-lt, take-suc-set, length-take-le}
 use lib.Arith.{lt-of-le-ne}
 use native.Mathlib.Numerals.{add-one}
 use borrow.Author.Tests.{eqb-true, eqb-false}
 use Rattle.le.specs.Field.{le, readLe, words, leWords}
+use Rattle.le.proofs.Bytes.{sets-append}
 use Rattle.le.proofs.Fields.{length-le, read-le}
 use Rattle.le.proofs.Runs.{Words, words-read, length-words, length-leWords, words-none, words-step, drop-on, AllBytes, byte-at, le-read, leWords-words}
 use Rattle.vat.specs.Table.{limit, unused}
@@ -235,3 +236,47 @@ map-released v n h = take-set-lt (v .size) (v .entries) n unused h
 
 pub length-map : (v : Volume) → v .size ≤ length (v .entries) → length (mapOf v) ≡ v .size
 length-map v h = length-take-le (v .size) (v .entries) h
+
+-- ---- the entries, read one by one
+
+pub words-snoc : (n : ℕ) (s : List ℕ) (at : ℕ) → words (suc n) s at ≡ words n s at ++ (readLe 4 s (at + 4 * n) ∷ [])
+words-snoc zero s at =
+    words-step 0 s at ∙ ap (λ (l : List ℕ). readLe 4 s at ∷ l) (words-none s (at + 4))
+    ∙ sym (ap₂ (λ (l : List ℕ) (k : ℕ). l ++ (readLe 4 s k ∷ [])) (words-none s at) (add-zero at))
+words-snoc (suc n) s at =
+    let e : at + 4 + 4 * n ≡ at + 4 * suc n = omega arith in
+    words-step (suc n) s at
+    ∙ ap {B = List ℕ} (λ l. readLe 4 s at ∷ l) (words-snoc n s (at + 4) ∙ ap (λ (k : ℕ). words n s (at + 4) ++ (readLe 4 s k ∷ [])) e)
+    ∙ ap (λ (l : List ℕ). l ++ (readLe 4 s (at + 4 * suc n) ∷ [])) (sym (words-step n s at))
+
+-- ---- the state, put part by part
+
+sets-all : (vs l : List ℕ) → length vs ≡ length l → sets l 0 vs ≡ vs
+sets-all vs l h =
+    let all : length l ≤ 0 + length vs = omega arith in
+    sets-eq vs l 0 (omega arith) ∙ ap (λ (r : List ℕ). vs ++ r) (drop-of-length-le l all) ∙ append-nil vs
+
+pub pack-put : (v : Volume) (l : List ℕ) → length (v .entries) ≡ limit → length l ≡ ledgerLength
+    → sets (sets (sets (sets (sets l 0 (leWords (v .entries))) entriesLength (le 4 (v .size))) (entriesLength + 4) (le 4 (v .recorded))) (entriesLength + 8) (le 4 (v .last))) (entriesLength + 12) (le 4 (v .mode))
+    ≡ pack v
+unfolding pack
+pack-put v l long h =
+    let e : List ℕ = leWords (v .entries) in
+    let a : List ℕ = le 4 (v .size) in
+    let b : List ℕ = le 4 (v .recorded) in
+    let c : List ℕ = le 4 (v .last) in
+    let d : List ℕ = le 4 (v .mode) in
+    let front : length e ≡ entriesLength = length-leWords (v .entries) ∙ ap (λ (n : ℕ). 4 * n) long in
+    let whole : length (e ++ (a ++ (b ++ (c ++ d)))) ≡ length l =
+    rw (length-append e (a ++ (b ++ (c ++ d))), length-append a (b ++ (c ++ d)), length-append b (c ++ d), length-append c d, length-le 4 (v .size), length-le 4 (v .recorded), length-le 4 (v .last), length-le 4 (v .mode), front) (sym h) in
+    sym (sym (sets-all (e ++ (a ++ (b ++ (c ++ d)))) l whole)
+    ∙ sets-append e (a ++ (b ++ (c ++ d))) l 0
+    ∙ ap (λ (k : ℕ). sets (sets l 0 e) k (a ++ (b ++ (c ++ d)))) (ap (λ (n : ℕ). 0 + n) front)
+    ∙ rest (sets l 0 e) a b c d entriesLength (length-le 4 (v .size)) (length-le 4 (v .recorded)) (length-le 4 (v .last)))
+  where
+    rest : (s a b c d : List ℕ) (at : ℕ) → length a ≡ 4 → length b ≡ 4 → length c ≡ 4
+        → sets s at (a ++ (b ++ (c ++ d))) ≡ sets (sets (sets (sets s at a) (at + 4) b) (at + 8) c) (at + 12) d
+    rest s a b c d at p q r =
+        let two : at + 4 + 4 ≡ at + 8 = omega arith in
+        let three : at + 8 + 4 ≡ at + 12 = omega arith in
+        rw (sets-append a (b ++ (c ++ d)) s at, p, sets-append b (c ++ d) (sets s at a) (at + 4), q, two, sets-append c d (sets (sets s at a) (at + 4) b) (at + 8), r, three)

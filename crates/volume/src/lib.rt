@@ -1,4 +1,10 @@
 // The volume's working state (document 01: the ledger).
+use vat::table::UNUSED;
+ghost use mathlib.Core.Path.{_≡_};
+ghost use Prim.Native.Nat.{_≤_, _<_};
+ghost use lib.ListN.{length};
+ghost use Rattle.vat.specs.Table.{limit, unused};
+ghost use Rattle.volume.specs.Volume.{ledgerLength, unpack, pack, begun, wrote, released, closed, committed};
 
 // "458 map entries, then size, recorded, last table, mode, each 32 bits."
 pub struct Volume {
@@ -7,4 +13,100 @@ pub struct Volume {
     pub recorded: u32,
     pub last: u32,
     pub mode: u32,
+}
+
+// Where size stands, behind the entries.
+const SIZE_AT: usize = 1832;
+
+// The entries, through a local array: a state by value inside the loop would be copied at each turn.
+fn load_entries(l: &[u8]) -> [u32; 458]
+    requires { ⌜ length (now l) ≡ ledgerLength ⌝ }
+    ensures { λ r. ⌜ r ≡ unpack (now (l .entry)) .entries ⌝ }
+{
+    let mut entries = [0u32; 458];
+    let mut i: usize = 0;
+    while i < 458 {
+        entries[i] = le::read32(l, 4 * i);
+        i += 1;
+    }
+    entries
+}
+
+impl Volume {
+    pub fn load(l: &[u8]) -> Volume
+        requires { ⌜ length (now l) ≡ ledgerLength ⌝ }
+        ensures { λ r. ⌜ r ≡ unpack (now (l .entry)) ⌝ }
+    {
+        Volume {
+            entries: load_entries(l),
+            size: le::read32(l, SIZE_AT),
+            recorded: le::read32(l, SIZE_AT + 4),
+            last: le::read32(l, SIZE_AT + 8),
+            mode: le::read32(l, SIZE_AT + 12),
+        }
+    }
+
+    pub fn store(self, l: &mut [u8])
+        requires { ⌜ length (now l) ≡ ledgerLength ⌝ }
+        ensures { λ _. ⌜ now (l .exit) ≡ pack self ⌝ }
+    {
+        let entries = self.entries;
+        le::run::put_words(l, 0, &entries);
+        le::put32(l, SIZE_AT, self.size);
+        le::put32(l, SIZE_AT + 4, self.recorded);
+        le::put32(l, SIZE_AT + 8, self.last);
+        le::put32(l, SIZE_AT + 12, self.mode);
+    }
+
+    pub fn begun(recorded: u32) -> Volume
+        ensures { λ r. ⌜ r ≡ begun recorded ⌝ }
+    {
+        Volume {
+            entries: [UNUSED; 458],
+            size: 0,
+            recorded: recorded,
+            last: UNUSED,
+            mode: 0,
+        }
+    }
+
+    pub fn wrote(mut self, n: u32, b: u32) -> Volume
+        requires { ⌜ (n < limit) × (b < unused) × (self .size ≤ limit) ⌝ }
+        ensures { λ r. ⌜ r ≡ wrote n b self ⌝ }
+    {
+        let at = n as usize;
+        self.entries[at] = b;
+        if n == self.size {
+            self.size = self.size + 1;
+        }
+        self.recorded = b + 1;
+        self.mode = 1;
+        self
+    }
+
+    pub fn released(mut self, n: u32) -> Volume
+        requires { ⌜ n < limit ⌝ }
+        ensures { λ r. ⌜ r ≡ released n self ⌝ }
+    {
+        let at = n as usize;
+        self.entries[at] = UNUSED;
+        self
+    }
+
+    pub fn closed(mut self) -> Volume
+        ensures { λ r. ⌜ r ≡ closed self ⌝ }
+    {
+        self.mode = 0;
+        self
+    }
+
+    pub fn committed(mut self, b: u32) -> Volume
+        requires { ⌜ b < unused ⌝ }
+        ensures { λ r. ⌜ r ≡ committed b self ⌝ }
+    {
+        self.recorded = b + 1;
+        self.last = b;
+        self.mode = 1;
+        self
+    }
 }

@@ -1,0 +1,73 @@
+-- `volume::Volume::store` meets its contract: the entries, then four fields behind them, fill the ledger.
+-- Assumes nothing.
+use Prim.Native.Nat.{ℕ, _+_}
+use native.Mathlib.Omega.{arith}
+use mathlib.Core.Path.{_≡_, sym, _∙_}
+use mathlib.Core.List.{List}
+use lib.ListN.{length}
+use lib.Seq.{sets}
+use Rattle.le.specs.Field.{le, leWords}
+use Rattle.volume.specs.declared.Volume.{Volume}
+use Rattle.volume.specs.Volume.{entriesLength}
+use Rattle.volume.proofs.State.{pack-put}
+use borrow.Author.Needs.{needs}
+use Rattle.volume.proofs.Volume.store.Statement.{statement}
+use Rattle.volume.proofs.Volume.store.Tie as tie
+
+slice-aggregate-put-words : tie.Need-slice-aggregate-put-words
+slice-aggregate-put-words c = search needs
+
+put-words-requires : tie.Need-put-words-requires
+put-words-requires c κs =
+    let counted : 458 ≡ length (c .before .before .before .before .args .self .entries) = slice-aggregate-put-words c in
+    omega (arith, c .before .before .before .before .pre)
+
+put32-requires : tie.Need-put32-requires
+put32-requires c κs = search needs
+
+add-put32 : tie.Need-add-put32
+add-put32 c = search needs
+
+put32-requires-2 : tie.Need-put32-requires-2
+put32-requires-2 c κs = search needs
+
+add-put32-2 : tie.Need-add-put32-2
+add-put32-2 c = search needs
+
+put32-requires-3 : tie.Need-put32-requires-3
+put32-requires-3 c κs = search needs
+
+add-put32-3 : tie.Need-add-put32-3
+add-put32-3 c = search needs
+
+put32-requires-4 : tie.Need-put32-requires-4
+put32-requires-4 c κs = search needs
+
+same-length : tie.Need-same-length
+same-length c = search needs
+
+returns : tie.Need-returns
+returns c =
+    let a = c .before .before .before .before .before .before .before .before .before .before .before .before .before .before .before .before .before .before .before .before .before .before .before .args in
+    let v : Volume = a .self in
+    let l : List ℕ = a .l .now in
+    let counted : 458 ≡ length (v .entries) = slice-aggregate-put-words (c .before .before .before .before .before .before .before .before .before .before .before .before .before .before .before .before .before .before .before) in
+    let put : c .before .before .put324 .last .0
+    ≡ sets (sets (sets (sets (sets l 0 (leWords (v .entries))) entriesLength (le 4 (v .size))) (entriesLength + 4) (le 4 (v .recorded))) (entriesLength + 8) (le 4 (v .last))) (entriesLength + 12) (le 4 (v .mode)) = cc in
+    put ∙ pack-put v l (sym counted) (c .before .before .before .before .before .before .before .before .before .before .before .before .before .before .before .before .before .before .before .before .before .before .before .pre)
+
+pub store-spec : {M : Type 1} → statement M
+store-spec =
+    tie.close
+    (tie.spec
+    slice-aggregate-put-words
+    put-words-requires
+    put32-requires
+    add-put32
+    put32-requires-2
+    add-put32-2
+    put32-requires-3
+    add-put32-3
+    put32-requires-4
+    same-length
+    returns)
