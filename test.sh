@@ -1,5 +1,6 @@
 #!/usr/bin/env bash
-# Proves and tests everything: the layout, every crate with its must-fail edits and programs, the outside vectors, and the independent model in Rust.
+# Proves and tests everything: the layout, every crate with its must-fail edits and programs, the outside vectors, the archive for the host program,
+# and on it the Rust tests, which compare it with an independent model and with other makers' discs.
 # The last line is 'N passed, 0 failed'; where something fails it is named above, and the exit status is 1.
 set -u
 cd "$(dirname "$0")" || exit 2
@@ -32,6 +33,8 @@ set_up() {
     command -v python3 >/dev/null || missing+=(python3)
     command -v perl >/dev/null || missing+=(perl)
     command -v cargo >/dev/null || missing+=(cargo)
+    command -v cc >/dev/null || missing+=(gcc libc6-dev)
+    PATH=$PATH:/usr/sbin command -v mkudffs >/dev/null || missing+=(udftools)
     if [ "${#missing[@]}" -ne 0 ]; then
         apt-get update && apt-get install -y "${missing[@]}" || exit 2
     fi
@@ -65,7 +68,16 @@ outside_vectors() {
     python3 tests/vectors.py | cmp - crates/vectors/stdout
 }
 
-model_tests() {
+# The archive that the host program links: proved, with nothing that is only assumed.
+archive() {
+    local told
+    told=$(rt staticlib station 2>&1) || { echo "$told" | tail -n 20; return 1; }
+    told=$(echo "$told" | grep '^logic=' | tail -n 1)
+    echo "archive: $told"
+    [[ $told == logic=proved* && $told != *foreign=* && $told != *axioms=* ]]
+}
+
+host_tests() {
     cargo test --release --offline --manifest-path host/Cargo.toml
 }
 
@@ -75,7 +87,8 @@ one "rt fmt --check" rt fmt --check
 one "tests/vectors.py" outside_vectors
 counted "rt ci" rt ci
 counted "tests/must_fail.sh" tests/must_fail.sh
-counted "host tests" model_tests
+one "rt staticlib station" archive
+counted "host tests" host_tests
 
 for name in "${broken[@]}"; do
     echo "failed: $name"

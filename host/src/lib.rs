@@ -1,17 +1,189 @@
-//! The host side of the station, a write-once sector log on CD-R.
+//! The recording core of a disc station: a write-once sector log on CD-R.
 //!
-//! [`model`] is an independent model of document 01: the disc, the ledger, the
-//! eight calls and the book that the cut rule speaks of. It is written from
-//! document 01's text alone and shares nothing with the recording core, so
-//! that the two can be held against each other.
+//! These are safe functions over the proved core. Each call is lent the disc
+//! as two buffers and the ledger, and says what it did:
 //!
-//! Document 01's words stand in quotes at each definition. Its trade words
-//! have field terms as identifiers: the ledger is a [`Volume`], a table is a
-//! VAT (virtual allocation table), a page of the book is a [`Snapshot`] and
-//! the book a [`History`].
+//! - the image, 2048 bytes a sector, and the kinds, one byte a sector: 0 blank,
+//!   1 data, 2 link, 3 unreadable. A disc has 1 to 360,000 sectors, and all
+//!   that are not blank form a beginning of it; their count is called
+//!   *recorded*;
+//! - the ledger, 1,848 bytes: 458 map entries, then size, recorded, last table
+//!   and mode, each 32 bits and little-endian. Unused entries, all entries from
+//!   size on, and a missing last table are FFFFFFFF. Mode is 0 (no packet
+//!   open), 1 (packet open) or 2 (looking only).
 //!
-//! [`Volume`]: model::ledger::Volume
-//! [`Snapshot`]: model::book::Snapshot
-//! [`History`]: model::book::History
+//! A [`Refusal`] alters no lent byte. Any lengths and contents may be lent: the
+//! core tests them itself. It allocates nothing.
+//!
+//! In mode 0 with recorded above 0, write and commit first record seven link
+//! sectors; of a link sector only its kind changes. A power cut loses what is
+//! not committed, and [`mount`] then finds the last finished save.
+//!
+//! ```
+//! use station::{Refusal, LEDGER, SECTOR};
+//!
+//! let sectors = 40;
+//! let mut image = vec![0; sectors * SECTOR];
+//! let mut kinds = vec![0; sectors];
+//! let mut ledger = [0; LEDGER];
+//! let run = [0x5A; SECTOR];
+//!
+//! station::begin(&image, &kinds, &mut ledger)?;
+//! let block = station::write(&mut image, &mut kinds, &mut ledger, 0, &run)?;
+//! let table = station::commit(&mut image, &mut kinds, &mut ledger)?;
+//! assert_eq!((block, table), (0, 1));
+//!
+//! // The next day, with a fresh ledger.
+//! let mut ledger = [0; LEDGER];
+//! let clean = station::mount(&image, &kinds, &mut ledger)?;
+//! assert!(clean);
+//!
+//! let mut shown = [0; SECTOR];
+//! station::read(&image, &kinds, &ledger, 0, &mut shown)?;
+//! assert_eq!(shown, run);
+//!
+//! let missing = station::read(&image, &kinds, &ledger, 1, &mut shown);
+//! assert_eq!(missing, Err(Refusal::NotInUse));
+//! # Ok::<(), Refusal>(())
+//! ```
 
-pub mod model;
+#![deny(unsafe_code)]
+#![warn(missing_docs)]
+
+#[allow(unsafe_code)]
+mod ffi;
+mod refusal;
+
+pub use refusal::Refusal;
+
+/// The eight calls with the two numbers as the core answers them: outcome ×
+/// 4,294,967,296 + second number. Outcome 0 is done, else it is the number of a
+/// [`Refusal`], and the second number is 0.
+pub mod raw {
+    pub use crate::ffi::{begin, close_packet, commit, look_back, mount, read, release, write};
+}
+
+/// Bytes of a sector, and of a lent block.
+pub const SECTOR: usize = 2048;
+
+/// Bytes of the ledger.
+pub const LEDGER: usize = 1848;
+
+/// The most sectors that a disc has.
+pub const MOST_SECTORS: usize = 360_000;
+
+/// The ledger holds at most this many virtual numbers.
+pub const LIMIT: u32 = 458;
+
+/// An unused map entry, or a missing last table: hex FFFFFFFF.
+pub const UNUSED: u32 = u32::MAX;
+
+/// Begin: size 0, no last table, mode 0. Allowed on a disc with recorded
+/// sectors if none is a table sector.
+///
+/// # Errors
+///
+/// 1, 2, 3 and 6. The ledger's length is tested, and its content is not read.
+pub fn begin(image: &[u8], kinds: &[u8], ledger: &mut [u8]) -> Result<(), Refusal> {
+    done(raw::begin(image, kinds, ledger))
+}
+
+/// Mount: starts at the last recorded sector and goes towards block 0. The
+/// first table sector met ends the search. Its entries and size fill the
+/// ledger; it is the last table; mode 0.
+///
+/// True means clean: the table is the last recorded sector. False means dirty.
+///
+/// # Errors
+///
+/// 1, 2, 3 and 7. The ledger's length is tested, and its content is not read.
+pub fn mount(image: &[u8], kinds: &[u8], ledger: &mut [u8]) -> Result<bool, Refusal> {
+    second(raw::mount(image, kinds, ledger)).map(|clean| clean != 0)
+}
+
+/// Write number v: records one data sector with the lent block and sets entry v
+/// to it. If v equals size, size grows by one. A released number below size may
+/// be written again. Mode becomes 1. The answer is the block recorded.
+///
+/// # Errors
+///
+/// 1, 2, 3, 4, 5, 12, 13, 14 and 15.
+pub fn write(
+    image: &mut [u8],
+    kinds: &mut [u8],
+    ledger: &mut [u8],
+    v: u32,
+    block: &[u8],
+) -> Result<u32, Refusal> {
+    second(raw::write(image, kinds, ledger, v, block))
+}
+
+/// Release v: sets the entry to unused. Size stays.
+///
+/// # Errors
+///
+/// 1, 2, 3, 4, 5 and 10.
+pub fn release(image: &[u8], kinds: &[u8], ledger: &mut [u8], v: u32) -> Result<(), Refusal> {
+    done(raw::release(image, kinds, ledger, v))
+}
+
+/// Close packet: mode 0 (also after an underrun). Nothing is recorded. Closing
+/// a closed packet is done.
+///
+/// # Errors
+///
+/// 1, 2, 3, 4 and 5.
+pub fn close_packet(image: &[u8], kinds: &[u8], ledger: &mut [u8]) -> Result<(), Refusal> {
+    done(raw::close_packet(image, kinds, ledger))
+}
+
+/// Commit: records the table sector, which becomes the last table. It may
+/// follow in any mode but 2, and mode is 1 afterwards. Allowed with nothing
+/// changed and with size 0. The answer is the block recorded.
+///
+/// # Errors
+///
+/// 1, 2, 3, 4, 5 and 14.
+pub fn commit(image: &mut [u8], kinds: &mut [u8], ledger: &mut [u8]) -> Result<u32, Refusal> {
+    second(raw::commit(image, kinds, ledger))
+}
+
+/// Read v: copies the 2048 bytes to the lent block; allowed with mode 2.
+///
+/// # Errors
+///
+/// 1, 2, 3, 4, 10 and 11.
+pub fn read(
+    image: &[u8],
+    kinds: &[u8],
+    ledger: &[u8],
+    v: u32,
+    block: &mut [u8],
+) -> Result<(), Refusal> {
+    done(raw::read(image, kinds, ledger, v, block))
+}
+
+/// Look back k: from the table that mount would find, follows the previous
+/// entry k times; k 0 is that table. The ledger gets its map, recorded as it is
+/// now, that table as last, mode 2. The answer is the table's block.
+///
+/// # Errors
+///
+/// 1, 2, 3, 7, then 8 or 9 at the first failing step. The ledger's length is
+/// tested, and its content is not read.
+pub fn look_back(image: &[u8], kinds: &[u8], ledger: &mut [u8], k: u32) -> Result<u32, Refusal> {
+    second(raw::look_back(image, kinds, ledger, k))
+}
+
+/// The second number of a call that is done, else the refusal.
+fn second(answer: u64) -> Result<u32, Refusal> {
+    match (answer >> 32) as u32 {
+        0 => Ok(answer as u32),
+        outcome => Err(Refusal::of(outcome)),
+    }
+}
+
+/// Of a call whose second number says nothing.
+fn done(answer: u64) -> Result<(), Refusal> {
+    second(answer).map(|_| ())
+}

@@ -1,14 +1,15 @@
 //! Every row of "Bench examples" of document 01, and its example disc of 31.
+//! Each call is made on the core and on the model, and compared.
 
 mod common;
 
+use common::built::BLOCK;
+use common::pair::tell_compared;
 use common::station::{done, refused, Station};
-use station::model::calls::Call;
-use station::model::disc::{DATA, LINK};
-use station::model::fields::{u16_at, u32_at};
-use station::model::table::{crc, recognise, seal, table_length, vat_sector, LIMIT, NONE, SECTOR};
-
-const BLOCK: [u8; SECTOR] = [0x5A; SECTOR];
+use station_model::calls::Call;
+use station_model::disc::{DATA, LINK};
+use station_model::fields::{u16_at, u32_at};
+use station_model::table::{crc, recognise, seal, table_length, vat_sector, LIMIT, NONE, SECTOR};
 
 /// Begin, one write, and close packet.
 fn written_and_closed(sectors: usize) -> Station {
@@ -52,6 +53,7 @@ fn table_of_no_entries() {
     assert_eq!(u32_at(sector, 172), 36);
     assert_eq!(u16_at(sector, 10), 196);
     assert_eq!(recognise(sector, 0).map(|vat| vat.map), Some(vec![]));
+    tell_compared("table_of_no_entries");
 }
 
 /// "N 458: 1,868 and 2,028."
@@ -64,14 +66,21 @@ fn table_of_458_entries() {
     assert_eq!(u16_at(sector, 10), 2028);
     let map = recognise(sector, 458).map(|vat| vat.map);
     assert_eq!(map, Some((0..458).collect()));
+    tell_compared("table_of_458_entries");
 }
 
 /// "N 459: not a table sector." One entry less, made alike, is one.
 #[test]
 fn table_of_459_entries() {
     assert_eq!(176 + table_length(459), SECTOR);
-    assert!(recognise(&vat_sector(5, &[NONE; 459], NONE), 5).is_none());
-    assert!(recognise(&vat_sector(5, &[NONE; LIMIT], NONE), 5).is_some());
+    for (entries, answer) in [(459, refused(7)), (LIMIT, done(1))] {
+        let mut station = Station::blank(6);
+        station.kinds[..5].fill(LINK);
+        station.put_sector(5, DATA, &vat_sector(5, &vec![NONE; entries], NONE));
+        assert_eq!(recognise(station.sector(5), 5).is_some(), answer == done(1));
+        assert_eq!(station.call(Call::Mount), answer);
+    }
+    tell_compared("table_of_459_entries");
 }
 
 /// "Blank disc of 8: write gives 14; commit is done at block 0."
@@ -80,6 +89,7 @@ fn blank_disc_of_8() {
     let mut station = Station::begun(8);
     assert_eq!(station.write(0, &BLOCK), refused(14));
     assert_eq!(station.call(Call::Commit), done(0));
+    tell_compared("blank_disc_of_8");
 }
 
 /// "Disc of 9: first write done, second 14."
@@ -88,6 +98,7 @@ fn disc_of_9() {
     let mut station = Station::begun(9);
     assert_eq!(station.write(0, &BLOCK), done(0));
     assert_eq!(station.write(1, &BLOCK), refused(14));
+    tell_compared("disc_of_9");
 }
 
 /// "Disc of 10: two writes done, third 14."
@@ -97,6 +108,7 @@ fn disc_of_10() {
     assert_eq!(station.write(0, &BLOCK), done(0));
     assert_eq!(station.write(1, &BLOCK), done(1));
     assert_eq!(station.write(2, &BLOCK), refused(14));
+    tell_compared("disc_of_10");
 }
 
 /// "One write, then close packet: with 17 sectors the next write takes block 8".
@@ -105,6 +117,7 @@ fn write_after_close_packet_on_17() {
     let mut station = written_and_closed(17);
     assert_eq!(station.write(1, &BLOCK), done(8));
     assert_eq!(station.kinds[..9], [1, 2, 2, 2, 2, 2, 2, 2, 1]);
+    tell_compared("write_after_close_packet_on_17");
 }
 
 /// "with 16 it gives 14"
@@ -112,6 +125,7 @@ fn write_after_close_packet_on_17() {
 fn write_after_close_packet_on_16() {
     let mut station = written_and_closed(16);
     assert_eq!(station.write(1, &BLOCK), refused(14));
+    tell_compared("write_after_close_packet_on_16");
 }
 
 /// "Write of 1 at size 0: 12."
@@ -119,6 +133,7 @@ fn write_after_close_packet_on_16() {
 fn write_above_size() {
     let mut station = Station::begun(30);
     assert_eq!(station.write(1, &BLOCK), refused(12));
+    tell_compared("write_above_size");
 }
 
 /// "Write of 458 at size 458 with space: 13."
@@ -126,6 +141,7 @@ fn write_above_size() {
 fn write_at_limit() {
     let mut station = of_size(600, 458);
     assert_eq!(station.write(458, &BLOCK), refused(13));
+    tell_compared("write_at_limit");
 }
 
 /// "Write of 500 at size 3: 12."
@@ -133,6 +149,7 @@ fn write_at_limit() {
 fn write_above_size_and_limit() {
     let mut station = of_size(30, 3);
     assert_eq!(station.write(500, &BLOCK), refused(12));
+    tell_compared("write_above_size_and_limit");
 }
 
 /// A disc of 30 whose block 0 is data and block 1 a table sector; the next
@@ -153,6 +170,7 @@ fn copied_table_sector() {
         station.disc().newest_vat().map(|found| found.block),
         Some(1)
     );
+    tell_compared("copied_table_sector");
 }
 
 /// "The same with location 2 and right sums: 15."
@@ -162,6 +180,7 @@ fn table_sector_for_its_own_block() {
     let mut forged = *station.sector(1);
     seal(&mut forged, 2);
     assert_eq!(station.write(1, &forged), refused(15));
+    tell_compared("table_sector_for_its_own_block");
 }
 
 /// "Commit after close packet, cut after j of 8 sectors: 0 to 7 show the old
@@ -181,6 +200,7 @@ fn commit_cut_after_each_sector() {
             assert_eq!(station.volume().entries(), kept);
         }
     }
+    tell_compared("commit_cut_after_each_sector");
 }
 
 /// "Cut before the first table: mount 7; begin is done."
@@ -195,6 +215,7 @@ fn cut_before_the_first_table() {
             assert_eq!(station.call(Call::Begin), done(0));
         }
     }
+    tell_compared("cut_before_the_first_table");
 }
 
 /// "A blank disc of 31: begin, write 0, commit, write 1, release 0, commit,
@@ -222,6 +243,7 @@ fn listing_of_the_disc_of_31() {
     assert_eq!(row(&station, 2), (1, 1, 1));
     assert_eq!(station.call(Call::LookBack(3)), refused(9));
     assert_eq!(station.call(Call::Mount), done(1));
+    tell_compared("listing_of_the_disc_of_31");
 }
 
 /// "For a link sector only its kind changes, to 2; its image bytes stay."
@@ -234,6 +256,7 @@ fn links_of_the_disc_of_31() {
     for block in (4..11).chain(12..31) {
         assert_eq!(station.sector(block), &[0x77; SECTOR]);
     }
+    tell_compared("links_of_the_disc_of_31");
 }
 
 /// CRC and sum of the sector below, computed apart from this package.
@@ -271,4 +294,5 @@ fn bytes_of_the_last_table_of_the_disc_of_31() {
         expected[at..at + field.len()].copy_from_slice(field);
     }
     assert_eq!(disc_of_31().sector(11), &expected);
+    tell_compared("bytes_of_the_last_table_of_the_disc_of_31");
 }

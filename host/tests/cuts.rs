@@ -1,5 +1,8 @@
-//! Demand 3 on the model: random lists of calls, done, refused or cut, on
-//! random small discs, compared with the book after each event.
+//! Demand 3 on the core: random lists of calls, done, refused or cut, on random
+//! small discs, compared with document 01's book after each event.
+//!
+//! What a cut call would have recorded is what the core records when the same
+//! call is made whole on a copy. The model's calls have no part in this test.
 //!
 //! STATION_SEED names another seed. On a difference the seed and the list of
 //! events are printed.
@@ -7,33 +10,26 @@
 mod common;
 
 use common::agreement::compare;
+use common::core::{Core, Short};
 use common::forge;
 use common::random::{seed, Random};
 use common::station::Station;
 use common::tally::Tally;
-use station::model::answer::{Answer, Refusal};
-use station::model::book::{Ending, Fed, History, Snapshot};
-use station::model::calls::{effect, perform, Call, Effect, Lent};
-use station::model::disc::{fail_power, Sector};
-use station::model::table::SECTOR;
+use station_model::answer::Answer;
+use station_model::book::{Ending, Fed, History, Snapshot};
+use station_model::calls::Call;
+use station_model::disc::DATA;
+use station_model::table::SECTOR;
 
 /// Events of lists to compare, without the cuts tried beside them.
 const EVENTS: usize = 25_000;
 
-/// How the host lends its buffers: in some refused calls not as it should.
-#[derive(Clone, Copy, Debug, PartialEq)]
-enum Lending {
-    Right,
-    ShortImage,
-    ShortLedger,
-    WrongBlock(usize),
-}
-
-/// A call about to be made, with its block buffer.
+/// A call about to be made, with its block buffer; the host lends some calls
+/// too little, or a block of another length.
 struct Attempt {
     call: Call,
     block: Vec<u8>,
-    lending: Lending,
+    short: Short,
 }
 
 impl Attempt {
@@ -42,47 +38,38 @@ impl Attempt {
         matches!(self.call, Call::Write(_)).then_some(&self.block)
     }
 
-    /// The lent lengths of image and ledger.
-    fn lengths(&self, station: &Station) -> (usize, usize) {
-        let short_image = usize::from(self.lending == Lending::ShortImage);
-        let short_ledger = usize::from(self.lending == Lending::ShortLedger);
-        (
-            station.image.len() - short_image,
-            station.ledger.len() - short_ledger,
-        )
-    }
-
-    fn effect(&self, station: &Station) -> Result<Effect, Refusal> {
-        let (image, ledger) = self.lengths(station);
-        let lent = Lent {
-            image: &station.image[..image],
-            kinds: &station.kinds,
-            ledger: &station.ledger[..ledger],
-            block: &self.block,
-        };
-        effect(&lent, self.call)
-    }
-
-    fn perform(&self, station: &mut Station, block: &mut [u8]) -> Answer {
-        let (image, ledger) = self.lengths(station);
-        perform(
-            &mut station.image[..image],
-            &mut station.kinds,
-            &mut station.ledger[..ledger],
-            block,
-            self.call,
-        )
-    }
-
     /// "until a begin, mount or look back is done, only these three [...] follow"
     fn restores(&self) -> bool {
         matches!(self.call, Call::Begin | Call::Mount | Call::LookBack(_))
     }
+
+    /// Makes the whole call on a copy.
+    fn made_on(&self, core: &Core) -> Made {
+        let mut after = core.clone();
+        let mut block = self.block.clone();
+        let answer = after.call_short(self.call, &mut block, self.short);
+        let sectors = after.disc().recorded() - core.disc().recorded();
+        Made {
+            answer,
+            after,
+            block,
+            sectors: sectors as usize,
+        }
+    }
+}
+
+/// What the core made of a call.
+struct Made {
+    answer: Answer,
+    after: Core,
+    block: Vec<u8>,
+    /// How many sectors it recorded.
+    sectors: usize,
 }
 
 /// One list in the making: the disc, the book, and what has happened.
 struct List {
-    station: Station,
+    core: Core,
     history: History,
     /// "The ledger is lost": since a cut none of the three was done.
     lost: bool,
@@ -92,20 +79,21 @@ struct List {
 impl List {
     /// Mount if the disc has a table, else begin; one of them is done on every
     /// sound disc.
-    fn start(mut station: Station, random: &mut Random) -> List {
-        random.fill(&mut station.ledger);
-        let found = station.disc().newest_vat();
-        let page = found.map(|found| Snapshot::found(&station.disc(), &found.vat));
+    fn start(disc: &Station, random: &mut Random) -> List {
+        let mut core = Core::holding(disc, random.below(16));
+        random.fill(&mut core.ledger);
+        let found = core.disc().newest_vat();
+        let page = found.map(|found| Snapshot::found(&core.disc(), &found.vat));
         let (call, history) = match page {
             Some(page) => (Call::Mount, History::mounted(page)),
             None => (Call::Begin, History::begun()),
         };
-        let answer = station.call(call);
+        let answer = core.call(call);
         assert_eq!(answer.outcome, 0, "a list starts with {call:?}");
-        let kinds: String = station.kinds.iter().map(u8::to_string).collect();
+        let kinds: String = core.kinds.iter().map(u8::to_string).collect();
         let events = vec![format!("disc of kinds {kinds}, {call:?}: {answer:?}")];
         List {
-            station,
+            core,
             history,
             lost: false,
             events,
@@ -116,47 +104,42 @@ impl List {
     /// not follow a cut.
     fn step(&mut self, random: &mut Random, tally: &mut Tally) -> Result<(), String> {
         if self.lost {
-            self.lose_ledger(random);
+            let ledger = forge::lost_ledger(random, &self.core.disc(), &self.core.ledger);
+            self.core.ledger.copy_from_slice(&ledger);
         }
         let attempt = self.attempt(random);
-        let effect = attempt.effect(&self.station);
-        if self.lost && effect.is_ok() && !attempt.restores() {
+        let made = attempt.made_on(&self.core);
+        if self.lost && made.answer.is_done() && !attempt.restores() {
             tally.skipped += 1;
             return Ok(());
         }
         if random.one_in(6) {
-            tally.beside += self.try_each_cut(&attempt, &effect, random)?;
+            tally.beside += self.try_each_cut(&attempt, &made, random)?;
         }
-        let sectors = recorded_by(&effect);
-        if random.one_in(if sectors.len() > 1 { 3 } else { 10 }) {
-            let j = random.below(sectors.len() + 1);
+        if random.one_in(if made.sectors > 1 { 3 } else { 10 }) {
+            let j = random.below(made.sectors + 1);
             tally.cut(attempt.call, j);
-            self.cut(&attempt, sectors, j, random);
+            self.cut(&attempt, &made, j, random);
         } else {
-            let answer = self.make(&attempt, &effect)?;
-            tally.answered(attempt.call, answer);
+            tally.answered(attempt.call, made.answer);
+            self.take(&attempt, made)?;
         }
-        compare(&self.station, &self.history, random)
+        compare(&self.core, &self.history, random)
     }
 
     /// A random call, with numbers near those that mean something.
     fn attempt(&self, random: &mut Random) -> Attempt {
         let call = self.call(random);
-        let lending = match random.below(40) {
-            0 => Lending::ShortImage,
-            1 => Lending::ShortLedger,
-            2 if call.is_lent_block() => Lending::WrongBlock(random.below(2 * SECTOR)),
-            _ => Lending::Right,
-        };
-        let mut block = forge::block(random, &self.station);
-        if let Lending::WrongBlock(length) = lending {
-            block.resize(length, 0);
+        let recorded = self.core.disc().recorded();
+        let mut block = forge::block(random, &self.core.image, recorded);
+        let mut short = Short::default();
+        match random.below(40) {
+            0 => short.image = 1,
+            1 => short.ledger = 1,
+            2 if call.is_lent_block() => block.resize(random.below(2 * SECTOR), 0),
+            _ => {}
         }
-        Attempt {
-            call,
-            block,
-            lending,
-        }
+        Attempt { call, block, short }
     }
 
     fn call(&self, random: &mut Random) -> Call {
@@ -187,33 +170,26 @@ impl List {
         }
     }
 
-    /// Makes the call and feeds the book; a refusal "alters no lent byte".
-    fn make(
-        &mut self,
-        attempt: &Attempt,
-        effect: &Result<Effect, Refusal>,
-    ) -> Result<Answer, String> {
-        let before = self.station.clone();
-        let mut block = attempt.block.clone();
-        let answer = attempt.perform(&mut self.station, &mut block);
+    /// Takes the call as made and feeds the book; a refusal "alters no lent
+    /// byte".
+    fn take(&mut self, attempt: &Attempt, made: Made) -> Result<(), String> {
+        let answer = made.answer;
         self.note(attempt, format!("{answer:?}"));
         if answer.is_done() {
-            self.check_done(attempt)?;
+            self.check_done(attempt, &made.after)?;
             self.lost &= !attempt.restores();
-        } else if before != self.station || block != attempt.block {
+        } else if !self.core.same_bytes(&made.after) || made.block != attempt.block {
             return Err("a refusal altered lent bytes".into());
         }
-        if answer.is_done() != effect.is_ok() {
-            return Err("the call and its effect disagree".into());
-        }
+        self.core = made.after;
         self.feed(attempt, Ending::Answered(answer));
-        Ok(answer)
+        Ok(())
     }
 
     /// "After each call that is done, the ledger's recorded equals the
     /// disc's"; and what changes or saves the draft finds one in the book.
-    fn check_done(&self, attempt: &Attempt) -> Result<(), String> {
-        if self.station.volume().recorded != self.station.disc().recorded() {
+    fn check_done(&self, attempt: &Attempt, after: &Core) -> Result<(), String> {
+        if after.volume().recorded != after.disc().recorded() {
             return Err("the ledger's recorded is not the disc's".into());
         }
         let on_draft = matches!(
@@ -228,15 +204,12 @@ impl List {
 
     /// Cuts the call after j of its sectors. A commit's table sector is its
     /// last, so it was kept if the commit has sectors and all were kept.
-    fn cut(&mut self, attempt: &Attempt, sectors: &[Sector], j: usize, random: &mut Random) {
-        let torn = torn_bytes(random, &self.station, sectors, j);
-        self.note(
-            attempt,
-            format!("cut after {j} of {}, {}", sectors.len(), torn.0),
-        );
-        let Station { image, kinds, .. } = &mut self.station;
-        fail_power(image, kinds, sectors, j, torn.1.as_ref());
-        let vat_kept = attempt.call == Call::Commit && !sectors.is_empty() && j == sectors.len();
+    fn cut(&mut self, attempt: &Attempt, made: &Made, j: usize, random: &mut Random) {
+        let (told, torn) = torn_bytes(random, made, j);
+        let cut = format!("cut after {j} of {}, {told}", made.sectors);
+        self.note(attempt, cut);
+        self.core.cut(&made.after, j, torn.as_ref());
+        let vat_kept = attempt.call == Call::Commit && made.sectors > 0 && j == made.sectors;
         self.feed(attempt, Ending::Cut { vat_kept });
         self.lost = true;
     }
@@ -245,28 +218,21 @@ impl List {
     fn try_each_cut(
         &self,
         attempt: &Attempt,
-        effect: &Result<Effect, Refusal>,
+        made: &Made,
         random: &mut Random,
     ) -> Result<usize, String> {
-        let sectors = recorded_by(effect);
-        for j in 0..=sectors.len() {
+        for j in 0..=made.sectors {
             let mut branch = List {
-                station: self.station.clone(),
+                core: self.core.clone(),
                 history: self.history.clone(),
                 lost: self.lost,
                 events: Vec::new(),
             };
-            branch.cut(attempt, sectors, j, random);
-            compare(&branch.station, &branch.history, random)
+            branch.cut(attempt, made, j, random);
+            compare(&branch.core, &branch.history, random)
                 .map_err(|found| format!("beside the list, {}: {found}", branch.events[0]))?;
         }
-        Ok(sectors.len() + 1)
-    }
-
-    /// "it may hold anything", and something else before each call.
-    fn lose_ledger(&mut self, random: &mut Random) {
-        let ledger = forge::lost_ledger(random, &self.station.disc(), &self.station.ledger);
-        self.station.ledger = ledger;
+        Ok(made.sectors + 1)
     }
 
     fn feed(&mut self, attempt: &Attempt, ending: Ending) {
@@ -278,20 +244,18 @@ impl List {
     }
 
     fn note(&mut self, attempt: &Attempt, ending: String) {
-        let Attempt { call, lending, .. } = attempt;
+        let Attempt { call, short, .. } = attempt;
         let lost = if self.lost { ", ledger lost" } else { "" };
         let block = match attempt.written() {
-            Some(block) => format!(", block {:02X?}..", &block[..block.len().min(4)]),
+            Some(block) => {
+                let start = &block[..block.len().min(4)];
+                format!(", block of {} bytes {start:02X?}..", block.len())
+            }
             None => String::new(),
         };
-        let event = format!("{call:?} ({lending:?} lending{lost}{block}): {ending}");
+        let event = format!("{call:?} (not lent: {short:?}{lost}{block}): {ending}");
         self.events.push(event);
     }
-}
-
-/// The sectors of a call; a refused call has none.
-fn recorded_by(effect: &Result<Effect, Refusal>) -> &[Sector] {
-    effect.as_ref().map_or(&[], |effect| &effect.sectors)
 }
 
 /// A number near the bound, rarely far above it.
@@ -305,25 +269,25 @@ fn number(random: &mut Random, bound: usize) -> u32 {
 
 /// "stays blank or has kind 3 with arbitrary bytes": also those of a table
 /// sector for that block, or those that were about to be recorded.
-fn torn_bytes(
-    random: &mut Random,
-    station: &Station,
-    sectors: &[Sector],
-    j: usize,
-) -> (&'static str, Option<[u8; SECTOR]>) {
-    let block = station.disc().recorded() + j as u32;
-    match (random.below(4), sectors.get(j)) {
-        (_, None) => ("no next sector", None),
-        (0, _) => ("next blank", None),
-        (1, Some(Sector::Data(data))) => ("next torn, its own bytes", Some(**data)),
-        (2, _) => {
-            let mut bytes = [0; SECTOR];
+fn torn_bytes(random: &mut Random, made: &Made, j: usize) -> (&'static str, Option<[u8; SECTOR]>) {
+    if j == made.sectors {
+        return ("no next sector", None);
+    }
+    let block = made.after.disc().recorded() as usize - made.sectors + j;
+    let mut bytes = [0; SECTOR];
+    match random.below(4) {
+        0 => ("next blank", None),
+        1 if made.after.kinds[block] == DATA => {
+            bytes.copy_from_slice(&made.after.image[block * SECTOR..][..SECTOR]);
+            ("next torn, its own bytes", Some(bytes))
+        }
+        2 => {
             random.fill(&mut bytes);
             ("next torn, random bytes", Some(bytes))
         }
         _ => (
             "next torn, bytes of a table sector",
-            Some(forge::valid_vat(random, block)),
+            Some(forge::valid_vat(random, block as u32)),
         ),
     }
 }
@@ -332,7 +296,11 @@ fn torn_bytes(
 /// before has left.
 fn next_disc(before: Option<List>, random: &mut Random) -> Station {
     match (random.below(8), before) {
-        (0..=2, Some(list)) => list.station,
+        (0..=2, Some(list)) => Station {
+            image: list.core.image.to_vec(),
+            kinds: list.core.kinds.to_vec(),
+            ledger: list.core.ledger.to_vec(),
+        },
         (3..=4, _) => forge::disc_with_vats(random),
         (5, _) => Station::blank(60),
         _ => forge::disc_without_vat(random),
@@ -348,9 +316,9 @@ fn steps(list: &List, random: &mut Random) -> usize {
 
 /// Makes the events of a list. A full disc soon shows nothing new.
 fn run(list: &mut List, random: &mut Random, tally: &mut Tally) -> Result<(), String> {
-    compare(&list.station, &list.history, random)?;
+    compare(&list.core, &list.history, random)?;
     for _ in 0..steps(list, random) {
-        if list.station.disc().blank() == 0 && random.one_in(3) {
+        if list.core.disc().blank() == 0 && random.one_in(3) {
             break;
         }
         list.step(random, tally)?;
@@ -365,7 +333,7 @@ fn every_list_agrees_with_the_book() {
     let mut tally = Tally::default();
     let mut before = None;
     while tally.events() < EVENTS {
-        let mut list = List::start(next_disc(before, &mut random), &mut random);
+        let mut list = List::start(&next_disc(before, &mut random), &mut random);
         tally.started(&list.history);
         if let Err(difference) = run(&mut list, &mut random, &mut tally) {
             let events = list.events.join("\n  ");

@@ -11,7 +11,7 @@ use Rattle.crc.specs.Crc.{crcOf, crcFrom, byteStep}
 use Rattle.tag.specs.Tag.{crcLength, checksum, bodyCrc, sealed, seal}
 use Rattle.vat.specs.Table.{unused, plainRows, lengthRows, tableName, entryCount, entriesOf, previousOf, framed, isTable}
 use Rattle.vat.specs.Sector.{tableRegid, tableBytes, ownRows, stationName, body, sector}
-use Rattle.disc.specs.Disc.{Disc, sized, leading, formed, sectorAt, content, stored, puts}
+use Rattle.disc.specs.Disc.{Disc, sized, leading, inOrder, sectorAt, content, stored, puts}
 use Rattle.disc.specs.Tables.{newestBelow, walk}
 use Rattle.volume.specs.Volume.{unpack, pack, fits, begun, filled, wrote, released, closed, committed}
 use Rattle.recorder.specs.Calls.{Call, begin, write, closePacket, commit}
@@ -20,7 +20,7 @@ use Rattle.recorder.specs.Effects.{effect, After, after, secondNumber, sectorsO
 
 -- To open this is to open every definition that the rows and lists are worked out from.
 unfoldable pub opened : Unit {0}
-unfolding le readLe leadingWords words leWords lay holds every total holdsText crcFrom byteStep checksum bodyCrc sealed seal plainRows lengthRows tableName entryCount entriesOf previousOf framed isTable tableRegid tableBytes ownRows stationName body sector sized leading formed sectorAt content stored puts newestBelow walk unpack pack fits begun filled wrote released closed committed first links walked tests outcome effect after secondNumber sectorsOf
+unfolding le readLe leadingWords words leWords lay holds every total holdsText crcFrom byteStep checksum bodyCrc sealed seal plainRows lengthRows tableName entryCount entriesOf previousOf framed isTable tableRegid tableBytes ownRows stationName body sector sized leading inOrder sectorAt content stored puts newestBelow walk unpack pack fits begun filled wrote released closed committed first links walked tests outcome effect after secondNumber sectorsOf
 opened = tt
 
 -- A blank disc of n sectors, and a lent block.

@@ -1,2 +1,3 @@
 pub mod Recording
-pub mod Tables
+pub mod Order
+pub mod Found

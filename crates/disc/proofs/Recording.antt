@@ -1,20 +1,20 @@
 -- What recording one sector at the end of what is recorded does to a sound disc: one sector more is recorded, it holds what was put, and every lower
 -- one stays.
 -- Assumes nothing.
-use Prim.Native.Nat.{ℕ, zero, suc, _+_, _*_, _≤_, _<_}
+use Prim.Native.Nat.{ℕ, zero, suc, _+_, _-_, _*_, _≤_, _<_}
 use native.Mathlib.Nat.{not-suc-le-zero, le-of-suc-le-suc, add-zero}
 use native.Mathlib.Omega.{arith}
 use mathlib.Core.Path.{_≡_, refl, sym, ap, _∙_}
 use mathlib.Core.Bool.{Bool, true, false, _&&_}
 use mathlib.Core.List.{List, [], _∷_, _++_}
 use lib.Dec.{eqb, ltb, leb}
-use lib.ListN.{length, getD, take, drop, set, length-set, length-append, length-drop, take-append-drop}
-use lib.Seq.{getD-set-same, getD-set-other, drop-set-lt, take-append-le, drop-append-le, take-at, drop-at, length-take-le}
+use lib.ListN.{length, getD, take, drop, set, replicate, length-set, length-append, length-drop, take-append-drop}
+use lib.Seq.{getD-set-same, getD-set-other, drop-set-lt, take-append-le, drop-append-le, take-at, drop-at, drop-drop, length-take-le}
 use borrow.Author.Tests.{eq-eqb, ne-eqb, eqb-true, ltb-true, ltb-false, leb-true, lt-ltb, le-leb}
 use Rattle.le.specs.Bytes.{every}
 use Rattle.vat.specs.Table.{sectorLength}
 use Rattle.vat.proofs.Frame.{and-left, and-right}
-use Rattle.disc.specs.Disc.{Disc, mostSectors, sized, counted, leading, recorded, formed, kindAt, sectorAt, Sector, link, plain, torn, stored, put, puts}
+use Rattle.disc.specs.Disc.{Disc, lent, mostSectors, sized, counted, leading, recorded, inOrder, formed, kindAt, sectorAt, Sector, link, plain, torn, stored, put, puts}
 
 -- ---- the kinds
 
@@ -65,6 +65,11 @@ length-stored image at s h =
     rw (length-append (take at image) (s ++ drop (at + length s) image), length-append s (drop (at + length s) image), length-take-le at image (omega arith), length-drop (at + length s) image)
     (omega arith)
 
+-- a part of the image that was lent and filled
+pub stored-part : (image s : List ℕ) (at n : ℕ) → length s ≡ n → take at image ++ (s ++ drop n (drop at image)) ≡ stored image at s
+unfolding stored
+stored-part image s at n e = ap (λ (r : List ℕ). take at image ++ (s ++ r)) (drop-drop n at image ∙ ap (λ (k : ℕ). drop (at + k) image) (sym e))
+
 -- what was stored stands there
 pub stored-here : (image : List ℕ) (at : ℕ) (s : List ℕ) (n : ℕ) → at + length s ≤ length image → length s ≡ n → take n (drop at (stored image at s)) ≡ s
 unfolding stored
@@ -86,6 +91,24 @@ stored-before image at s k n h b =
 
 -- ---- a sound disc
 
+-- what refusal 1 leaves
+pub record Sized (d : Disc) : Type 0 where
+  pub some-sectors : 0 < length (d .kinds)
+  pub few : length (d .kinds) ≤ mostSectors
+  pub whole : length (d .image) ≡ sectorLength * length (d .kinds)
+
+pub sized-tells : (d : Disc) → sized d ≡ true → Sized d
+unfolding sized
+sized-tells d s =
+    let n : ℕ = length (d .kinds) in
+    let two : Bool = leb n mostSectors && eqb (length (d .image)) (sectorLength * n) in
+    let s₂ : two ≡ true = and-right (ltb 0 n) two s in
+    record {
+      some-sectors = ltb-true 0 n (and-left (ltb 0 n) two s);
+      few = leb-true n mostSectors (and-left (leb n mostSectors) (eqb (length (d .image)) (sectorLength * n)) s₂);
+      whole = eqb-true (length (d .image)) (sectorLength * n) (and-right (leb n mostSectors) (eqb (length (d .image)) (sectorLength * n)) s₂);
+    }
+
 -- what refusals 1 and 3 leave
 pub record Sound (d : Disc) : Type 0 where
   pub some-sectors : 0 < length (d .kinds)
@@ -95,15 +118,13 @@ pub record Sound (d : Disc) : Type 0 where
   pub blank : blankFrom (d .kinds) (recorded d) ≡ true
 
 pub sound : (d : Disc) → sized d ≡ true → formed d ≡ true → Sound d
-unfolding sized formed
+unfolding inOrder
 sound d s f =
-    let n : ℕ = length (d .kinds) in
-    let two : Bool = leb n mostSectors && eqb (length (d .image)) (sectorLength * n) in
-    let s₂ : two ≡ true = and-right (ltb 0 n) two s in
+    let z : Sized d = sized-tells d s in
     record {
-      some-sectors = ltb-true 0 n (and-left (ltb 0 n) two s);
-      few = leb-true n mostSectors (and-left (leb n mostSectors) (eqb (length (d .image)) (sectorLength * n)) s₂);
-      whole = eqb-true (length (d .image)) (sectorLength * n) (and-right (leb n mostSectors) (eqb (length (d .image)) (sectorLength * n)) s₂);
+      some-sectors = z .some-sectors;
+      few = z .few;
+      whole = z .whole;
       known = and-left (every (λ k. leb k 3) (d .kinds)) (blankFrom (d .kinds) (recorded d)) f;
       blank = and-right (every (λ k. leb k 3) (d .kinds)) (blankFrom (d .kinds) (recorded d)) f;
     }
@@ -114,7 +135,7 @@ sound-sized d s =
     rw (lt-ltb 0 (length (d .kinds)) (s .some-sectors), le-leb (length (d .kinds)) mostSectors (s .few), eq-eqb (length (d .image)) (sectorLength * length (d .kinds)) (s .whole))
 
 pub sound-formed : (d : Disc) → Sound d → formed d ≡ true
-unfolding formed
+unfolding inOrder
 sound-formed d s = rw (s .known, s .blank)
 
 every-set : (f : ℕ → Bool) (xs : List ℕ) (n x : ℕ) → every f xs ≡ true → f x ≡ true → every f (set xs n x) ≡ true
@@ -206,9 +227,29 @@ puts-append (x ∷ xs) ys d b =
     let e : b + 1 + length xs ≡ b + suc (length xs) = omega arith in
     puts-append xs ys (put d b x) (b + 1) ∙ ap (λ (k : ℕ). puts (puts (put d b x) (b + 1) xs) k ys) e
 
+-- one link, then those that are left
+pub link-put : (kinds : List ℕ) (at left : ℕ) → 0 < left
+    → puts (lent [] (set kinds at 2)) (at + 1) (replicate (left - 1) link) .kinds ≡ puts (lent [] kinds) at (replicate left link) .kinds
+unfolding puts
+link-put kinds at zero h = absurd (not-suc-le-zero h)
+link-put kinds at (suc left) h =
+    let e : suc left - 1 ≡ left = omega arith in
+    ap (λ (n : ℕ). puts (lent [] (set kinds at 2)) (at + 1) (replicate n link) .kinds) e
+
+-- links change the kinds alone
+pub puts-links : (n : ℕ) (image kinds : List ℕ) (b : ℕ) → puts (lent image kinds) b (replicate n link) ≡ lent image (puts (lent [] kinds) b (replicate n link) .kinds)
+unfolding puts
+puts-links zero image kinds b = refl
+puts-links (suc n) image kinds b = puts-links n image (set kinds b 2) (b + 1)
+
+pub length-links : (n : ℕ) (kinds : List ℕ) (b : ℕ) → length (puts (lent [] kinds) b (replicate n link) .kinds) ≡ length kinds
+unfolding puts
+length-links zero kinds b = refl
+length-links (suc n) kinds b = length-links n (set kinds b 2) (b + 1) ∙ length-set kinds b 2
+
 -- ---- what is not blank is recorded
 
-blank-kind : (ks : List ℕ) (r b : ℕ) → blankFrom ks r ≡ true → r ≤ b → getD ks b 0 ≡ 0
+pub blank-kind : (ks : List ℕ) (r b : ℕ) → blankFrom ks r ≡ true → r ≤ b → getD ks b 0 ≡ 0
 unfolding every
 blank-kind [] r b e h = refl
 blank-kind (k ∷ ks) zero zero e h = eqb-true k 0 (and-left (eqb k 0) (every (λ k. eqb k 0) ks) e)

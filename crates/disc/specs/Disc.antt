@@ -13,6 +13,9 @@ pub record Disc : Type 0 where
   pub image : List ℕ
   pub kinds : List ℕ
 
+abbrev pub lent : List ℕ → List ℕ → Disc
+lent image kinds = record { image = image; kinds = kinds }
+
 -- "It has 1 to 360,000 sectors." (refusal 1)
 abbrev pub mostSectors : ℕ
 mostSectors = 360000
@@ -35,8 +38,11 @@ abbrev pub recorded : Disc → ℕ
 recorded d = leading (d .kinds)
 
 -- "a kind above 3, or a recorded sector after a blank one" (refusal 3) does not occur.
-unfoldable pub formed : Disc → Bool
-formed d = every (λ k. leb k 3) (d .kinds) && every (λ k. eqb k 0) (drop (recorded d) (d .kinds))
+unfoldable pub inOrder : List ℕ → Bool
+inOrder ks = every (λ k. leb k 3) ks && every (λ k. eqb k 0) (drop (leading ks) ks)
+
+abbrev pub formed : Disc → Bool
+formed d = inOrder (d .kinds)
 
 abbrev pub blanks : Disc → ℕ
 blanks d = length (d .kinds) - recorded d

@@ -5,6 +5,8 @@ use mathlib.Core.List.{List}
 use mathlib.Core.Option.{Option, none, some}
 use lib.Dec.{eqb}
 use Rattle.vat.specs.Table.{unused, entriesOf, previousOf, isTable}
+use Rattle.disc.specs.declared.Walk.{Walk}
+use Rattle.disc.specs.declared.Walk.the-variants.{Reached, Broken, Ended}
 use Rattle.disc.specs.Disc.{Disc, recorded, kindAt, sectorAt}
 
 -- The sector at block b is a table sector; its map and its previous table.
@@ -29,20 +31,20 @@ newestBelow table (suc b) = let lower : Option ℕ = newestBelow table b in foun
 abbrev pub newest : Disc → Option ℕ
 newest d = newestBelow (tableAt d) (recorded d)
 
+-- The block found; FFFFFFFF where there is none.
+abbrev pub blockFound : Option ℕ → ℕ
+blockFound none = unused
+blockFound (some b) = b
+
 -- "follows the previous entry k times": a block reached, or the first step that fails: it names no table sector (refusal 8), or it
 -- "meets FFFFFFFF" (refusal 9).
-pub data Walk : Type 0 where
-  reached : ℕ → Walk
-  broken : Walk
-  ended : Walk
-
 abbrev pub stepped : Bool → Bool → Walk → Walk
-stepped true table further = ended
-stepped false false further = broken
+stepped true table further = Ended
+stepped false false further = Broken
 stepped false true further = further
 
 unfoldable pub walk : (ℕ → Bool) → (ℕ → ℕ) → ℕ → ℕ → Walk
-walk table previous zero b = reached b
+walk table previous zero b = Reached b
 walk table previous (suc k) b =
     let further : Walk = walk table previous k (previous b) in
     stepped (eqb (previous b) unused) (table (previous b)) further

@@ -17,7 +17,8 @@ use lib.ListN.{length, getD, set}
 use borrow.Author.Tests.{eq-eqb, ne-eqb, ltb-true, ltb-false}
 use Rattle.vat.specs.Table.{unused}
 use Rattle.volume.proofs.State.{grownMap}
-use Rattle.disc.specs.Tables.{found, newestBelow, reached, walk}
+use Rattle.disc.specs.declared.Walk.the-variants.{Reached}
+use Rattle.disc.specs.Tables.{found, newestBelow, walk}
 use Rattle.history.specs.History.{Entry, unusedEntry, shows, Snapshot, History, Told, Fed, answered, cutCommit, placed, onDraft, newestPage, saved, feed}
 use Rattle.history.specs.Events.{shownIf}
 
@@ -396,7 +397,7 @@ module _ (F : Format) where
 
     -- the walk back k tables reaches the page k before the newest
     pub walk-page : (d : F .Disc) (b : ℕ) (p : Snapshot) (ps : List Snapshot) → Chain d b p ps → (k : ℕ) → k < suc (length ps)
-        → (t : ℕ) × (walk (F .table d) (F .previousAt d) k b ≡ reached t) × Link d t (getD (p ∷ ps) k [])
+        → (t : ℕ) × (walk (F .table d) (F .previousAt d) k b ≡ Reached t) × Link d t (getD (p ∷ ps) k [])
     unfolding walk
     walk-page d b p ps c zero h = (b, refl, head-link b p ps c)
     walk-page d b p [] c (suc k) h = absurd (not-suc-le-zero (le-of-suc-le-suc h))

@@ -15,7 +15,7 @@ use Rattle.vat.proofs.Theorems.{Tells, tells}
 use Rattle.disc.specs.Disc.{Disc, recorded, kindAt, sectorAt, readable, content, puts}
 use Rattle.disc.specs.Tables.{tableAt, mapAt}
 use Rattle.disc.proofs.Recording.{Sound}
-use Rattle.disc.proofs.Tables.{table-recorded}
+use Rattle.disc.proofs.Found.{table-recorded}
 use Rattle.volume.specs.declared.Volume.{Volume}
 use Rattle.volume.specs.Volume.{ledgerLength, packetOpen, readOnly, unpack, pack, mapOf, fits, filled}
 use Rattle.volume.proofs.State.{Proper, unpack-pack, length-pack, map-filled}

@@ -14,37 +14,39 @@ use native.Mathlib.Numerals.{add-one}
 use borrow.Author.Tests.{eq-eqb}
 use lib.ListN.{length, getD}
 use Rattle.disc.specs.Disc.{Disc, recorded, puts}
-use Rattle.disc.specs.Tables.{tableAt, mapAt, previousAt, newest, Walk, reached, walk}
+use Rattle.disc.specs.declared.Walk.{Walk}
+use Rattle.disc.specs.declared.Walk.the-variants.{Reached}
+use Rattle.disc.specs.Tables.{tableAt, mapAt, previousAt, newest, walk, blockFound}
 use Rattle.disc.proofs.Recording.{Sound}
-use Rattle.disc.proofs.Tables.{newest-table, table-recorded}
+use Rattle.disc.proofs.Found.{newest-table, table-recorded}
 use Rattle.le.proofs.Runs.{AllBytes}
 use Rattle.volume.specs.declared.Volume.{Volume}
 use Rattle.volume.specs.Volume.{ledgerLength, idle, readOnly, unpack, pack, mapOf, filled}
 use Rattle.volume.proofs.State.{Proper, unpack-pack, proper-unpack, map-filled, length-map}
 use Rattle.recorder.specs.Calls.{Call, begin, mount, commit, lookBack}
 use Rattle.recorder.specs.Refusals.{test, ledgerLent, isSome, walkFrom, walked, isBroken, isEnded, tests, outcome, links, target}
-use Rattle.recorder.specs.Effects.{effect, blockFound, blockReached, cleanNumber, after}
-use Rattle.recorder.proofs.Done.{skip, stop, none-left, skip-basic, begin-done, mount-done, CommitDone, commit-done}
+use Rattle.recorder.specs.Effects.{effect, blockReached, cleanNumber, after}
+use Rattle.recorder.proofs.Done.{skip, stop, none-left, skip-basic, begin-done, mount-done, CommitDone, commit-done, walked-table}
 use Rattle.history.specs.History.{Snapshot, History, feed}
 use Rattle.history.specs.Events.{World, Event, calls, AllAllowed, next, fed, runs, remembers, shown, pageOf, afterCall, begunHistory, mountedHistory}
 use Rattle.history.specs.Claim.{Shows, DoneShowing, Mounts, Claim, PowerCuts}
 use Rattle.history.proofs.Log.{Inv, Pages, Saved, pageFrom, newest-saved, kept, walk-page, head-link, working}
 use Rattle.history.proofs.Growth.{F, names-below, behindLinks, behind-sound}
-use Rattle.history.proofs.Steps.{Good, GoodStep, stateOf, event-step, walked-table, proper-table, tableSector, sector-long, room, save, at-target, commit-records}
+use Rattle.history.proofs.Steps.{Good, GoodStep, stateOf, event-step, proper-table, tableSector, sector-long, room, save, at-target, commit-records}
 use Rattle.history.proofs.Shown.{shows-table}
 
 -- ---- the invariant over a list
 
-pub record Reached (w : World) (h : History) : Type 0 where
+pub record Kept (w : World) (h : History) : Type 0 where
   pub good : Good w
   pub inv : Inv F (stateOf w) h
 
-pub all-reached : (es : List Event) (w : World) (h : History) → Reached w h → AllAllowed w es → Reached (runs w es) (remembers w h es)
+pub all-kept : (es : List Event) (w : World) (h : History) → Kept w h → AllAllowed w es → Kept (runs w es) (remembers w h es)
 unfolding AllAllowed runs remembers
-all-reached [] w h r a = r
-all-reached (e ∷ es) w h r a =
+all-kept [] w h r a = r
+all-kept (e ∷ es) w h r a =
     let s : GoodStep w (fed w e) (next w e) = event-step w e (r .good) (a .0) in
-    all-reached es (next w e) (feed h (fed w e)) (record { good = s .good; inv = kept F names-below h (s .step) (r .inv) }) (a .1)
+    all-kept es (next w e) (feed h (fed w e)) (record { good = s .good; inv = kept F names-below h (s .step) (r .inv) }) (a .1)
 
 -- ---- what mount and look back answer on a sound disc
 
@@ -75,11 +77,11 @@ module _ (d : Disc) (l : List ℕ) (ok : Sound d) (long : length l ≡ ledgerLen
             (shows-table d ok b idle (lit< tt) (refl, refl) (newest-table (tableAt d) (recorded d) b n));
       }
 
-  walked-reached : (k b t : ℕ) → newest d ≡ some b → walk (tableAt d) (previousAt d) k b ≡ reached t → walked d k ≡ reached t
+  walked-reached : (k b t : ℕ) → newest d ≡ some b → walk (tableAt d) (previousAt d) k b ≡ Reached t → walked d k ≡ Reached t
   unfolding walked
   walked-reached k b t n e = ap (walkFrom d k) n ∙ e
 
-  look-back-some : (k b t : ℕ) → newest d ≡ some b → walked d k ≡ reached t → outcome d l (lookBack k) ≡ 0
+  look-back-some : (k b t : ℕ) → newest d ≡ some b → walked d k ≡ Reached t → outcome d l (lookBack k) ≡ 0
   unfolding outcome tests
   look-back-some k b t n e =
       let seven : Bool = not (isSome (newest d)) in
@@ -91,12 +93,12 @@ module _ (d : Disc) (l : List ℕ) (ok : Sound d) (long : length l ≡ ledgerLen
       ∙ skip 9 nine [] (ap isEnded e)
       ∙ none-left
 
-  look-back-leaves : (k b t : ℕ) → newest d ≡ some b → walked d k ≡ reached t → after d l (lookBack k) .ledger ≡ pack (filled (mapAt d t) t (recorded d) readOnly)
+  look-back-leaves : (k b t : ℕ) → newest d ≡ some b → walked d k ≡ Reached t → after d l (lookBack k) .ledger ≡ pack (filled (mapAt d t) t (recorded d) readOnly)
   unfolding after effect
   look-back-leaves k b t n e =
       rw (look-back-some k b t n e) (ap (λ (w : Walk). pack (filled (mapAt d (blockReached w)) (blockReached w) (recorded d) readOnly)) e)
 
-  pub look-back-shows : (k b t : ℕ) → newest d ≡ some b → walked d k ≡ reached t → DoneShowing d l (lookBack k) (pageFrom F d (mapAt d t))
+  pub look-back-shows : (k b t : ℕ) → newest d ≡ some b → walked d k ≡ Reached t → DoneShowing d l (lookBack k) (pageFrom F d (mapAt d t))
   look-back-shows k b t n e =
       record {
         is-done = look-back-some k b t n e;
@@ -120,7 +122,7 @@ looks-pages d l ok long (p ∷ ps) n k h =
     subst (λ (q : Snapshot). DoneShowing d l (lookBack k) q) (sym (way .2 .page))
     (look-back-shows d l ok long k (n .0) (way .0) (n .1) (walked-reached d l ok long k (n .0) (way .0) (n .1) (way .1)))
 
-claimed : (w : World) (h : History) → Reached w h → Claim (w .disc) h
+claimed : (w : World) (h : History) → Kept w h → Claim (w .disc) h
 claimed w h r =
     record {
       mounts = λ l long. mounts-pages (w .disc) l (r .good .sound-disc) long (h .pages) (r .inv .pages);
@@ -136,20 +138,20 @@ started : (d : Disc) (l : List ℕ) (c : Call) → outcome d l c ≡ 0 → next 
 unfolding next
 started d l c e = rw e
 
-begun-reached : (d : Disc) (l : List ℕ) → outcome d l begin ≡ 0 → Reached (afterCall d l begin) begunHistory
+begun-kept : (d : Disc) (l : List ℕ) → outcome d l begin ≡ 0 → Kept (afterCall d l begin) begunHistory
 unfolding feed fed
-begun-reached d l e =
+begun-kept d l e =
     let facts = begin-done d l e in
     let g : Good (lostWorld d) = record { sound-disc = facts .0; ledger-good = tt } in
     let s : GoodStep (lostWorld d) (fed (lostWorld d) (calls begin l)) (next (lostWorld d) (calls begin l)) = event-step (lostWorld d) (calls begin l) g (λ z y. tt) in
     let h : History = record { pages = []; draft = none } in
     let i : Inv F (stateOf (lostWorld d)) h = record { pages = facts .1; draft = refl } in
     let fed-begin : feed h (fed (lostWorld d) (calls begin l)) ≡ begunHistory = rw e in
-    subst₂ (λ (w : World) (k : History). Reached w k) (started d l begin e) fed-begin (record { good = s .good; inv = kept F names-below h (s .step) i })
+    subst₂ (λ (w : World) (k : History). Kept w k) (started d l begin e) fed-begin (record { good = s .good; inv = kept F names-below h (s .step) i })
 
-mounted-reached : (d : Disc) (l : List ℕ) → outcome d l mount ≡ 0 → Reached (afterCall d l mount) (mountedHistory d)
+mounted-kept : (d : Disc) (l : List ℕ) → outcome d l mount ≡ 0 → Kept (afterCall d l mount) (mountedHistory d)
 unfolding feed fed shown
-mounted-reached d l e =
+mounted-kept d l e =
     let facts = mount-done d l e in
     let b : ℕ = facts .1 .0 in
     let n : newest d ≡ some b = facts .1 .1 in
@@ -162,15 +164,15 @@ mounted-reached d l e =
     let i : Inv F (stateOf (lostWorld d)) h =
     record { pages = (b, n, record { is-table = table; inside = table-recorded d (facts .0) b table; page = same }); draft = refl } in
     let fed-mount : feed h (fed (lostWorld d) (calls mount l)) ≡ mountedHistory d = rw e in
-    subst₂ (λ (w : World) (k : History). Reached w k) (started d l mount e) fed-mount (record { good = s .good; inv = kept F names-below h (s .step) i })
+    subst₂ (λ (w : World) (k : History). Kept w k) (started d l mount e) fed-mount (record { good = s .good; inv = kept F names-below h (s .step) i })
 
 pub power-cuts : PowerCuts
 power-cuts =
     record {
       after-begin = λ d l e es a.
-          claimed (runs (afterCall d l begin) es) (remembers (afterCall d l begin) begunHistory es) (all-reached es (afterCall d l begin) begunHistory (begun-reached d l e) a);
+          claimed (runs (afterCall d l begin) es) (remembers (afterCall d l begin) begunHistory es) (all-kept es (afterCall d l begin) begunHistory (begun-kept d l e) a);
       after-mount = λ d l e es a.
-          claimed (runs (afterCall d l mount) es) (remembers (afterCall d l mount) (mountedHistory d) es) (all-reached es (afterCall d l mount) (mountedHistory d) (mounted-reached d l e) a);
+          claimed (runs (afterCall d l mount) es) (remembers (afterCall d l mount) (mountedHistory d) es) (all-kept es (afterCall d l mount) (mountedHistory d) (mounted-kept d l e) a);
     }
 
 -- ---- a commit, then a mount

@@ -8,10 +8,10 @@ use lib.Dec.{eqb, ltb}
 use lib.ListN.{length, take}
 use Rattle.vat.specs.Table.{sectorLength, unused}
 use Rattle.disc.specs.Disc.{Disc, Sector, torn, recorded, content, put, puts}
-use Rattle.disc.specs.Tables.{mapAt, newest}
+use Rattle.disc.specs.Tables.{mapAt, newest, blockFound}
 use Rattle.recorder.specs.Calls.{Call, begin, mount, write, release, closePacket, commit, read, lookBack}
 use Rattle.recorder.specs.Refusals.{outcome}
-use Rattle.recorder.specs.Effects.{blockFound, after, secondNumber, sectorsOf}
+use Rattle.recorder.specs.Effects.{after, secondNumber, sectorsOf}
 use Rattle.history.specs.History.{Entry, unusedEntry, shows, Snapshot, History, Told, Fed, answered, cut, cutCommit, feed}
 
 -- The disc and the ledger "as the one before left them"; none: "The ledger is lost: it may hold anything".

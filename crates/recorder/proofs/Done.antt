@@ -1,24 +1,29 @@
 -- What is known of a call that is done: none of its tests applies. And what a call answers on a sound disc, where its tests settle it.
 -- Assumes nothing.
-use Prim.Native.Nat.{ℕ, suc, _+_, _-_, _≤_, _<_}
+use Prim.Native.Nat.{ℕ, zero, suc, _+_, _-_, _*_, _≤_, _<_}
 use native.Mathlib.Omega.{arith}
-use mathlib.Core.Path.{_≡_, refl, ap, _∙_}
+use mathlib.Core.Path.{_≡_, refl, sym, ap, _∙_, subst}
 use mathlib.Core.Bool.{Bool, true, false, _&&_, _||_, not}
 use mathlib.Core.List.{List, [], _∷_, _++_}
 use mathlib.Core.Option.{Option, none, some}
 use lib.Dec.{eqb, ltb, leb}
-use lib.ListN.{length, getD, drop}
-use borrow.Author.Tests.{eqb-true, ltb-false, leb-true, leb-false, not-false}
+use lib.ListN.{length, getD, take, drop}
+use lib.Seq.{getD-take}
+use borrow.Author.Tests.{eqb-true, eqb-false, ltb-true, ltb-false, leb-true, leb-false, not-false}
 use Rattle.le.specs.Bytes.{every}
-use Rattle.vat.specs.Table.{sectorLength, limit, unused, unusedOrBelow, isTable}
+use Rattle.vat.specs.Table.{sectorLength, limit, unused, unusedOrBelow, entryCount, isTable}
 use Rattle.vat.proofs.Frame.{and-left, and-right}
-use Rattle.disc.specs.Disc.{Disc, sized, formed, recorded, blanks, kindAt}
-use Rattle.disc.specs.Tables.{tableAt, newest, Walk, reached, broken, ended}
-use Rattle.disc.proofs.Recording.{Sound, sound, sound-sized, sound-formed}
+use Rattle.vat.proofs.Theorems.{recognised}
+use Rattle.disc.specs.Disc.{Disc, sized, formed, recorded, blanks, kindAt, sectorAt}
+use Rattle.disc.specs.declared.Walk.{Walk}
+use Rattle.disc.specs.declared.Walk.the-variants.{Reached, Broken, Ended}
+use Rattle.disc.specs.Tables.{tableAt, previousAt, newest}
+use Rattle.disc.proofs.Recording.{sized-tells, Sound, sound, sound-sized, sound-formed}
+use Rattle.disc.proofs.Found.{newest-table, walk-table, sector-end, table-within}
 use Rattle.volume.specs.declared.Volume.{Volume}
-use Rattle.volume.specs.Volume.{packetOpen, readOnly, mapOf, unpack, fits}
-use Rattle.recorder.specs.Calls.{begin, mount, write, release, closePacket, commit, lookBack}
-use Rattle.recorder.specs.Refusals.{Test, test, first, links, target, reserve, basic, ledgerLent, blockLent, unfit, forbidden, notInUse, isSome, walked, isBroken, isEnded, tests, outcome}
+use Rattle.volume.specs.Volume.{ledgerLength, idle, packetOpen, readOnly, mapOf, unpack, fits}
+use Rattle.recorder.specs.Calls.{Call, begin, mount, write, release, closePacket, commit, read, lookBack}
+use Rattle.recorder.specs.Refusals.{Test, test, orElse, first, linkCount, linksIf, links, target, reserve, basic, ledgerLent, blockLent, unfit, forbidden, notInUse, isSome, walkFrom, walked, isBroken, isEnded, tests, outcome}
 
 -- ---- lists of tests
 
@@ -44,13 +49,57 @@ pub none-left : first [] ≡ 0
 unfolding first
 none-left = refl
 
+-- tests that stop a call stop it whatever follows
+pub stopped : (xs ys : List Test) → (first xs ≡ 0 → ⊥) → first (xs ++ ys) ≡ first xs
+unfolding first
+stopped [] ys h = absurd (h refl)
+stopped (t ∷ ts) ys h = go (t .applies) (t .number) h (stopped ts ys)
+  where
+    go : (a : Bool) (n : ℕ) → (orElse a n (first ts) ≡ 0 → ⊥) → ((first ts ≡ 0 → ⊥) → first (ts ++ ys) ≡ first ts)
+        → orElse a n (first (ts ++ ys)) ≡ orElse a n (first ts)
+    go true n h ih = refl
+    go false n h ih = ih h
+
+-- no test has the number 0, which says done
+abbrev pub coded : List Test → Bool
+coded [] = true
+coded (t ∷ ts) = ltb 0 (t .number) && coded ts
+
+-- tests that are passed leave those that follow
+pub resumed : (xs ys : List Test) → coded xs ≡ true → first xs ≡ 0 → first (xs ++ ys) ≡ first ys
+unfolding first
+resumed [] ys k e = refl
+resumed (t ∷ ts) ys k e = go (t .applies) (t .number) (and-left (ltb 0 (t .number)) (coded ts) k) e (resumed ts ys (and-right (ltb 0 (t .number)) (coded ts) k))
+  where
+    go : (a : Bool) (n : ℕ) → ltb 0 n ≡ true → orElse a n (first ts) ≡ 0 → (first ts ≡ 0 → first (ts ++ ys) ≡ first ys) → orElse a n (first (ts ++ ys)) ≡ first ys
+    go true n k e ih = absurd (let above : 0 < n = ltb-true 0 n k in omega (arith, e))
+    go false n k e ih = ih e
+
+-- 1, 2, 3, one by one
+module _ (d : Disc) (lengths : Bool) where
+  pub refusal-1 : sized d ≡ false → first (basic d lengths) ≡ 1
+  unfolding first
+  refusal-1 e = rw e
+
+  pub refusal-2 : sized d ≡ true → lengths ≡ false → first (basic d lengths) ≡ 2
+  unfolding first
+  refusal-2 s e = rw (s, e)
+
+  pub refusal-3 : sized d ≡ true → lengths ≡ true → formed d ≡ false → first (basic d lengths) ≡ 3
+  unfolding first
+  refusal-3 s l e = rw (s, l, e)
+
+  pub no-refusal : sized d ≡ true → lengths ≡ true → formed d ≡ true → first (basic d lengths) ≡ 0
+  unfolding first
+  no-refusal s l e = rw (s, l, e)
+
 -- 1, 2, 3 do not apply
 pub record Basic (d : Disc) (lengths : Bool) (rest : List Test) : Type 0 where
   pub sound-disc : Sound d
   pub lent : lengths ≡ true
   pub rest-passed : first rest ≡ 0
 
-basic-passed : (d : Disc) (lengths : Bool) (rest : List Test) → first (basic d lengths ++ rest) ≡ 0 → Basic d lengths rest
+pub basic-passed : (d : Disc) (lengths : Bool) (rest : List Test) → first (basic d lengths ++ rest) ≡ 0 → Basic d lengths rest
 basic-passed d lengths rest e =
     let one : Bool = not (sized d) in
     let three : Bool = not (formed d) in
@@ -106,7 +155,7 @@ pub record Working (d : Disc) (l : List ℕ) (rest : List Test) : Type 0 where
   pub not-looking : eqb (unpack l .mode) readOnly ≡ false
   pub rest-passed : first rest ≡ 0
 
-working-passed : (d : Disc) (l : List ℕ) (rest : List Test) → first (unfit d l ∷ forbidden l ∷ rest) ≡ 0 → Working d l rest
+pub working-passed : (d : Disc) (l : List ℕ) (rest : List Test) → first (unfit d l ∷ forbidden l ∷ rest) ≡ 0 → Working d l rest
 working-passed d l rest e =
     let four : Bool = not (fits d (unpack l)) in
     let five : Bool = eqb (unpack l .mode) readOnly in
@@ -117,7 +166,103 @@ working-passed d l rest e =
       rest-passed = later 4 five rest e₂;
     }
 
+-- ---- the tests that several calls begin with
+
+abbrev pub fittingTests : Disc → List ℕ → Bool → List Test
+fittingTests d l lengths = basic d lengths ++ (unfit d l ∷ [])
+
+abbrev pub workingTests : Disc → List ℕ → Bool → List Test
+workingTests d l lengths = basic d lengths ++ (unfit d l ∷ forbidden l ∷ [])
+
+-- 1 to 4 do not apply
+pub record Admitted (d : Disc) (l : List ℕ) (whole : Bool) : Type 0 where
+  pub sound-disc : Sound d
+  pub ledger-long : length l ≡ ledgerLength
+  pub block-whole : whole ≡ true
+  pub fit : Fits d (unpack l)
+
+pub ledger-lent : (l : List ℕ) (whole : Bool) → (ledgerLent l && whole) ≡ true → length l ≡ ledgerLength
+ledger-lent l whole e = eqb-true (length l) ledgerLength (and-left (ledgerLent l) whole e)
+
+admitted : (d : Disc) (l : List ℕ) (whole : Bool) (rest : List Test) → first (basic d (ledgerLent l && whole) ++ (unfit d l ∷ rest)) ≡ 0 → Admitted d l whole
+admitted d l whole rest e =
+    let b : Basic d (ledgerLent l && whole) (unfit d l ∷ rest) = basic-passed d (ledgerLent l && whole) (unfit d l ∷ rest) e in
+    let four : Bool = not (fits d (unpack l)) in
+    record {
+      sound-disc = b .sound-disc;
+      ledger-long = ledger-lent l whole (b .lent);
+      block-whole = and-right (ledgerLent l) whole (b .lent);
+      fit = fitting d (unpack l) (not-false (fits d (unpack l)) (passed 3 four rest (b .rest-passed)));
+    }
+
+pub fitting-admits : (d : Disc) (l : List ℕ) (whole : Bool) → first (fittingTests d l (ledgerLent l && whole)) ≡ 0 → Admitted d l whole
+fitting-admits d l whole e = admitted d l whole [] e
+
+pub working-admits : (d : Disc) (l : List ℕ) (whole : Bool) → first (workingTests d l (ledgerLent l && whole)) ≡ 0 → Admitted d l whole
+working-admits d l whole e = admitted d l whole (forbidden l ∷ []) e
+
+pub links-few : (v : Volume) → links v ≤ linkCount
+unfolding links
+links-few v = go (eqb (v .mode) idle && ltb 0 (v .recorded))
+  where
+    go : (t : Bool) → linksIf t ≤ linkCount
+    go true = omega arith
+    go false = omega arith
+
 -- ---- call by call
+
+-- a ledger that was accepted has its length
+lent-long : (d : Disc) (l : List ℕ) (whole : Bool) (rest : List Test) → first (basic d (ledgerLent l && whole) ++ rest) ≡ 0 → length l ≡ ledgerLength
+lent-long d l whole rest e = ledger-lent l whole (basic-passed d (ledgerLent l && whole) rest e .lent)
+
+alone-long : (d : Disc) (l : List ℕ) (rest : List Test) → first (basic d (ledgerLent l) ++ rest) ≡ 0 → length l ≡ ledgerLength
+alone-long d l rest e = eqb-true (length l) ledgerLength (basic-passed d (ledgerLent l) rest e .lent)
+
+pub ledger-accepted : (d : Disc) (l : List ℕ) (c : Call) → outcome d l c ≡ 0 → length l ≡ ledgerLength
+unfolding outcome tests
+ledger-accepted d l begin e = alone-long d l (test 6 (isSome (newest d)) ∷ []) e
+ledger-accepted d l mount e = alone-long d l (test 7 (not (isSome (newest d))) ∷ []) e
+ledger-accepted d l (write n block) e =
+    lent-long d l (eqb (length block) sectorLength)
+    (unfit d l ∷ forbidden l ∷ test 12 (ltb (unpack l .size) n) ∷ test 13 (leb limit n) ∷ test 14 (ltb (blanks d) (links (unpack l) + 1 + reserve)) ∷ test 15 (isTable 1 block (target (unpack l))) ∷ [])
+    e
+ledger-accepted d l (release n) e = alone-long d l (unfit d l ∷ forbidden l ∷ test 10 (notInUse (unpack l) n) ∷ []) e
+ledger-accepted d l closePacket e = alone-long d l (unfit d l ∷ forbidden l ∷ []) e
+ledger-accepted d l commit e = alone-long d l (unfit d l ∷ forbidden l ∷ test 14 (ltb (blanks d) (links (unpack l) + 1)) ∷ []) e
+ledger-accepted d l (read n block) e =
+    lent-long d l (eqb (length block) sectorLength)
+    (unfit d l ∷ test 10 (notInUse (unpack l) n) ∷ test 11 (not (eqb (kindAt d (getD (unpack l .entries) n unused)) 1)) ∷ []) e
+ledger-accepted d l (lookBack k) e =
+    alone-long d l (test 7 (not (isSome (newest d))) ∷ test 8 (isBroken (walked d k)) ∷ test 9 (isEnded (walked d k)) ∷ []) e
+
+pub record ReadDone (d : Disc) (l : List ℕ) (n : ℕ) (block : List ℕ) : Type 0 where
+  pub sound-disc : Sound d
+  pub block-long : length block ≡ sectorLength
+  pub fit : Fits d (unpack l)
+  pub used : notInUse (unpack l) n ≡ false
+
+pub read-done : (d : Disc) (l : List ℕ) (n : ℕ) (block : List ℕ) → outcome d l (read n block) ≡ 0 → ReadDone d l n block
+unfolding outcome tests
+read-done d l n block e =
+    let four : Bool = not (fits d (unpack l)) in
+    let ten : Bool = notInUse (unpack l) n in
+    let rest : List Test = test 10 ten ∷ test 11 (not (eqb (kindAt d (getD (unpack l .entries) n unused)) 1)) ∷ [] in
+    let b : Basic d (blockLent l block) (unfit d l ∷ rest) = basic-passed d (blockLent l block) (unfit d l ∷ rest) e in
+    record {
+      sound-disc = b .sound-disc;
+      block-long = eqb-true (length block) sectorLength (and-right (ledgerLent l) (eqb (length block) sectorLength) (b .lent));
+      fit = fitting d (unpack l) (not-false (fits d (unpack l)) (passed 3 four rest (b .rest-passed)));
+      used = passed 9 ten (test 11 (not (eqb (kindAt d (getD (unpack l .entries) n unused)) 1)) ∷ []) (later 3 four rest (b .rest-passed));
+    }
+
+-- a table that is shown lies within the image, and its entries fit
+pub shown-fits : (d : Disc) (b : ℕ) → Sound d → tableAt d b ≡ true
+    → (sectorLength * b + sectorLength ≤ length (d .image)) × (entryCount (take sectorLength (drop (sectorLength * b) (d .image))) ≤ limit)
+unfolding sectorAt
+shown-fits d b s e = (
+  sector-end d (sized-tells d (sound-sized d s)) b (table-within d b e),
+  recognised (kindAt d b) (sectorAt d b) b e .frame .few,
+)
 
 none-found : (o : Option ℕ) → isSome o ≡ false → o ≡ none
 none-found none e = refl
@@ -185,6 +330,39 @@ in-use v n e = go (leb (v .size) n) refl e
     go true z e = absurd (mathlib.Core.Bool.true≢false e)
     go false z e = leb-false (v .size) n z
 
+-- an entry that is in use names a recorded sector
+named : (b : ℕ) (xs : List ℕ) (i : ℕ) → every (unusedOrBelow b) xs ≡ true → unusedOrBelow b (getD xs i unused) ≡ true
+unfolding every
+named b [] i e = go (ltb unused b)
+  where
+    go : (t : Bool) → (t || true) ≡ true
+    go true = refl
+    go false = refl
+named b (x ∷ xs) zero e = and-left (unusedOrBelow b x) (every (unusedOrBelow b) xs) e
+named b (x ∷ xs) (suc i) e = named b xs i (and-right (unusedOrBelow b x) (every (unusedOrBelow b) xs) e)
+
+below : (b x : ℕ) → (x ≡ unused → ⊥) → unusedOrBelow b x ≡ true → x < b
+below b x u e = go (ltb x b) refl e
+  where
+    go : (t : Bool) → ltb x b ≡ t → (t || eqb x unused) ≡ true → x < b
+    go true h e = ltb-true x b h
+    go false h e = absurd (u (eqb-true x unused e))
+
+not-unused : (v : Volume) (n : ℕ) → notInUse v n ≡ false → getD (v .entries) n unused ≡ unused → ⊥
+not-unused v n e u = go (leb (v .size) n) e
+  where
+    go : (t : Bool) → (t || eqb (getD (v .entries) n unused) unused) ≡ false → ⊥
+    go true e = mathlib.Core.Bool.true≢false e
+    go false e = eqb-false (getD (v .entries) n unused) unused e u
+
+pub entry-recorded : (d : Disc) (v : Volume) (n : ℕ) → Fits d v → notInUse v n ≡ false → (n < v .size) × (getD (v .entries) n unused < recorded d)
+entry-recorded d v n fit e =
+    let inside : n < v .size = in-use v n e in
+    let same : getD (mapOf v) n unused ≡ getD (v .entries) n unused = getD-take (v .size) (v .entries) n unused inside in
+    let ok : unusedOrBelow (v .recorded) (getD (v .entries) n unused) ≡ true =
+    ap (unusedOrBelow (v .recorded)) (sym same) ∙ named (v .recorded) (mapOf v) n (fit .entries-below) in
+    (inside, subst (λ (r : ℕ). getD (v .entries) n unused < r) (fit .same-recorded) (below (v .recorded) (getD (v .entries) n unused) (not-unused v n e) ok))
+
 -- release and close packet: a working state; of a release the number is below size
 pub release-done : (d : Disc) (l : List ℕ) (n : ℕ) → outcome d l (release n) ≡ 0 → Sound d × Working d l (test 10 (notInUse (unpack l) n) ∷ []) × (n < unpack l .size)
 unfolding outcome tests
@@ -219,12 +397,12 @@ commit-done d l e =
       room = ltb-false (blanks d) (links (unpack l) + 1) (passed 13 fourteen [] (w .rest-passed));
     }
 
-way-reached : (w : Walk) → isBroken w ≡ false → isEnded w ≡ false → (b : ℕ) × (w ≡ reached b)
-way-reached (reached b) p q = (b, refl)
-way-reached broken p q = absurd (mathlib.Core.Bool.true≢false p)
-way-reached ended p q = absurd (mathlib.Core.Bool.true≢false q)
+way-reached : (w : Walk) → isBroken w ≡ false → isEnded w ≡ false → (b : ℕ) × (w ≡ Reached b)
+way-reached (Reached b) p q = (b, refl)
+way-reached Broken p q = absurd (mathlib.Core.Bool.true≢false p)
+way-reached Ended p q = absurd (mathlib.Core.Bool.true≢false q)
 
-pub look-back-done : (d : Disc) (l : List ℕ) (k : ℕ) → outcome d l (lookBack k) ≡ 0 → Sound d × ((b : ℕ) × (walked d k ≡ reached b))
+pub look-back-done : (d : Disc) (l : List ℕ) (k : ℕ) → outcome d l (lookBack k) ≡ 0 → Sound d × ((b : ℕ) × (walked d k ≡ Reached b))
 unfolding outcome tests
 look-back-done d l k e =
     let seven : Bool = not (isSome (newest d)) in
@@ -233,3 +411,12 @@ look-back-done d l k e =
     let b : Basic d (ledgerLent l) (test 7 seven ∷ test 8 eight ∷ test 9 nine ∷ []) = basic-passed d (ledgerLent l) (test 7 seven ∷ test 8 eight ∷ test 9 nine ∷ []) e in
     let e₁ : first (test 8 eight ∷ test 9 nine ∷ []) ≡ 0 = later 6 seven (test 8 eight ∷ test 9 nine ∷ []) (b .rest-passed) in
     (b .sound-disc, way-reached (walked d k) (passed 7 eight (test 9 nine ∷ []) e₁) (passed 8 nine [] (later 7 eight (test 9 nine ∷ []) e₁)))
+
+-- what look back reaches is a table
+pub walked-table : (d : Disc) (k t : ℕ) → walked d k ≡ Reached t → tableAt d t ≡ true
+unfolding walked
+walked-table d k t e = go (newest d) refl e
+  where
+    go : (o : Option ℕ) → newest d ≡ o → walkFrom d k o ≡ Reached t → tableAt d t ≡ true
+    go none n e = absurd (let z : _≡_ {A = ℕ} 0 1 = cc in omega arith)
+    go (some b) n e = walk-table (tableAt d) (previousAt d) k b t e (newest-table (tableAt d) (recorded d) b n)

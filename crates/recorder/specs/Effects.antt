@@ -3,13 +3,14 @@
 use Prim.Native.Nat.{ℕ, zero, suc, _+_, _*_}
 use mathlib.Core.Bool.{Bool, true, false}
 use mathlib.Core.List.{List, [], _∷_, _++_}
-use mathlib.Core.Option.{Option, none, some}
 use lib.Dec.{eqb}
 use lib.ListN.{getD, replicate}
 use Rattle.vat.specs.Table.{unused}
 use Rattle.vat.specs.Sector.{sector}
-use Rattle.disc.specs.Disc.{Disc, Sector, link, plain, recorded, sectorAt, puts}
-use Rattle.disc.specs.Tables.{mapAt, newest, Walk, reached, broken, ended}
+use Rattle.disc.specs.Disc.{Disc, lent, Sector, link, plain, recorded, sectorAt, puts}
+use Rattle.disc.specs.declared.Walk.{Walk}
+use Rattle.disc.specs.declared.Walk.the-variants.{Reached, Broken, Ended}
+use Rattle.disc.specs.Tables.{mapAt, newest, blockFound}
 use Rattle.volume.specs.declared.Volume.{Volume}
 use Rattle.volume.specs.Volume.{idle, readOnly, unpack, pack, mapOf, begun, filled, wrote, released, closed, committed}
 use Rattle.recorder.specs.Calls.{Call, begin, mount, write, release, closePacket, commit, read, lookBack, blockOf}
@@ -25,15 +26,11 @@ pub record Effect : Type 0 where
 abbrev pub settles : ℕ → List ℕ → Effect
 settles second ledger = record { second = second; sectors = []; ledger = ledger; block = [] }
 
--- The block that mount finds, and that look back k reaches; 0 where there is none, which no call that is done meets.
-abbrev pub blockFound : Option ℕ → ℕ
-blockFound none = 0
-blockFound (some b) = b
-
+-- The block that look back k reaches; 0 where it fails, which no call that is done meets.
 abbrev pub blockReached : Walk → ℕ
-blockReached (reached b) = b
-blockReached broken = 0
-blockReached ended = 0
+blockReached (Reached b) = b
+blockReached Broken = 0
+blockReached Ended = 0
 
 -- "Clean means that it is the last recorded sector": 1 if clean and 0 if dirty.
 abbrev pub cleanNumber : Bool → ℕ
@@ -75,6 +72,9 @@ pub record After : Type 0 where
   pub disc : Disc
   pub ledger : List ℕ
   pub block : List ℕ
+
+abbrev pub left : ℕ → List ℕ → List ℕ → List ℕ → List ℕ → After
+left answer image kinds ledger block = record { answer = answer; disc = lent image kinds; ledger = ledger; block = block }
 
 -- "A refusal's second number is 0, and it alters no lent byte."
 abbrev pub settled : Disc → List ℕ → List ℕ → ℕ → Effect → After

@@ -8,7 +8,9 @@ use lib.Dec.{eqb, ltb, leb}
 use lib.ListN.{length, getD}
 use Rattle.vat.specs.Table.{sectorLength, limit, unused, isTable}
 use Rattle.disc.specs.Disc.{Disc, sized, formed, blanks, kindAt}
-use Rattle.disc.specs.Tables.{tableAt, previousAt, newest, Walk, reached, broken, ended, walk}
+use Rattle.disc.specs.declared.Walk.{Walk}
+use Rattle.disc.specs.declared.Walk.the-variants.{Reached, Broken, Ended}
+use Rattle.disc.specs.Tables.{tableAt, previousAt, newest, walk}
 use Rattle.volume.specs.declared.Volume.{Volume}
 use Rattle.volume.specs.Volume.{ledgerLength, idle, readOnly, unpack, fits}
 use Rattle.recorder.specs.Calls.{Call, begin, mount, write, release, closePacket, commit, read, lookBack}
@@ -75,21 +77,21 @@ isSome (some b) = true
 
 -- The walk of look back k: "from the table that mount would find, follows the previous entry k times".
 abbrev pub walkFrom : Disc → ℕ → Option ℕ → Walk
-walkFrom d k none = broken
+walkFrom d k none = Broken
 walkFrom d k (some b) = walk (tableAt d) (previousAt d) k b
 
 unfoldable pub walked : Disc → ℕ → Walk
 walked d k = walkFrom d k (newest d)
 
 abbrev pub isBroken : Walk → Bool
-isBroken (reached b) = false
-isBroken broken = true
-isBroken ended = false
+isBroken (Reached b) = false
+isBroken Broken = true
+isBroken Ended = false
 
 abbrev pub isEnded : Walk → Bool
-isEnded (reached b) = false
-isEnded broken = false
-isEnded ended = true
+isEnded (Reached b) = false
+isEnded Broken = false
+isEnded Ended = true
 
 unfoldable pub tests : Disc → List ℕ → Call → List Test
 tests d l begin = basic d (ledgerLent l) ++ (test 6 (isSome (newest d)) ∷ [])

@@ -159,7 +159,7 @@ module _ (map : List ℕ) (previous b : ℕ) (few : length map ≤ limit) (small
       ∙ holds-spared (header b (length map)) (sealRows laid) laid tt
       ∙ header-held b (length map) (body map previous) small few (length-body map previous)
 
-  length-sector : length (sector map previous b) ≡ sectorLength
+  pub length-sector : length (sector map previous b) ≡ sectorLength
   length-sector = ap length sector-lays ∙ length-lay (sealRows laid) laid ∙ length-laid
 
   sums-held : sealed (sector map previous b) ≡ true

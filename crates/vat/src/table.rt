@@ -99,17 +99,17 @@ pub fn framed(s: &[u8], b: u32) -> bool
     embedded & (lengths & (named & backward))
 }
 
-// With no early exit: nearly always every entry passes.
-pub fn entries_held(s: &[u8], n: u32, b: u32) -> bool
-    requires { ⌜ (length (now s) ≡ sectorLength) × (n ≤ limit) ⌝ }
-    ensures { λ r. ⌜ r ≡ every (unusedOrBelow b) (words n (now (s .entry)) tableAt) ⌝ }
+// The n numbers from place `at` on may all be named by a sector at block b. With no early exit: nearly always every one passes.
+pub fn words_held(s: &[u8], at: usize, n: u32, b: u32) -> bool
+    requires { ⌜ at + 4 * n ≤ length (now s) ⌝ }
+    ensures { λ r. ⌜ r ≡ every (unusedOrBelow b) (words n (now (s .entry)) at) ⌝ }
 {
     let mut held = true;
-    let mut at = TABLE_AT;
+    let mut place = at;
     let mut left = n;
     while left > 0 {
-        held = held & may_name(b, le::read32(s, at));
-        at += 4;
+        held = held & may_name(b, le::read32(s, place));
+        place += 4;
         left -= 1;
     }
     held
@@ -129,7 +129,7 @@ pub fn is_table(kind: u8, s: &[u8], b: u32) -> bool
         return false;
     }
     let n = entry_count(s);
-    if !entries_held(s, n, b) {
+    if !words_held(s, TABLE_AT, n, b) {
         return false;
     }
     tag::sealed(s)

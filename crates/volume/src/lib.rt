@@ -1,10 +1,15 @@
 // The volume's working state (document 01: the ledger).
+pub mod ledger;
+
+use vat::table::TABLE_AT;
 use vat::table::UNUSED;
 ghost use mathlib.Core.Path.{_≡_};
-ghost use Prim.Native.Nat.{_≤_, _<_};
-ghost use lib.ListN.{length};
-ghost use Rattle.vat.specs.Table.{limit, unused};
-ghost use Rattle.volume.specs.Volume.{ledgerLength, unpack, pack, begun, wrote, released, closed, committed};
+ghost use mathlib.Core.List.{_++_};
+ghost use Prim.Native.Nat.{_-_, _≤_, _<_};
+ghost use lib.ListN.{length, replicate};
+ghost use Rattle.le.specs.Field.{words};
+ghost use Rattle.vat.specs.Table.{sectorLength, limit, unused, tableAt, entryCount, entriesOf};
+ghost use Rattle.volume.specs.Volume.{ledgerLength, unpack, pack, begun, filled, wrote, released, closed, committed};
 
 // "458 map entries, then size, recorded, last table, mode, each 32 bits."
 pub struct Volume {
@@ -16,7 +21,7 @@ pub struct Volume {
 }
 
 // Where size stands, behind the entries.
-const SIZE_AT: usize = 1832;
+pub const SIZE_AT: usize = 1832;
 
 // The entries, through a local array: a state by value inside the loop would be copied at each turn.
 fn load_entries(l: &[u8]) -> [u32; 458]
@@ -27,6 +32,21 @@ fn load_entries(l: &[u8]) -> [u32; 458]
     let mut i: usize = 0;
     while i < 458 {
         entries[i] = le::read32(l, 4 * i);
+        i += 1;
+    }
+    entries
+}
+
+// The n entries of the table in a sector, then unused ones.
+fn fill_entries(s: &[u8], n: u32) -> [u32; 458]
+    requires { ⌜ (length (now s) ≡ sectorLength) × (n ≤ limit) ⌝ }
+    ensures { λ r. ⌜ r ≡ words n (now (s .entry)) tableAt ++ replicate (limit - n) unused ⌝ }
+{
+    let mut entries = [UNUSED; 458];
+    let count = n as usize;
+    let mut i: usize = 0;
+    while i < count {
+        entries[i] = le::read32(s, TABLE_AT + 4 * i);
         i += 1;
     }
     entries
@@ -67,6 +87,21 @@ impl Volume {
             recorded: recorded,
             last: UNUSED,
             mode: 0,
+        }
+    }
+
+    // The state that shows the table sector s, which is at block b.
+    pub fn filled(s: &[u8], b: u32, recorded: u32, mode: u32) -> Volume
+        requires { ⌜ (length (now s) ≡ sectorLength) × (entryCount (now s) ≤ limit) ⌝ }
+        ensures { λ r. ⌜ r ≡ filled (entriesOf (now (s .entry))) b recorded mode ⌝ }
+    {
+        let n = vat::table::entry_count(s);
+        Volume {
+            entries: fill_entries(s, n),
+            size: n,
+            recorded: recorded,
+            last: b,
+            mode: mode,
         }
     }
 

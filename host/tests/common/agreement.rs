@@ -1,18 +1,20 @@
 //! Document 01's claim after a list: what mount, look back and read then show
 //! is what the book has.
 
-use station::model::answer::Answer;
-use station::model::book::{Content, History, Snapshot};
-use station::model::calls::Call;
-use station::model::ledger::{Volume, LEDGER};
-use station::model::table::{LIMIT, NONE, SECTOR};
+use station_model::answer::Answer;
+use station_model::book::{Content, History, Snapshot};
+use station_model::calls::Call;
+use station_model::ledger::{Volume, LEDGER};
+use station_model::table::{LIMIT, NONE, SECTOR};
 
+use super::core::Core;
 use super::random::Random;
-use super::station::{refused, Station};
+use super::station::refused;
 
-/// Compares a disc with the book on a copy, or says where they differ.
-pub fn compare(station: &Station, history: &History, random: &mut Random) -> Result<(), String> {
-    let mut copy = station.clone();
+/// Compares what the core shows of a disc with the book, on a copy, or says
+/// where they differ.
+pub fn compare(core: &Core, history: &History, random: &mut Random) -> Result<(), String> {
+    let mut copy = core.clone();
     match history.page_back(0) {
         None => mount_finds_nothing(&mut copy, random)?,
         Some(page) => shows(&mut copy, Call::Mount, page, random)?,
@@ -23,43 +25,39 @@ pub fn compare(station: &Station, history: &History, random: &mut Random) -> Res
             .expect("k is below the number of pages");
         shows(&mut copy, Call::LookBack(k as u32), page, random)?;
     }
-    let untouched = copy.image == station.image && copy.kinds == station.kinds;
+    let untouched = copy.image[..] == core.image[..] && copy.kinds[..] == core.kinds[..];
     check(untouched, || {
         "mount, look back and read changed the disc".into()
     })
 }
 
 /// "done exactly if there is a page, else 7"
-fn mount_finds_nothing(copy: &mut Station, random: &mut Random) -> Result<(), String> {
-    copy.ledger = random.bytes(LEDGER);
-    let before = copy.ledger.clone();
+fn mount_finds_nothing(copy: &mut Core, random: &mut Random) -> Result<(), String> {
+    let before = random.bytes(LEDGER);
+    copy.ledger.copy_from_slice(&before);
     let answer = copy.call(Call::Mount);
     check(answer == refused(7), || {
         format!("no page, and mount answers {answer:?}")
     })?;
-    check(copy.ledger == before, || {
+    check(copy.ledger[..] == before, || {
         "a refused mount changed the ledger".into()
     })
 }
 
 /// "lent any 1,848 bytes as ledger": the call is done, "size and entries are
 /// the [...] page's", and reads give what it has.
-fn shows(
-    copy: &mut Station,
-    call: Call,
-    page: &Snapshot,
-    random: &mut Random,
-) -> Result<(), String> {
-    copy.ledger = random.bytes(LEDGER);
+fn shows(copy: &mut Core, call: Call, page: &Snapshot, random: &mut Random) -> Result<(), String> {
+    random.fill(&mut copy.ledger);
     let answer = copy.call(call);
     check(answer.outcome == 0, || {
         format!("{call:?} answers {answer:?}")
     })?;
-    check(copy.volume().size == page.size(), || {
-        let size = copy.volume().size;
+    let volume = copy.volume();
+    check(volume.size == page.size(), || {
+        let size = volume.size;
         format!("{call:?} shows size {size}, the page has {}", page.size())
     })?;
-    check(same_map(&copy.volume(), page), || {
+    check(same_map(&volume, page), || {
         format!("{call:?} shows other entries than the page")
     })?;
     for v in (0..page.size() + 3).chain([LIMIT as u32, NONE]) {
@@ -76,13 +74,13 @@ fn same_map(volume: &Volume, page: &Snapshot) -> bool {
 
 /// "gives what that page has for v, or 10 if not in use"; a refusal leaves the
 /// lent block as it was.
-fn reads(copy: &mut Station, v: u32, page: &Snapshot) -> Result<(), String> {
-    let before = v as u8 ^ 0x3C;
-    let (answer, block) = copy.read(v, before);
-    let unchanged = [before; SECTOR];
+fn reads(copy: &mut Core, v: u32, page: &Snapshot) -> Result<(), String> {
+    let before = [v as u8 ^ 0x3C; SECTOR];
+    let mut block = before;
+    let answer = copy.call_lent(Call::Read(v), &mut block);
     let (expected, bytes) = match page.in_use(v).map(|entry| &entry.content) {
-        None => (refused(10), &unchanged),
-        Some(Content::Unreadable) => (refused(11), &unchanged),
+        None => (refused(10), &before),
+        Some(Content::Unreadable) => (refused(11), &before),
         Some(Content::Bytes(bytes)) => (Answer::done(0), &**bytes),
     };
     check(answer == expected, || {

@@ -1,27 +1,29 @@
 //! Random discs, blocks, table sectors and ledgers, also such as look right.
 
-use station::model::calls::Call;
-use station::model::disc::{Disc, DATA, UNREADABLE};
-use station::model::ledger::{Volume, LEDGER, READ_ONLY};
-use station::model::table::{seal, vat_sector, LIMIT, NONE, SECTOR};
+use station_model::calls::Call;
+use station_model::disc::{Disc, DATA, UNREADABLE};
+use station_model::fields::{put, u32_at};
+use station_model::ledger::{Volume, LEDGER, READ_ONLY};
+use station_model::table::{seal, table_length, vat_sector, LIMIT, NONE, SECTOR};
 
 use super::random::Random;
 use super::station::Station;
 
 /// A disc of 1 to 60 sectors without a table sector: blank, or used.
 pub fn disc_without_vat(random: &mut Random) -> Station {
+    let sectors = sectors(random);
     if random.one_in(2) {
-        Station::blank(sectors(random))
+        Station::blank(sectors)
     } else {
-        used_disc(random)
+        used_disc(random, sectors)
     }
 }
 
 /// Random kinds on at least one recorded sector, and random bytes also in the
 /// blank ones.
-fn used_disc(random: &mut Random) -> Station {
-    let mut station = Station::blank(sectors(random));
-    let recorded = recorded(random, station.kinds.len());
+pub fn used_disc(random: &mut Random, sectors: usize) -> Station {
+    let mut station = Station::blank(sectors);
+    let recorded = recorded(random, sectors);
     random.fill(&mut station.image);
     for kind in &mut station.kinds[..recorded] {
         *kind = 1 + random.below(usize::from(UNREADABLE)) as u8;
@@ -44,18 +46,46 @@ fn recorded(random: &mut Random, sectors: usize) -> usize {
     } else {
         sectors / 3 + 1
     };
-    1 + random.below(most)
+    1 + random.below(most.min(sectors))
 }
 
 /// A disc with table sectors whose entries and previous name anything that
 /// they may: links, unreadable sectors, other tables, or a sector that breaks
 /// the chain.
 pub fn disc_with_vats(random: &mut Random) -> Station {
-    let mut station = used_disc(random);
+    let sectors = sectors(random);
+    used_disc_with_vats(random, sectors)
+}
+
+pub fn used_disc_with_vats(random: &mut Random, sectors: usize) -> Station {
+    let mut station = used_disc(random, sectors);
     let recorded = station.disc().recorded() as usize;
     for _ in 0..1 + random.below(3) {
         let block = random.below(recorded) as u32;
-        station.put_sector(block, DATA, &valid_vat(random, block));
+        let sector = if random.one_in(4) {
+            near_vat(random, block)
+        } else {
+            valid_vat(random, block)
+        };
+        station.put_sector(block, DATA, &sector);
+    }
+    station
+}
+
+/// A disc on which most sectors are table sectors, each naming an earlier
+/// block; some are copies for another block or unreadable, so that chains end
+/// or break.
+pub fn disc_of_chains(random: &mut Random, sectors: usize) -> Station {
+    let mut station = Station::blank(sectors);
+    for block in 0..1 + random.below(sectors) as u32 {
+        let previous = match random.below(6) {
+            0 => entry(random, block),
+            _ => block.checked_sub(1).unwrap_or(NONE),
+        };
+        let location = if random.one_in(12) { block + 1 } else { block };
+        let kind = if random.one_in(12) { UNREADABLE } else { DATA };
+        let map = vec![NONE; random.below(3)];
+        station.put_sector(block, kind, &vat_sector(location, &map, previous));
     }
     station
 }
@@ -67,12 +97,53 @@ pub fn valid_vat(random: &mut Random, block: u32) -> [u8; SECTOR] {
     let map = entries(random, size, block);
     let mut sector = vat_sector(block, &map, entry(random, block));
     if random.one_in(2) {
-        // Fields that recognition does not test: unique id and group.
-        random.fill(&mut sector[160..168]);
-        random.fill(&mut sector[40..44]);
+        foreign_fields(random, &mut sector, size);
         seal(&mut sector, block);
     }
     sector
+}
+
+/// A table sector one byte of which was changed, with right sums or without: as
+/// a rule it is none.
+pub fn near_vat(random: &mut Random, block: u32) -> [u8; SECTOR] {
+    let mut sector = valid_vat(random, block);
+    let at = match random.below(8) {
+        0 => random.below(SECTOR),
+        1..=3 => random.below(64),
+        _ => 168 + random.below(100),
+    };
+    sector[at] ^= 1 << random.below(8);
+    if random.one_in(2) {
+        seal(&mut sector, block);
+    }
+    sector
+}
+
+/// Fields that recognition does not test, as another writer would have them:
+/// serial number, record format, the flags' high bits, user, group, times,
+/// checkpoint, implementation, unique id, the regid's flags and suffix, and
+/// what lies behind the table.
+pub fn foreign_fields(random: &mut Random, sector: &mut [u8; SECTOR], size: usize) {
+    let regid = 176 + 4 * size;
+    let end = 176 + table_length(size);
+    let fields = [
+        6..8,
+        16..20,
+        22..27,
+        28..34,
+        35..48,
+        50..56,
+        64..168,
+        regid..regid + 1,
+        regid + 24..regid + 32,
+        end..SECTOR,
+    ];
+    for field in fields {
+        if random.one_in(2) {
+            random.fill(&mut sector[field]);
+        }
+    }
+    sector[34] = 3 | (random.next() as u8 & 0xF8);
 }
 
 /// Small as a rule; sometimes near the limit.
@@ -96,18 +167,21 @@ fn entry(random: &mut Random, below: u32) -> u32 {
     }
 }
 
-/// A block to write: random, a copy of some sector, or a table sector for a
-/// block that the write may or may not take.
-pub fn block(random: &mut Random, station: &Station) -> Vec<u8> {
-    let sectors = station.kinds.len();
-    let recorded = station.disc().recorded();
-    match random.below(8) {
-        0 => station.sector(random.below(sectors) as u32).to_vec(),
+/// A block to write: random, a copy of some sector, or a table sector, or
+/// nearly one, for a block that the write may or may not take.
+pub fn block(random: &mut Random, image: &[u8], recorded: u32) -> Vec<u8> {
+    let sectors = image.len() / SECTOR;
+    match random.below(10) {
+        0 => image[random.below(sectors) * SECTOR..][..SECTOR].to_vec(),
         1 => valid_vat(random, recorded).to_vec(),
         2 => valid_vat(random, recorded + 7).to_vec(),
         3 => {
             let other = random.below(sectors) as u32;
             valid_vat(random, other).to_vec()
+        }
+        4 => {
+            let next = recorded + random.pick(&[0, 7]);
+            near_vat(random, next).to_vec()
         }
         _ => random.bytes(SECTOR),
     }
@@ -118,14 +192,14 @@ pub fn block(random: &mut Random, station: &Station) -> Vec<u8> {
 pub fn lost_ledger(random: &mut Random, disc: &Disc, before: &[u8]) -> Vec<u8> {
     match random.below(5) {
         0 => random.bytes(LEDGER),
-        1 => vec![[0, 0xFF][random.below(2)]; LEDGER],
+        1 => vec![random.pick(&[0, 0xFF]); LEDGER],
         2 => before.to_vec(),
         _ => fitting(random, disc).to_bytes().to_vec(),
     }
 }
 
 /// A state that fits the disc and need not be one that a call has left.
-fn fitting(random: &mut Random, disc: &Disc) -> Volume {
+pub fn fitting(random: &mut Random, disc: &Disc) -> Volume {
     let mut volume = Volume::begun(disc);
     let size = size(random);
     let map = entries(random, size, volume.recorded);
@@ -142,38 +216,55 @@ fn fitting(random: &mut Random, disc: &Disc) -> Volume {
     volume
 }
 
-/// Buffers of which one may have a wrong length or unsound contents.
-pub fn any_station(random: &mut Random) -> Station {
-    let mut station = match random.below(3) {
-        0 => disc_without_vat(random),
-        _ => disc_with_vats(random),
+/// A ledger one of whose fields was set to something else, near what it was or
+/// near a bound.
+pub fn spoiled(random: &mut Random, ledger: &[u8]) -> Vec<u8> {
+    let mut spoiled = ledger.to_vec();
+    let field = match random.below(3) {
+        0 => random.below(8),
+        1 => random.below(LIMIT),
+        _ => LIMIT + random.below(4),
     };
-    station.ledger = lost_ledger(random, &station.disc(), &station.ledger);
-    match random.below(12) {
-        0 => station.ledger.resize(random.below(2 * LEDGER), 0),
-        1 => station.image.truncate(random.below(2 * SECTOR)),
-        2 => station.kinds.push(0),
-        3 => random.fill(&mut station.kinds),
-        4 => station.kinds.clear(),
-        _ => {}
-    }
-    station
+    let old = u32_at(&spoiled, 4 * field);
+    let new = match random.below(5) {
+        0 => random.next() as u32,
+        1 => old.wrapping_add(1),
+        2 => old.wrapping_sub(1),
+        3 => random.pick(&[0, 1, 2, 3, 457, 458, 459, NONE]),
+        _ => old ^ 1 << random.below(32),
+    };
+    put(&mut spoiled, 4 * field, &new.to_le_bytes());
+    spoiled
 }
 
-/// Any call, with a small or an arbitrary number.
-pub fn any_call(random: &mut Random) -> Call {
-    let number = match random.below(4) {
-        0 => random.next() as u32,
-        _ => random.below(5) as u32,
-    };
-    [
-        Call::Begin,
-        Call::Mount,
-        Call::Write(number),
-        Call::Release(number),
-        Call::ClosePacket,
-        Call::Commit,
-        Call::Read(number),
-        Call::LookBack(number),
-    ][random.below(8)]
+/// The size that a ledger of 1,848 bytes holds, as far as it can be meant.
+pub fn size_in(ledger: &[u8]) -> usize {
+    let size = u32_at(ledger, 4 * LIMIT) as usize;
+    size.min(LIMIT + 1)
+}
+
+/// A number near the bound, sometimes near the limit or far above it.
+pub fn number(random: &mut Random, bound: usize) -> u32 {
+    match random.below(16) {
+        0 => random.pick(&[457, 458, 459, 500, u32::MAX, 1 << 31]),
+        1 => random.next() as u32,
+        2 => bound as u32 + 1,
+        3..=6 => bound as u32,
+        7 => (bound as u32).wrapping_sub(1),
+        _ => random.below(bound + 1) as u32,
+    }
+}
+
+/// Any call, with numbers near those that mean something.
+pub fn call(random: &mut Random, size: usize, tables: usize) -> Call {
+    match random.below(20) {
+        0 => Call::Begin,
+        1 => Call::Mount,
+        2..=7 => Call::Write(number(random, size)),
+        8..=9 => Call::Release(number(random, size)),
+        10 => Call::ClosePacket,
+        11..=13 => Call::Commit,
+        14..=16 => Call::Read(number(random, size)),
+        _ => Call::LookBack(number(random, tables)),
+    }
 }

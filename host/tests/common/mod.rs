@@ -1,8 +1,18 @@
 //! Parts shared by the test files; each file uses some of them.
+//!
+//! Every call on the core goes through [`core::Core`], whose lent buffers lie
+//! between canaries. [`pair::Pair`] makes each call on the core and on the
+//! model and compares all that they leave; [`station::Station`] is the same for
+//! a few calls by hand.
 #![allow(dead_code)]
 
 pub mod agreement;
+pub mod built;
+pub mod core;
 pub mod forge;
+pub mod guarded;
+pub mod pair;
 pub mod random;
+pub mod recogniser;
 pub mod station;
 pub mod tally;

@@ -1,10 +1,13 @@
-//! A disc and a ledger to make calls on.
+//! A disc and a ledger to make calls on by hand. Each call is made on the core
+//! and on the model, and all that they leave is compared.
 
-use station::model::answer::Answer;
-use station::model::calls::{effect, perform, Call, Effect, Lent};
-use station::model::disc::{fail_power, Disc};
-use station::model::ledger::{Volume, LEDGER};
-use station::model::table::SECTOR;
+use station_model::answer::Answer;
+use station_model::calls::{effect, Call, Effect, Lent};
+use station_model::disc::{fail_power, Disc};
+use station_model::ledger::{Volume, LEDGER};
+use station_model::table::SECTOR;
+
+use super::pair::Pair;
 
 #[derive(Clone, PartialEq)]
 pub struct Station {
@@ -37,6 +40,12 @@ impl Station {
         Volume::load(&self.ledger).expect("1,848 bytes")
     }
 
+    pub fn change(&mut self, change: impl FnOnce(&mut Volume)) {
+        let mut volume = self.volume();
+        change(&mut volume);
+        self.ledger = volume.to_bytes().to_vec();
+    }
+
     pub fn sector(&self, block: u32) -> &[u8; SECTOR] {
         &self.image.as_chunks::<SECTOR>().0[block as usize]
     }
@@ -52,13 +61,11 @@ impl Station {
     }
 
     pub fn call_lent(&mut self, call: Call, block: &mut [u8]) -> Answer {
-        perform(
-            &mut self.image,
-            &mut self.kinds,
-            &mut self.ledger,
-            block,
-            call,
-        )
+        let mut pair = Pair::holding(self);
+        let answer = pair.call(call, block);
+        block.copy_from_slice(pair.block());
+        *self = pair.into_station();
+        answer
     }
 
     pub fn write(&mut self, v: u32, block: &[u8]) -> Answer {

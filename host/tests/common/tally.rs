@@ -2,9 +2,9 @@
 
 use std::fmt;
 
-use station::model::answer::Answer;
-use station::model::book::History;
-use station::model::calls::Call;
+use station_model::answer::Answer;
+use station_model::book::History;
+use station_model::calls::Call;
 
 #[derive(Default)]
 pub struct Tally {
@@ -89,5 +89,64 @@ fn column(call: Call) -> usize {
         Call::Commit => 5,
         Call::Read(_) => 6,
         Call::LookBack(_) => 7,
+    }
+}
+
+/// How often each call answered each outcome.
+#[derive(Clone, Default)]
+pub struct Outcomes([[usize; 16]; 8]);
+
+/// The refusals of each call, as document 01 has them.
+const POSSIBLE: [&[usize]; 8] = [
+    &[0, 1, 2, 3, 6],
+    &[0, 1, 2, 3, 7],
+    &[0, 1, 2, 3, 4, 5, 12, 13, 14, 15],
+    &[0, 1, 2, 3, 4, 5, 10],
+    &[0, 1, 2, 3, 4, 5],
+    &[0, 1, 2, 3, 4, 5, 14],
+    &[0, 1, 2, 3, 4, 10, 11],
+    &[0, 1, 2, 3, 7, 8, 9],
+];
+
+impl Outcomes {
+    pub fn count(&mut self, call: Call, answer: Answer) {
+        self.0[column(call)][answer.outcome as usize] += 1;
+    }
+
+    pub fn add(&mut self, other: &Outcomes) {
+        for (row, more) in self.0.iter_mut().zip(&other.0) {
+            for (count, more) in row.iter_mut().zip(more) {
+                *count += more;
+            }
+        }
+    }
+
+    pub fn calls(&self) -> usize {
+        self.0.iter().flatten().sum()
+    }
+
+    /// Whether each call met each of the outcomes that it has of these at least
+    /// so often, and none that it does not have.
+    pub fn cover(&self, aimed_at: &[usize], least: usize) -> bool {
+        let mut rows = self.0.iter().zip(POSSIBLE);
+        rows.all(|(row, possible)| {
+            (0..16).all(|outcome| match possible.contains(&outcome) {
+                true => row[outcome] >= least || !aimed_at.contains(&outcome),
+                false => row[outcome] == 0,
+            })
+        })
+    }
+}
+
+impl fmt::Display for Outcomes {
+    fn fmt(&self, out: &mut fmt::Formatter) -> fmt::Result {
+        let names = [
+            "begin", "mount", "write", "release", "close", "commit", "read", "look",
+        ];
+        writeln!(out, "{} calls compared; outcomes 0 to 15:", self.calls())?;
+        for (name, row) in names.iter().zip(&self.0) {
+            writeln!(out, "{name:>8} {row:?}")?;
+        }
+        Ok(())
     }
 }

@@ -35,12 +35,12 @@ frame c = sym (c .before .framed .ensures) ∙ not-false (c .before .framed .res
 told : (c : tie.Else3) → Framed (S (c .before .before)) (B (c .before .before)) (entryCount (S (c .before .before)))
 told c = framed-tells (S (c .before .before)) (B (c .before .before)) (entryCount (S (c .before .before))) (frame c)
 
-listed : (c : tie.After-entries-held)
-    → c .entries-held .result ≡ every (unusedOrBelow (B (c .before .before .before .before))) (entriesOf (S (c .before .before .before .before)))
+listed : (c : tie.After-words-held)
+    → c .words-held .result ≡ every (unusedOrBelow (B (c .before .before .before .before))) (entriesOf (S (c .before .before .before .before)))
 unfolding entriesOf
 listed c =
     let e = c .before .before .before .before in
-    c .entries-held .ensures ∙ ap (λ (n : ℕ). every (unusedOrBelow (B e)) (words n (S e) tableAt)) (c .before .entry-count .ensures)
+    c .words-held .ensures ∙ ap (λ (n : ℕ). every (unusedOrBelow (B e)) (words n (S e) tableAt)) (c .before .entry-count .ensures)
 
 returns : tie.Need-returns
 unfolding isTable
@@ -67,15 +67,15 @@ returns-3 c =
 entry-count-requires : tie.Need-entry-count-requires
 entry-count-requires c κs = search needs
 
-entries-held-requires : tie.Need-entries-held-requires
-entries-held-requires c κs = (c .before .before .before .if2 .left, omega (arith, c .entry-count .ensures, told (c .before) .few))
+words-held-requires : tie.Need-words-held-requires
+words-held-requires c κs = omega (arith, c .before .before .before .if2 .left, c .entry-count .ensures, told (c .before) .few)
 
 returns-4 : tie.Need-returns-4
 unfolding isTable
 returns-4 c =
     let e = c .before .before .before in
     let wrong : every (unusedOrBelow (B (e .before .before))) (entriesOf (S (e .before .before))) ≡ false =
-    sym (listed (c .before)) ∙ not-true (c .before .entries-held .result) (c .if4 .taken) in
+    sym (listed (c .before)) ∙ not-true (c .before .words-held .result) (c .if4 .taken) in
     rw (data-sector (e .before .before .before), whole (e .before .before), frame e, wrong)
 
 sealed-requires : tie.Need-sealed-requires
@@ -88,7 +88,7 @@ unfolding isTable
 returns-5 c =
     let e = c .before .before .before .before in
     let right : every (unusedOrBelow (B (e .before .before))) (entriesOf (S (e .before .before))) ≡ true =
-    sym (listed (c .before .before)) ∙ not-false (c .before .before .entries-held .result) (c .before .if4 .left) in
+    sym (listed (c .before .before)) ∙ not-false (c .before .before .words-held .result) (c .before .if4 .left) in
     rw (data-sector (e .before .before .before), whole (e .before .before), frame e, right) (c .sealed .ensures)
 
 pub is-table-spec : {M : Type 1} → statement M
@@ -100,7 +100,7 @@ is-table-spec =
     framed-requires
     returns-3
     entry-count-requires
-    entries-held-requires
+    words-held-requires
     returns-4
     sealed-requires
     returns-5)

@@ -1,0 +1,89 @@
+-- `calls::admit::commit` meets its contract: 1 to 5 stop it first, and then the want of room.
+-- Assumes nothing.
+use Prim.Native.Nat.{ℕ, _+_, _-_, _≤_, _<_}
+use native.Mathlib.Omega.{arith}
+use mathlib.Core.Path.{_≡_, refl, sym, ap, ap₂, _∙_, subst}
+use mathlib.Core.Bool.{Bool, true, false, _&&_}
+use mathlib.Core.List.{List, [], _∷_}
+use lib.Dec.{eqb, ltb}
+use lib.ListN.{length, getD}
+use borrow.Author.Tests.{le-ltb, lt-ltb}
+use Rattle.vat.specs.Table.{sectorLength, limit, unused, isTable}
+use Rattle.disc.specs.Disc.{Disc, lent, recorded, blanks, kindAt}
+use Rattle.disc.proofs.Recording.{leading-le, sound-sized}
+use Rattle.volume.specs.declared.Volume.{Volume}
+use Rattle.volume.specs.Volume.{unpack}
+use Rattle.recorder.specs.Calls.{write, commit, mount}
+use Rattle.recorder.specs.Refusals.{first, test, linkCount, links, target, reserve, ledgerLent, notInUse, outcome}
+use Rattle.recorder.proofs.Done.{stop, skip, none-left, workingTests, Admitted, working-admits, links-few}
+use Rattle.calls.proofs.Outcomes.{commit-stopped, commit-tested}
+use borrow.Author.Needs.{needs}
+use Rattle.calls.proofs.admit.commit.Statement.{statement}
+use Rattle.calls.proofs.admit.commit.Tie as tie
+
+-- the disc and the ledger
+abbrev D : tie.Start → Disc
+D s = lent (s .args .image .now) (s .args .kinds .now)
+
+abbrev L : tie.Start → List ℕ
+L s = s .args .ledger .now
+
+none : (c : tie.Else1) → first (workingTests (D (c .before .before .before .before .before)) (L (c .before .before .before .before .before)) (ledgerLent (L (c .before .before .before .before .before)) && true)) ≡ 0
+none c = sym (c .before .working .ensures) ∙ c .if1 .left
+
+admits : (c : tie.Else1) → Admitted (D (c .before .before .before .before .before)) (L (c .before .before .before .before .before)) true
+admits c = working-admits (D (c .before .before .before .before .before)) (L (c .before .before .before .before .before)) true (none c)
+
+own : (c : tie.After-recorded) → c .recorded .result ≡ recorded (D (c .before .before .before .before .before .before))
+own c = c .recorded .ensures ∙ admits (c .before) .fit .same-recorded
+
+working-requires : tie.Need-working-requires
+working-requires c κs = search needs
+
+returns : tie.Need-returns
+returns c =
+    let s = c .before .before .before .before .before in
+    let e = c .before .working .ensures in
+    e ∙ sym (commit-stopped (D s) (L s) (λ z. c .if1 .taken (e ∙ z)))
+
+cast-blank : tie.Need-cast-blank
+cast-blank c = omega (arith, admits c .sound-disc .few)
+
+recorded-requires : tie.Need-recorded-requires
+recorded-requires c κs = admits c .ledger-long
+
+sub-blank : tie.Need-sub-blank
+sub-blank c = omega (arith, own c, leading-le (D (c .before .before .before .before .before .before) .kinds))
+
+links-requires : tie.Need-links-requires
+links-requires c κs = admits (c .before) .ledger-long
+
+add-if2 : tie.Need-add-if2
+add-if2 c = omega (arith, c .links .ensures, links-few (unpack (L (c .before .before .before .before .before .before .before))))
+
+returns-2 : tie.Need-returns-2
+returns-2 c =
+    let s = c .before .before .before .before .before .before .before .before in
+    let blank = own (c .before .before) in
+    let wrong : ltb (blanks (D s)) (links (unpack (L s)) + 1) ≡ true = lt-ltb (blanks (D s)) (links (unpack (L s)) + 1) (omega (arith, own (c .before .before), c .before .links .ensures, c .if2 .taken)) in
+    sym (commit-tested (D s) (L s) (none (c .before .before .before)) ∙ stop 14 (ltb (blanks (D s)) (links (unpack (L s)) + 1)) [] wrong)
+
+returns-3 : tie.Need-returns-3
+returns-3 c =
+    let s = c .before .before .before .before .before .before .before .before in
+    let right : ltb (blanks (D s)) (links (unpack (L s)) + 1) ≡ false = le-ltb (blanks (D s)) (links (unpack (L s)) + 1) (omega (arith, own (c .before .before), c .before .links .ensures, c .if2 .left)) in
+    sym (commit-tested (D s) (L s) (none (c .before .before .before)) ∙ skip 14 (ltb (blanks (D s)) (links (unpack (L s)) + 1)) [] right ∙ none-left)
+
+pub commit-spec : {M : Type 1} → statement M
+commit-spec =
+    tie.close
+    (tie.spec
+    working-requires
+    returns
+    cast-blank
+    recorded-requires
+    sub-blank
+    links-requires
+    add-if2
+    returns-2
+    returns-3)

@@ -1,0 +1,114 @@
+-- `calls::admit::look_back` meets its contract: mount's tests stop it first, and then the walk.
+-- Assumes nothing.
+use Prim.Native.Nat.{ℕ, _+_, _-_, _≤_, _<_}
+use native.Mathlib.Omega.{arith}
+use mathlib.Core.Path.{_≡_, refl, sym, ap, ap₂, _∙_, subst}
+use mathlib.Core.Bool.{Bool, true, false, _&&_}
+use mathlib.Core.List.{List, [], _∷_}
+use lib.Dec.{eqb, ltb}
+use lib.ListN.{length, getD}
+use borrow.Author.Tests.{le-ltb, lt-ltb}
+use Rattle.vat.specs.Table.{sectorLength, limit, unused, isTable}
+use Rattle.disc.specs.Disc.{Disc, lent, recorded, blanks, kindAt}
+use Rattle.disc.proofs.Recording.{leading-le, sound-sized}
+use Rattle.volume.specs.declared.Volume.{Volume}
+use Rattle.volume.specs.Volume.{unpack}
+use Rattle.recorder.specs.Calls.{write, commit, mount}
+use Rattle.recorder.specs.Refusals.{first, test, linkCount, links, target, reserve, ledgerLent, notInUse, outcome}
+use mathlib.Core.Option.{some}
+use Rattle.disc.specs.declared.Walk.{Walk}
+use Rattle.disc.specs.declared.Walk.the-variants.{Reached, Broken, Ended}
+use Rattle.disc.specs.Tables.{tableAt, previousAt, newest, walk}
+use Rattle.disc.proofs.Found.{newest-table}
+use Rattle.recorder.specs.Refusals.{walkFrom, walked}
+use Rattle.recorder.proofs.Done.{mount-done}
+use Rattle.calls.proofs.Outcomes.{look-back-stopped, look-back-8, look-back-9, look-back-0}
+use borrow.Author.Needs.{needs}
+use Rattle.calls.proofs.admit.look_back.Statement.{statement}
+use Rattle.calls.proofs.admit.look_back.Tie as tie
+
+-- the disc and the ledger
+abbrev D : tie.Start → Disc
+D s = lent (s .args .image .now) (s .args .kinds .now)
+
+abbrev L : tie.Start → List ℕ
+L s = s .args .ledger .now
+
+done : (c : tie.Else1) → outcome (D (c .before .before .before .before .before .before)) (L (c .before .before .before .before .before .before)) mount ≡ 0
+done c = sym (c .before .before .mount .ensures .0) ∙ c .if1 .left
+
+found : (c : tie.Else1) → newest (D (c .before .before .before .before .before .before)) ≡ some (c .before .before .mount .result .block)
+found c = c .before .before .mount .ensures .1 (c .if1 .left) .1
+
+-- the walk that was made is the call's
+went : (c : tie.After-walk-back) → walked (D (c .before .before .before .before .before .before .before)) (c .before .before .before .before .before .before .before .args .k) ≡ c .walk-back .result
+unfolding walked
+went c = ap (walkFrom (D (c .before .before .before .before .before .before .before)) (c .before .before .before .before .before .before .before .args .k)) (found (c .before)) ∙ sym (c .walk-back .ensures)
+
+mount-requires : tie.Need-mount-requires
+mount-requires c κs = search needs
+
+returns : tie.Need-returns
+returns c =
+    let s = c .before .before .before .before .before .before in
+    let e = c .before .before .mount .ensures .0 in
+    (e ∙ sym (look-back-stopped (D s) (L s) (s .args .k) (λ z. c .if1 .taken (e ∙ z))), λ z. absurd (c .if1 .taken z))
+
+walk-back-requires : tie.Need-walk-back-requires
+walk-back-requires c κs =
+    let s = c .before .before .before .before .before .before in
+    (sound-sized (D s) (mount-done (D s) (L s) (done c) .0), newest-table (tableAt (D s)) (recorded (D s)) (c .before .before .mount .result .block) (found c))
+
+enum-known-block : tie.Need-enum-known-block
+enum-known-block c = search needs
+
+enum-told : tie.Need-enum-told
+enum-told c = search needs
+
+refused-requires : tie.Need-refused-requires
+refused-requires c κs = search needs
+
+enum-told-2 : tie.Need-enum-told-2
+enum-told-2 c = search needs
+
+refused-requires-2 : tie.Need-refused-requires-2
+refused-requires-2 c κs = search needs
+
+returns-2 : tie.Need-returns-2
+returns-2 c =
+    let e = c .before .before .before .before in
+    let s = e .before .before .before .before .before .before in
+    let way : walked (D s) (s .args .k) ≡ Reached (c .before .block .given .0 .0) = went (c .before .before .before) ∙ c .before .block .given .1 in
+    (sym (look-back-0 (D s) (L s) (s .args .k) (c .before .block .given .0 .0) (done e) way), λ z. (e .before .before .mount .ensures .1 (e .if1 .left) .0, way))
+
+returns-3 : tie.Need-returns-3
+returns-3 c =
+    let e = c .before .before .before .before in
+    let s = e .before .before .before .before .before .before in (
+      c .refused .ensures ∙ sym (look-back-8 (D s) (L s) (s .args .k) (done e) (went (c .before .before .before) ∙ c .before .enum-told .given .1)),
+      λ z. absurd (let e : _≡_ {A = ℕ} 8 0 = sym (c .refused .ensures) ∙ z in omega arith),
+    )
+
+returns-4 : tie.Need-returns-4
+returns-4 c =
+    let e = c .before .before .before .before in
+    let s = e .before .before .before .before .before .before in (
+      c .refused2 .ensures ∙ sym (look-back-9 (D s) (L s) (s .args .k) (done e) (went (c .before .before .before) ∙ c .before .enum-told2 .given .1)),
+      λ z. absurd (let e : _≡_ {A = ℕ} 9 0 = sym (c .refused2 .ensures) ∙ z in omega arith),
+    )
+
+pub look-back-spec : {M : Type 1} → statement M
+look-back-spec =
+    tie.close
+    (tie.spec
+    mount-requires
+    returns
+    walk-back-requires
+    enum-known-block
+    enum-told
+    refused-requires
+    enum-told-2
+    refused-requires-2
+    returns-2
+    returns-3
+    returns-4)

@@ -1,0 +1,99 @@
+-- `calls::admit::read` meets its contract: 1 to 4 stop it first, then a number that is not in use, then a sector that cannot be read.
+-- Assumes nothing.
+use Prim.Native.Nat.{ℕ, _+_, _-_, _≤_, _<_}
+use native.Mathlib.Omega.{arith}
+use mathlib.Core.Path.{_≡_, refl, sym, ap, ap₂, _∙_, subst}
+use mathlib.Core.Bool.{Bool, true, false, _&&_}
+use mathlib.Core.List.{List, [], _∷_}
+use lib.Dec.{eqb, ltb}
+use lib.ListN.{length, getD}
+use borrow.Author.Tests.{le-ltb, lt-ltb}
+use Rattle.vat.specs.Table.{sectorLength, limit, unused, isTable}
+use Rattle.disc.specs.Disc.{Disc, lent, recorded, blanks, kindAt}
+use Rattle.disc.proofs.Recording.{leading-le, sound-sized}
+use Rattle.volume.specs.declared.Volume.{Volume}
+use Rattle.volume.specs.Volume.{unpack}
+use Rattle.recorder.specs.Calls.{write, commit, mount}
+use Rattle.recorder.specs.Refusals.{first, test, linkCount, links, target, reserve, ledgerLent, notInUse, outcome}
+use Rattle.recorder.proofs.Done.{fittingTests, Admitted, fitting-admits, entry-recorded}
+use Rattle.calls.proofs.Outcomes.{read-stopped, read-10, read-11, read-0}
+use borrow.Author.Needs.{needs}
+use Rattle.calls.proofs.admit.read.Statement.{statement}
+use Rattle.calls.proofs.admit.read.Tie as tie
+
+-- the disc and the ledger
+abbrev D : tie.Start → Disc
+D s = lent (s .args .image .now) (s .args .kinds .now)
+
+abbrev L : tie.Start → List ℕ
+L s = s .args .ledger .now
+
+abbrev whole : tie.Start → Bool
+whole s = eqb (length (s .args .block .now)) sectorLength
+
+none : (c : tie.Else1) → first (fittingTests (D (c .before .before .before .before .before .before)) (L (c .before .before .before .before .before .before)) (ledgerLent (L (c .before .before .before .before .before .before)) && whole (c .before .before .before .before .before .before))) ≡ 0
+none c = sym (c .before .fitting .ensures) ∙ c .if1 .left
+
+admits : (c : tie.Else1) → Admitted (D (c .before .before .before .before .before .before)) (L (c .before .before .before .before .before .before)) (whole (c .before .before .before .before .before .before))
+admits c = fitting-admits (D (c .before .before .before .before .before .before)) (L (c .before .before .before .before .before .before)) (whole (c .before .before .before .before .before .before)) (none c)
+
+used : (c : tie.Else2) → notInUse (unpack (L (c .before .before .before .before .before .before .before .before))) (c .before .before .before .before .before .before .before .before .args .n) ≡ false
+used c = sym (c .before .not-in-use .ensures) ∙ c .if2 .left
+
+-- the number is below size, and its sector is a recorded one
+names : (c : tie.Else2) → (c .before .before .before .before .before .before .before .before .args .n < unpack (L (c .before .before .before .before .before .before .before .before)) .size) × (getD (unpack (L (c .before .before .before .before .before .before .before .before)) .entries) (c .before .before .before .before .before .before .before .before .args .n) unused < recorded (D (c .before .before .before .before .before .before .before .before)))
+names c = entry-recorded (D (c .before .before .before .before .before .before .before .before)) (unpack (L (c .before .before .before .before .before .before .before .before))) (c .before .before .before .before .before .before .before .before .args .n) (admits (c .before .before) .fit) (used c)
+
+fitting-requires : tie.Need-fitting-requires
+fitting-requires c κs = search needs
+
+returns : tie.Need-returns
+returns c =
+    let s = c .before .before .before .before .before .before in
+    let e = c .before .fitting .ensures in
+    e ∙ sym (read-stopped (D s) (L s) (s .args .n) (s .args .block .now) (λ z. c .if1 .taken (e ∙ z)))
+
+not-in-use-requires : tie.Need-not-in-use-requires
+not-in-use-requires c κs = (admits c .ledger-long, admits c .fit .few)
+
+returns-2 : tie.Need-returns-2
+returns-2 c =
+    let s = c .before .before .before .before .before .before .before .before in
+    sym (read-10 (D s) (L s) (s .args .n) (s .args .block .now) (none (c .before .before)) (sym (c .before .not-in-use .ensures) ∙ c .if2 .taken))
+
+entry-requires : tie.Need-entry-requires
+entry-requires c κs = (admits (c .before .before) .ledger-long, omega (arith, names c .0, admits (c .before .before) .fit .few))
+
+cast-b : tie.Need-cast-b
+cast-b c = search needs
+
+shared-slice-read-if3 : tie.Need-shared-slice-read-if3
+shared-slice-read-if3 c =
+    let e = c .before .before in
+    omega (arith, c .before .entry .ensures, names e .1, leading-le (D (e .before .before .before .before .before .before .before .before) .kinds))
+
+returns-3 : tie.Need-returns-3
+returns-3 c =
+    let e = c .before .before .before in
+    let s = e .before .before .before .before .before .before .before .before in
+    sym (read-11 (D s) (L s) (s .args .n) (s .args .block .now) (none (e .before .before)) (used e) (λ k. c .if3 .taken (ap (kindAt (D s)) (c .before .before .entry .ensures) ∙ k)))
+
+returns-4 : tie.Need-returns-4
+returns-4 c =
+    let e = c .before .before .before in
+    let s = e .before .before .before .before .before .before .before .before in
+    sym (read-0 (D s) (L s) (s .args .n) (s .args .block .now) (none (e .before .before)) (used e) (ap (kindAt (D s)) (sym (c .before .before .entry .ensures)) ∙ c .if3 .left))
+
+pub read-spec : {M : Type 1} → statement M
+read-spec =
+    tie.close
+    (tie.spec
+    fitting-requires
+    returns
+    not-in-use-requires
+    returns-2
+    entry-requires
+    cast-b
+    shared-slice-read-if3
+    returns-3
+    returns-4)

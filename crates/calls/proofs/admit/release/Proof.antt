@@ -1,0 +1,63 @@
+-- `calls::admit::release` meets its contract: 1 to 5 stop it first, and then a number that is not in use.
+-- Assumes nothing.
+use Prim.Native.Nat.{ℕ, _+_, _-_, _≤_, _<_}
+use native.Mathlib.Omega.{arith}
+use mathlib.Core.Path.{_≡_, refl, sym, ap, ap₂, _∙_, subst}
+use mathlib.Core.Bool.{Bool, true, false, _&&_}
+use mathlib.Core.List.{List, [], _∷_}
+use lib.Dec.{eqb, ltb}
+use lib.ListN.{length, getD}
+use borrow.Author.Tests.{le-ltb, lt-ltb}
+use Rattle.vat.specs.Table.{sectorLength, limit, unused, isTable}
+use Rattle.disc.specs.Disc.{Disc, lent, recorded, blanks, kindAt}
+use Rattle.disc.proofs.Recording.{leading-le, sound-sized}
+use Rattle.volume.specs.declared.Volume.{Volume}
+use Rattle.volume.specs.Volume.{unpack}
+use Rattle.recorder.specs.Calls.{write, commit, mount}
+use Rattle.recorder.specs.Refusals.{first, test, linkCount, links, target, reserve, ledgerLent, notInUse, outcome}
+use Rattle.recorder.proofs.Done.{stop, skip, none-left, workingTests, Admitted, working-admits}
+use Rattle.calls.proofs.Outcomes.{release-stopped, release-tested}
+use borrow.Author.Needs.{needs}
+use Rattle.calls.proofs.admit.release.Statement.{statement}
+use Rattle.calls.proofs.admit.release.Tie as tie
+
+-- the disc and the ledger
+abbrev D : tie.Start → Disc
+D s = lent (s .args .image .now) (s .args .kinds .now)
+
+abbrev L : tie.Start → List ℕ
+L s = s .args .ledger .now
+
+none : (c : tie.Else1) → first (workingTests (D (c .before .before .before .before .before)) (L (c .before .before .before .before .before)) (ledgerLent (L (c .before .before .before .before .before)) && true)) ≡ 0
+none c = sym (c .before .working .ensures) ∙ c .if1 .left
+
+admits : (c : tie.Else1) → Admitted (D (c .before .before .before .before .before)) (L (c .before .before .before .before .before)) true
+admits c = working-admits (D (c .before .before .before .before .before)) (L (c .before .before .before .before .before)) true (none c)
+
+working-requires : tie.Need-working-requires
+working-requires c κs = search needs
+
+returns : tie.Need-returns
+returns c =
+    let s = c .before .before .before .before .before in
+    let e = c .before .working .ensures in
+    e ∙ sym (release-stopped (D s) (L s) (s .args .n) (λ z. c .if1 .taken (e ∙ z)))
+
+not-in-use-requires : tie.Need-not-in-use-requires
+not-in-use-requires c κs = (admits c .ledger-long, admits c .fit .few)
+
+returns-2 : tie.Need-returns-2
+returns-2 c =
+    let s = c .before .before .before .before .before .before .before in
+    let wrong : notInUse (unpack (L s)) (s .args .n) ≡ true = sym (c .before .not-in-use .ensures) ∙ c .if2 .taken in
+    sym (release-tested (D s) (L s) (s .args .n) (none (c .before .before)) ∙ stop 10 (notInUse (unpack (L s)) (s .args .n)) [] wrong)
+
+returns-3 : tie.Need-returns-3
+returns-3 c =
+    let s = c .before .before .before .before .before .before .before in
+    let right : notInUse (unpack (L s)) (s .args .n) ≡ false = sym (c .before .not-in-use .ensures) ∙ c .if2 .left in
+    sym (release-tested (D s) (L s) (s .args .n) (none (c .before .before)) ∙ skip 10 (notInUse (unpack (L s)) (s .args .n)) [] right ∙ none-left)
+
+pub release-spec : {M : Type 1} → statement M
+release-spec =
+    tie.close (tie.spec working-requires returns not-in-use-requires returns-2 returns-3)

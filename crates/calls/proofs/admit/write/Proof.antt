@@ -1,0 +1,143 @@
+-- `calls::admit::write` meets its contract: 1 to 5 stop it first, then the number, the room, and the lent block.
+-- Assumes nothing.
+use Prim.Native.Nat.{ℕ, _+_, _-_, _≤_, _<_}
+use native.Mathlib.Omega.{arith}
+use mathlib.Core.Path.{_≡_, refl, sym, ap, ap₂, _∙_, subst}
+use mathlib.Core.Bool.{Bool, true, false, _&&_}
+use mathlib.Core.List.{List, [], _∷_}
+use lib.Dec.{eqb, ltb}
+use lib.ListN.{length, getD}
+use borrow.Author.Tests.{le-ltb, lt-ltb}
+use Rattle.vat.specs.Table.{sectorLength, limit, unused, isTable}
+use Rattle.disc.specs.Disc.{Disc, lent, recorded, blanks, kindAt}
+use Rattle.disc.proofs.Recording.{leading-le, sound-sized}
+use Rattle.volume.specs.declared.Volume.{Volume}
+use Rattle.volume.specs.Volume.{unpack}
+use Rattle.recorder.specs.Calls.{write, commit, mount}
+use Rattle.recorder.specs.Refusals.{first, test, linkCount, links, target, reserve, ledgerLent, notInUse, outcome}
+use Rattle.recorder.proofs.Done.{stop, skip, none-left, workingTests, Admitted, working-admits, links-few}
+use Rattle.calls.proofs.Outcomes.{write-stopped, write-12, write-13, write-14, write-tested}
+use borrow.Author.Needs.{needs}
+use Rattle.calls.proofs.admit.write.Statement.{statement}
+use Rattle.calls.proofs.admit.write.Tie as tie
+
+-- the disc and the ledger
+abbrev D : tie.Start → Disc
+D s = lent (s .args .image .now) (s .args .kinds .now)
+
+abbrev L : tie.Start → List ℕ
+L s = s .args .ledger .now
+
+abbrev whole : tie.Start → Bool
+whole s = eqb (length (s .args .block .now)) sectorLength
+
+none : (c : tie.Else1) → first (workingTests (D (c .before .before .before .before .before .before)) (L (c .before .before .before .before .before .before)) (ledgerLent (L (c .before .before .before .before .before .before)) && whole (c .before .before .before .before .before .before))) ≡ 0
+none c = sym (c .before .working .ensures) ∙ c .if1 .left
+
+admits : (c : tie.Else1) → Admitted (D (c .before .before .before .before .before .before)) (L (c .before .before .before .before .before .before)) (whole (c .before .before .before .before .before .before))
+admits c = working-admits (D (c .before .before .before .before .before .before)) (L (c .before .before .before .before .before .before)) (whole (c .before .before .before .before .before .before)) (none c)
+
+no-gap : (c : tie.Else2) → c .before .before .before .before .before .before .before .before .args .n ≤ unpack (L (c .before .before .before .before .before .before .before .before)) .size
+no-gap c = omega (arith, c .before .size .ensures, c .if2 .left)
+
+own : (c : tie.After-recorded) → c .recorded .result ≡ recorded (D (c .before .before .before .before .before .before .before .before .before .before .before))
+own c = c .recorded .ensures ∙ admits (c .before .before .before .before .before) .fit .same-recorded
+
+-- there is room, and only the block is left to test
+tested : (c : tie.Else4) → outcome (D (c .before .before .before .before .before .before .before .before .before .before .before .before)) (L (c .before .before .before .before .before .before .before .before .before .before .before .before)) (write (c .before .before .before .before .before .before .before .before .before .before .before .before .args .n) (c .before .before .before .before .before .before .before .before .before .before .before .before .args .block .now))
+    ≡ first (test 15 (isTable 1 (c .before .before .before .before .before .before .before .before .before .before .before .before .args .block .now) (target (unpack (L (c .before .before .before .before .before .before .before .before .before .before .before .before))))) ∷ [])
+tested c =
+    let s = c .before .before .before .before .before .before .before .before .before .before .before .before in
+    write-tested (D s) (L s) (s .args .n) (s .args .block .now) (none (c .before .before .before .before .before .before)) (no-gap (c .before .before .before .before)) (c .before .before .before .if3 .left)
+    (omega (arith, own (c .before), c .before .before .links .ensures, c .if4 .left))
+
+judged : (c : tie.After-is-table) → c .is-table .result ≡ isTable 1 (c .before .before .before .before .before .before .before .before .before .before .before .before .before .args .block .now) (target (unpack (L (c .before .before .before .before .before .before .before .before .before .before .before .before .before))))
+judged c =
+    let s = c .before .before .before .before .before .before .before .before .before .before .before .before .before in
+    c .is-table .ensures ∙ ap₂ (λ (r k : ℕ). isTable 1 (s .args .block .now) (r + k)) (c .before .before .recorded .ensures) (c .before .before .before .links .ensures)
+
+working-requires : tie.Need-working-requires
+working-requires c κs = search needs
+
+returns : tie.Need-returns
+returns c =
+    let s = c .before .before .before .before .before .before in
+    let e = c .before .working .ensures in
+    e ∙ sym (write-stopped (D s) (L s) (s .args .n) (s .args .block .now) (λ z. c .if1 .taken (e ∙ z)))
+
+size-requires : tie.Need-size-requires
+size-requires c κs = admits c .ledger-long
+
+returns-2 : tie.Need-returns-2
+returns-2 c =
+    let s = c .before .before .before .before .before .before .before .before in
+    sym (write-12 (D s) (L s) (s .args .n) (s .args .block .now) (none (c .before .before)) (omega (arith, c .before .size .ensures, c .if2 .taken)))
+
+returns-3 : tie.Need-returns-3
+returns-3 c =
+    let s = c .before .before .before .before .before .before .before .before .before in
+    sym (write-13 (D s) (L s) (s .args .n) (s .args .block .now) (none (c .before .before .before)) (no-gap (c .before)) (c .if3 .taken))
+
+links-requires : tie.Need-links-requires
+links-requires c κs = admits (c .before .before .before) .ledger-long
+
+recorded-requires : tie.Need-recorded-requires
+recorded-requires c κs = admits (c .before .before .before .before) .ledger-long
+
+cast-blank : tie.Need-cast-blank
+cast-blank c = omega (arith, admits (c .before .before .before .before .before) .sound-disc .few)
+
+sub-blank : tie.Need-sub-blank
+sub-blank c = omega (arith, own c, leading-le (D (c .before .before .before .before .before .before .before .before .before .before .before) .kinds))
+
+add-if4 : tie.Need-add-if4
+add-if4 c = omega (arith, c .before .links .ensures, links-few (unpack (L (c .before .before .before .before .before .before .before .before .before .before .before))))
+
+add-if4-2 : tie.Need-add-if4-2
+add-if4-2 c = omega (arith, c .before .links .ensures, links-few (unpack (L (c .before .before .before .before .before .before .before .before .before .before .before))))
+
+returns-4 : tie.Need-returns-4
+returns-4 c =
+    let s = c .before .before .before .before .before .before .before .before .before .before .before .before in
+    let e = c .before .before .before .before in
+    sym (write-14 (D s) (L s) (s .args .n) (s .args .block .now) (none (c .before .before .before .before .before .before)) (no-gap e) (c .before .before .before .if3 .left)
+    (omega (arith, own (c .before), c .before .before .links .ensures, c .if4 .taken)))
+
+add-is-table : tie.Need-add-is-table
+add-is-table c = omega (arith, own (c .before), leading-le (D (c .before .before .before .before .before .before .before .before .before .before .before .before) .kinds), admits (c .before .before .before .before .before .before) .sound-disc .few, c .before .before .links .ensures, links-few (unpack (L (c .before .before .before .before .before .before .before .before .before .before .before .before))))
+
+is-table-requires : tie.Need-is-table-requires
+is-table-requires c κs = search needs
+
+returns-5 : tie.Need-returns-5
+returns-5 c =
+    let s = c .before .before .before .before .before .before .before .before .before .before .before .before .before .before in
+    let wrong : isTable 1 (s .args .block .now) (target (unpack (L s))) ≡ true = sym (judged (c .before)) ∙ c .if5 .taken in
+    sym (tested (c .before .before) ∙ stop 15 (isTable 1 (s .args .block .now) (target (unpack (L s)))) [] wrong)
+
+returns-6 : tie.Need-returns-6
+returns-6 c =
+    let s = c .before .before .before .before .before .before .before .before .before .before .before .before .before .before in
+    let right : isTable 1 (s .args .block .now) (target (unpack (L s))) ≡ false = sym (judged (c .before)) ∙ c .if5 .left in
+    sym (tested (c .before .before) ∙ skip 15 (isTable 1 (s .args .block .now) (target (unpack (L s)))) [] right ∙ none-left)
+
+pub write-spec : {M : Type 1} → statement M
+write-spec =
+    tie.close
+    (tie.spec
+    working-requires
+    returns
+    size-requires
+    returns-2
+    returns-3
+    links-requires
+    recorded-requires
+    cast-blank
+    sub-blank
+    add-if4
+    add-if4-2
+    returns-4
+    add-is-table
+    is-table-requires
+    returns-5
+    returns-6)

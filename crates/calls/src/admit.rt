@@ -1,0 +1,144 @@
+// The outcome of each call, its tests in document 01's order.
+use crate::Plan;
+use crate::basic::LEDGER;
+use crate::refused;
+use disc::Walk;
+use vat::table::LIMIT;
+use vat::table::SECTOR;
+use vat::table::UNUSED;
+ghost use mathlib.Core.Path.{_≡_};
+ghost use mathlib.Core.Option.{some};
+ghost use Rattle.disc.specs.declared.Walk.the-variants.{Reached};
+ghost use Rattle.disc.specs.Disc.{lent, recorded};
+ghost use Rattle.disc.specs.Tables.{newest};
+ghost use Rattle.recorder.specs.Calls.{begin, mount, write, release, closePacket, commit, read, lookBack};
+ghost use Rattle.recorder.specs.Refusals.{walked, outcome};
+
+// "Write needs links + 1 + 8 blank sectors".
+const RESERVE: u32 = 8;
+
+pub fn begin(image: &[u8], kinds: &[u8], ledger: &[u8]) -> Plan
+    ensures { λ r. ⌜ (r .outcome ≡ outcome (lent (now (image .entry)) (now (kinds .entry))) (now (ledger .entry)) begin) × (r .outcome ≡ 0 → r .recorded ≡ recorded (lent (now (image .entry)) (now (kinds .entry)))) ⌝ }
+{
+    let plan = crate::basic::sound(image, kinds, ledger.len() == LEDGER);
+    if plan.outcome != 0 {
+        return plan;
+    }
+    if disc::tables::newest(image, kinds, plan.recorded) != UNUSED {
+        return refused(6);
+    }
+    plan
+}
+
+pub fn mount(image: &[u8], kinds: &[u8], ledger: &[u8]) -> Plan
+    ensures { λ r. ⌜ (r .outcome ≡ outcome (lent (now (image .entry)) (now (kinds .entry))) (now (ledger .entry)) mount) × (r .outcome ≡ 0 → (r .recorded ≡ recorded (lent (now (image .entry)) (now (kinds .entry)))) × (newest (lent (now (image .entry)) (now (kinds .entry))) ≡ some (r .block))) ⌝ }
+{
+    let plan = crate::basic::sound(image, kinds, ledger.len() == LEDGER);
+    if plan.outcome != 0 {
+        return plan;
+    }
+    let recorded = plan.recorded;
+    let block = disc::tables::newest(image, kinds, recorded);
+    if block == UNUSED {
+        return refused(7);
+    }
+    Plan {
+        outcome: 0,
+        recorded: recorded,
+        block: block,
+    }
+}
+
+pub fn look_back(image: &[u8], kinds: &[u8], ledger: &[u8], k: u32) -> Plan
+    ensures { λ r. ⌜ (r .outcome ≡ outcome (lent (now (image .entry)) (now (kinds .entry))) (now (ledger .entry)) (lookBack k)) × (r .outcome ≡ 0 → (r .recorded ≡ recorded (lent (now (image .entry)) (now (kinds .entry)))) × (walked (lent (now (image .entry)) (now (kinds .entry))) k ≡ Reached (r .block))) ⌝ }
+{
+    let plan = mount(image, kinds, ledger);
+    if plan.outcome != 0 {
+        return plan;
+    }
+    let recorded = plan.recorded;
+    match disc::tables::walk_back(image, kinds, k, plan.block) {
+        Walk::Reached(block) => Plan {
+            outcome: 0,
+            recorded: recorded,
+            block: block,
+        },
+        Walk::Broken => refused(8),
+        Walk::Ended => refused(9),
+    }
+}
+
+pub fn write(image: &[u8], kinds: &[u8], ledger: &[u8], n: u32, block: &[u8]) -> u32
+    ensures { λ r. ⌜ r ≡ outcome (lent (now (image .entry)) (now (kinds .entry))) (now (ledger .entry)) (write n (now (block .entry))) ⌝ }
+{
+    let outcome = crate::basic::working(image, kinds, ledger, block.len() == SECTOR);
+    if outcome != 0 {
+        return outcome;
+    }
+    if volume::ledger::size(ledger) < n {
+        return 12;
+    }
+    if LIMIT <= n {
+        return 13;
+    }
+    let links = crate::basic::links(ledger);
+    let recorded = volume::ledger::recorded(ledger);
+    let blank = (kinds.len() as u32) - recorded;
+    if blank < links + 1 + RESERVE {
+        return 14;
+    }
+    if vat::table::is_table(1, block, recorded + links) {
+        return 15;
+    }
+    0
+}
+
+pub fn release(image: &[u8], kinds: &[u8], ledger: &[u8], n: u32) -> u32
+    ensures { λ r. ⌜ r ≡ outcome (lent (now (image .entry)) (now (kinds .entry))) (now (ledger .entry)) (release n) ⌝ }
+{
+    let outcome = crate::basic::working(image, kinds, ledger, true);
+    if outcome != 0 {
+        return outcome;
+    }
+    if crate::basic::not_in_use(ledger, n) {
+        return 10;
+    }
+    0
+}
+
+pub fn close_packet(image: &[u8], kinds: &[u8], ledger: &[u8]) -> u32
+    ensures { λ r. ⌜ r ≡ outcome (lent (now (image .entry)) (now (kinds .entry))) (now (ledger .entry)) closePacket ⌝ }
+{
+    crate::basic::working(image, kinds, ledger, true)
+}
+
+pub fn commit(image: &[u8], kinds: &[u8], ledger: &[u8]) -> u32
+    ensures { λ r. ⌜ r ≡ outcome (lent (now (image .entry)) (now (kinds .entry))) (now (ledger .entry)) commit ⌝ }
+{
+    let outcome = crate::basic::working(image, kinds, ledger, true);
+    if outcome != 0 {
+        return outcome;
+    }
+    let blank = (kinds.len() as u32) - volume::ledger::recorded(ledger);
+    if blank < crate::basic::links(ledger) + 1 {
+        return 14;
+    }
+    0
+}
+
+pub fn read(image: &[u8], kinds: &[u8], ledger: &[u8], n: u32, block: &[u8]) -> u32
+    ensures { λ r. ⌜ r ≡ outcome (lent (now (image .entry)) (now (kinds .entry))) (now (ledger .entry)) (read n (now (block .entry))) ⌝ }
+{
+    let outcome = crate::basic::fitting(image, kinds, ledger, block.len() == SECTOR);
+    if outcome != 0 {
+        return outcome;
+    }
+    if crate::basic::not_in_use(ledger, n) {
+        return 10;
+    }
+    let b = volume::ledger::entry(ledger, n) as usize;
+    if kinds[b] != 1 {
+        return 11;
+    }
+    0
+}

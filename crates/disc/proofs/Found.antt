@@ -1,0 +1,194 @@
+-- What a search or a walk finds is a table, and on a sound disc a table lies within what is recorded. Then what one sector, and one step, tells of them.
+-- Assumes nothing.
+use Prim.Native.Nat.{ℕ, zero, suc, _+_, _-_, _*_, _≤_, _<_}
+use native.Mathlib.Nat.{not-suc-le-zero, le-of-suc-le-suc, zero-add, suc-add}
+use native.Mathlib.Omega.{arith}
+use mathlib.Core.Path.{_≡_, refl, sym, ap, _∙_}
+use mathlib.Core.Bool.{Bool, true, false, _&&_}
+use mathlib.Core.List.{List, [], _∷_}
+use mathlib.Core.Option.{Option, none, some}
+use lib.Dec.{eqb, ltb}
+use lib.ListN.{length, getD, take, drop, length-drop}
+use lib.Seq.{length-take-le}
+use borrow.Author.Tests.{eq-eqb, ne-eqb, ltb-true, ltb-false}
+use Rattle.le.specs.Bytes.{every}
+use Rattle.le.specs.Field.{readLe, words}
+use Rattle.le.proofs.Runs.{words-none}
+use Rattle.tag.specs.Tag.{sealed}
+use Rattle.vat.specs.Table.{sectorLength, unused, unusedOrBelow, entryCount, entriesOf, framed, isTable}
+use Rattle.vat.proofs.Frame.{word-taken}
+use Rattle.vat.proofs.Theorems.{recognised}
+use Rattle.disc.specs.declared.Walk.{Walk}
+use Rattle.disc.specs.declared.Walk.the-variants.{Reached, Broken, Ended}
+use Rattle.disc.specs.Disc.{Disc, recorded, kindAt, sectorAt}
+use Rattle.disc.specs.Tables.{tableAt, found, newestBelow, stepped, walk}
+use Rattle.disc.proofs.Order.{and-false}
+use Rattle.disc.proofs.Recording.{Sized, Sound, kind-recorded}
+
+pub table-recorded : (d : Disc) → Sound d → (b : ℕ) → tableAt d b ≡ true → b < recorded d
+table-recorded d ok b e = kind-recorded d ok b (λ z. let one : kindAt d b ≡ 1 = recognised (kindAt d b) (sectorAt d b) b e .data-kind in omega arith)
+
+pub newest-table : (table : ℕ → Bool) (n b : ℕ) → newestBelow table n ≡ some b → table b ≡ true
+unfolding newestBelow
+newest-table table zero b e = absurd (let z : _≡_ {A = ℕ} 0 1 = cc in omega arith)
+newest-table table (suc n) b e = go (table n) refl e (newest-table table n b)
+  where
+    go : (t : Bool) → table n ≡ t → found t n (newestBelow table n) ≡ some b → (newestBelow table n ≡ some b → table b ≡ true) → table b ≡ true
+    go true h e ih = let same : n ≡ b = cc in ap table (sym same) ∙ h
+    go false h e ih = ih e
+
+pub newest-below : (table : ℕ → Bool) (n b : ℕ) → newestBelow table n ≡ some b → b < n
+unfolding newestBelow
+newest-below table zero b e = absurd (let z : _≡_ {A = ℕ} 0 1 = cc in omega arith)
+newest-below table (suc n) b e = go (table n) e (newest-below table n b)
+  where
+    go : (t : Bool) → found t n (newestBelow table n) ≡ some b → (newestBelow table n ≡ some b → b < n) → b < suc n
+    go true e ih = let same : n ≡ b = cc in omega arith
+    go false e ih = let low : b < n = ih e in omega arith
+
+pub walk-table : (table : ℕ → Bool) (previous : ℕ → ℕ) (k b t : ℕ) → walk table previous k b ≡ Reached t → table b ≡ true → table t ≡ true
+unfolding walk
+walk-table table previous zero b t e h = let same : b ≡ t = cc in ap table (sym same) ∙ h
+walk-table table previous (suc k) b t e h = go (eqb (previous b) unused) (table (previous b)) refl e (walk-table table previous k (previous b) t)
+  where
+    go : (u p : Bool) → table (previous b) ≡ p → stepped u p (walk table previous k (previous b)) ≡ Reached t
+        → (walk table previous k (previous b) ≡ Reached t → table (previous b) ≡ true → table t ≡ true) → table t ≡ true
+    go true p h e ih = absurd (let z : _≡_ {A = ℕ} 0 1 = cc in omega arith)
+    go false false h e ih = absurd (let z : _≡_ {A = ℕ} 0 1 = cc in omega arith)
+    go false true h e ih = ih e h
+
+-- ---- the sector at a block
+
+pub part-sector : (d : Disc) (b : ℕ) → take ((sectorLength * b + sectorLength) - sectorLength * b) (drop (sectorLength * b) (d .image)) ≡ sectorAt d b
+unfolding sectorAt
+part-sector d b =
+    let long : (sectorLength * b + sectorLength) - sectorLength * b ≡ sectorLength = omega arith in
+    ap (λ (k : ℕ). take k (drop (sectorLength * b) (d .image))) long
+
+-- its bytes lie within the image
+pub sector-end : (d : Disc) → Sized d → (b : ℕ) → b < length (d .kinds) → sectorLength * b + sectorLength ≤ length (d .image)
+sector-end d ok b h = omega (arith, ok .whole)
+
+pub sector-long : (d : Disc) → Sized d → (b : ℕ) → b < length (d .kinds) → length (sectorAt d b) ≡ sectorLength
+unfolding sectorAt
+sector-long d ok b h =
+    length-take-le sectorLength (drop (sectorLength * b) (d .image)) (rw (length-drop (sectorLength * b) (d .image)) (omega (arith, sector-end d ok b h)))
+
+-- ---- whether it is a table sector
+
+beyond-kind : (ks : List ℕ) (b : ℕ) → length ks ≤ b → getD ks b 0 ≡ 0
+beyond-kind [] b h = refl
+beyond-kind (k ∷ ks) zero h = absurd (not-suc-le-zero h)
+beyond-kind (k ∷ ks) (suc b) h = beyond-kind ks b (le-of-suc-le-suc h)
+
+pub table-beyond : (d : Disc) (b : ℕ) → length (d .kinds) ≤ b → tableAt d b ≡ false
+unfolding isTable
+table-beyond d b h = rw (beyond-kind (d .kinds) b h)
+
+pub table-within : (d : Disc) (b : ℕ) → tableAt d b ≡ true → b < length (d .kinds)
+table-within d b e = go (ltb b (length (d .kinds))) refl
+  where
+    go : (t : Bool) → ltb b (length (d .kinds)) ≡ t → b < length (d .kinds)
+    go true h = ltb-true b (length (d .kinds)) h
+    go false h = absurd (mathlib.Core.Bool.true≢false (sym e ∙ table-beyond d b (ltb-false b (length (d .kinds)) h)))
+
+module _ (kind : ℕ) (s : List ℕ) (b : ℕ) where
+  pub other-kind : (kind ≡ 1 → ⊥) → isTable kind s b ≡ false
+  unfolding isTable
+  other-kind h = rw (ne-eqb kind 1 h)
+
+  pub not-framed : framed s b (entryCount s) ≡ false → isTable kind s b ≡ false
+  unfolding isTable
+  not-framed e =
+      let rest : Bool = every (unusedOrBelow b) (entriesOf s) && sealed s in
+      let f : Bool = framed s b (entryCount s) in
+      and-false (eqb kind 1) (eqb (length s) sectorLength && (f && rest)) (and-false (eqb (length s) sectorLength) (f && rest) (ap (λ (t : Bool). t && rest) e))
+
+  pub not-held : every (unusedOrBelow b) (entriesOf s) ≡ false → isTable kind s b ≡ false
+  unfolding isTable
+  not-held e =
+      let held : Bool = every (unusedOrBelow b) (entriesOf s) in
+      let f : Bool = framed s b (entryCount s) in
+      and-false (eqb kind 1) (eqb (length s) sectorLength && (f && (held && sealed s)))
+      (and-false (eqb (length s) sectorLength) (f && (held && sealed s)) (and-false f (held && sealed s) (ap (λ (t : Bool). t && sealed s) e)))
+
+  pub all-but-sums : kind ≡ 1 → length s ≡ sectorLength → framed s b (entryCount s) ≡ true → every (unusedOrBelow b) (entriesOf s) ≡ true → isTable kind s b ≡ sealed s
+  unfolding isTable
+  all-but-sums k l f e = rw (eq-eqb kind 1 k, eq-eqb (length s) sectorLength l, f, e)
+
+-- ---- its entries, one by one
+
+pub word-fails : (f : ℕ → Bool) (left : ℕ) (s : List ℕ) (at : ℕ) → 0 < left → f (readLe 4 s at) ≡ false → every f (words left s at) ≡ false
+word-fails f left s at h e = sym (word-taken true f left s at h) ∙ ap (λ (t : Bool). t && every f (words (left - 1) s (at + 4))) e
+
+pub word-passes : (f : ℕ → Bool) (left : ℕ) (s : List ℕ) (at : ℕ) → 0 < left → f (readLe 4 s at) ≡ true
+    → every f (words (left - 1) s (at + 4)) ≡ every f (words left s at)
+word-passes f left s at h e = ap (λ (t : Bool). t && every f (words (left - 1) s (at + 4))) (sym e) ∙ word-taken true f left s at h
+
+pub words-passed : (f : ℕ → Bool) (left : ℕ) (s : List ℕ) (at : ℕ) → left ≡ 0 → every f (words left s at) ≡ true
+unfolding every
+words-passed f left s at e = ap (λ (n : ℕ). every f (words n s at)) e ∙ ap (every f) (words-none s at)
+
+-- ---- the search, one block further
+
+not-found-here : (table : ℕ → Bool) (b : ℕ) → table b ≡ false → newestBelow table (suc b) ≡ newestBelow table b
+unfolding newestBelow
+not-found-here table b e = rw e
+
+found-here : (table : ℕ → Bool) (b : ℕ) → table b ≡ true → newestBelow table (suc b) ≡ some b
+unfolding newestBelow
+found-here table b e = rw e
+
+pub none-below : (table : ℕ → Bool) → newestBelow table 0 ≡ none
+unfolding newestBelow
+none-below table = refl
+
+-- a block that holds no table is left behind
+pub scan-on : (table : ℕ → Bool) (b : ℕ) (all : Option ℕ) → 0 < b → table (b - 1) ≡ false → newestBelow table b ≡ all → newestBelow table (b - 1) ≡ all
+scan-on table zero all h t e = absurd (not-suc-le-zero h)
+scan-on table (suc b) all h t e =
+    let one : suc b - 1 ≡ b = omega arith in
+    ap (newestBelow table) one ∙ sym (not-found-here table b (ap table (sym one) ∙ t)) ∙ e
+
+pub scan-ends : (table : ℕ → Bool) (b : ℕ) (all : Option ℕ) → 0 < b → table (b - 1) ≡ true → newestBelow table b ≡ all → all ≡ some (b - 1)
+scan-ends table zero all h t e = absurd (not-suc-le-zero h)
+scan-ends table (suc b) all h t e =
+    let one : suc b - 1 ≡ b = omega arith in
+    sym e ∙ found-here table b (ap table (sym one) ∙ t) ∙ ap some (sym one)
+
+-- ---- the walk, one step, and one walk after another
+
+module _ (table : ℕ → Bool) (previous : ℕ → ℕ) where
+  pub step-ended : (b : ℕ) → previous b ≡ unused → walk table previous 1 b ≡ Ended
+  unfolding walk
+  step-ended b e = rw (eq-eqb (previous b) unused e)
+
+  pub step-broken : (b : ℕ) → (previous b ≡ unused → ⊥) → table (previous b) ≡ false → walk table previous 1 b ≡ Broken
+  unfolding walk
+  step-broken b u e = rw (ne-eqb (previous b) unused u, e)
+
+  pub step-reached : (b : ℕ) → (previous b ≡ unused → ⊥) → table (previous b) ≡ true → walk table previous 1 b ≡ Reached (previous b)
+  unfolding walk
+  step-reached b u e = rw (ne-eqb (previous b) unused u, e)
+
+  pub walk-none : (b : ℕ) → walk table previous 0 b ≡ Reached b
+  unfolding walk
+  walk-none b = refl
+
+  -- a walk goes on where the walk before it came to, or fails with it
+  abbrev pub onward : ℕ → Walk → Walk
+  onward k (Reached m) = walk table previous k m
+  onward k Broken = Broken
+  onward k Ended = Ended
+
+  pub walk-onward : (j k b : ℕ) → walk table previous (j + k) b ≡ onward k (walk table previous j b)
+  unfolding walk
+  walk-onward zero k b = ap (λ (n : ℕ). walk table previous n b) (zero-add k)
+  walk-onward (suc j) k b =
+      ap (λ (n : ℕ). walk table previous n b) (suc-add j k) ∙ go (eqb (previous b) unused) (table (previous b)) (walk-onward j k (previous b))
+    where
+      go : (u t : Bool) → walk table previous (j + k) (previous b) ≡ onward k (walk table previous j (previous b))
+          → stepped u t (walk table previous (j + k) (previous b)) ≡ onward k (stepped u t (walk table previous j (previous b)))
+      go true t ih = refl
+      go false false ih = refl
+      go false true ih = ih

@@ -1,0 +1,226 @@
+-- `disc::tables::newest` meets its contract: the newest table below the block that the scan has come to is the newest one.
+-- Assumes nothing.
+use Prim.Native.Nat.{ℕ, _+_, _-_, _*_, _≤_, _<_}
+use native.Mathlib.Omega.{arith}
+use mathlib.Core.Path.{_≡_, refl, sym, ap, _∙_}
+use mathlib.Core.Bool.{Bool, true, false}
+use mathlib.Core.List.{List}
+use lib.ListN.{length, take, drop}
+use borrow.Author.Tests.{not-true, not-false}
+use Rattle.le.specs.Bytes.{every}
+use Rattle.le.specs.Field.{readLe, words}
+use Rattle.tag.specs.Tag.{sealed}
+use Rattle.vat.specs.Table.{sectorLength, unusedOrBelow, entryCount, entriesOf, isTable, framed}
+use Rattle.vat.proofs.Frame.{Framed, framed-tells}
+use Rattle.disc.specs.Disc.{Disc, lent, kindAt}
+use Rattle.disc.specs.Tables.{tableAt, blockFound, newestBelow}
+use Rattle.disc.proofs.Recording.{sized-tells}
+use Rattle.disc.proofs.Found.{part-sector, sector-end, sector-long, other-kind, not-framed, not-held, all-but-sums, word-fails, word-passes, words-passed, none-below, scan-on, scan-ends}
+use Rattle.disc.proofs.tables.newest.Statement.{statement}
+use Rattle.disc.proofs.tables.newest.Tie as tie
+
+abbrev Inv-loop : tie.InvT-loop
+Inv-loop image kinds recorded b place at end s left₀ entry₀ left entry =
+    (entry + 4 * left ≤ sectorLength) × (every (unusedOrBelow b) (words left s entry) ≡ every (unusedOrBelow b) (entriesOf s))
+
+abbrev μ-loop : tie.MeasureT-loop
+μ-loop image kinds recorded b place at end s left₀ entry₀ left entry = left
+
+abbrev Inv-scan : tie.InvT-scan
+Inv-scan image kinds recorded b₀ b = (b ≤ recorded) × (newestBelow (tableAt (lent image kinds)) b ≡ newestBelow (tableAt (lent image kinds)) recorded)
+
+abbrev μ-scan : tie.MeasureT-scan
+μ-scan image kinds recorded b₀ b = b
+
+-- the disc, the block that is looked at, and its bytes
+abbrev D : tie.Else1 Inv-loop μ-loop Inv-scan μ-scan → Disc
+D c = lent (c .before .before .before .before .args .image .now) (c .before .before .before .before .args .kinds .now)
+
+abbrev B : tie.Else1 Inv-loop μ-loop Inv-scan μ-scan → ℕ
+B c = c .before .scan .b - 1
+
+abbrev S : tie.Else1 Inv-loop μ-loop Inv-scan μ-scan → List ℕ
+S c = take ((sectorLength * B c + sectorLength) - sectorLength * B c) (drop (sectorLength * B c) (D c .image))
+
+within : (c : tie.Else1 Inv-loop μ-loop Inv-scan μ-scan) → B c < length (D c .kinds)
+within c = omega (arith, c .before .scan .inv .0, c .before .before .before .before .pre .1)
+
+whole : (c : tie.Else1 Inv-loop μ-loop Inv-scan μ-scan) → length (S c) ≡ sectorLength
+whole c = ap length (part-sector (D c) (B c)) ∙ sector-long (D c) (sized-tells (D c) (c .before .before .before .before .pre .0)) (B c) (within c)
+
+here : (c : tie.Else1 Inv-loop μ-loop Inv-scan μ-scan) (t : Bool) → isTable (kindAt (D c) (B c)) (S c) (B c) ≡ t → tableAt (D c) (B c) ≡ t
+here c t e = ap (λ (l : List ℕ). isTable (kindAt (D c) (B c)) l (B c)) (sym (part-sector (D c) (B c))) ∙ e
+
+-- the scan goes on
+on : (c : tie.Else1 Inv-loop μ-loop Inv-scan μ-scan) → isTable (kindAt (D c) (B c)) (S c) (B c) ≡ false
+    → (B c ≤ c .before .before .before .before .args .recorded) × (newestBelow (tableAt (D c)) (B c) ≡ newestBelow (tableAt (D c)) (c .before .before .before .before .args .recorded))
+on c e = (
+  omega (arith, c .before .scan .inv .0),
+  scan-on (tableAt (D c)) (c .before .scan .b) (newestBelow (tableAt (D c)) (c .before .before .before .before .args .recorded)) (omega arith) (here c false e) (c .before .scan .inv .1),
+)
+
+frame : (c : tie.Else3 Inv-loop μ-loop Inv-scan μ-scan) → framed (S (c .before .before .before .before .before)) (B (c .before .before .before .before .before)) (entryCount (S (c .before .before .before .before .before))) ≡ true
+frame c = sym (c .before .framed .ensures) ∙ not-false (c .before .framed .result) (c .if3 .left)
+
+told : (c : tie.Else3 Inv-loop μ-loop Inv-scan μ-scan) → Framed (S (c .before .before .before .before .before)) (B (c .before .before .before .before .before)) (entryCount (S (c .before .before .before .before .before)))
+told c = framed-tells (S (c .before .before .before .before .before)) (B (c .before .before .before .before .before)) (entryCount (S (c .before .before .before .before .before))) (frame c)
+
+-- the entry that was read
+named : (c : tie.After-may-name Inv-loop μ-loop Inv-scan μ-scan)
+    → c .may-name .result ≡ unusedOrBelow (B (c .before .before .before .before .before .before .before .before .before .before)) (readLe 4 (S (c .before .before .before .before .before .before .before .before .before .before)) (c .before .before .before .loop .entry))
+named c = c .may-name .ensures ∙ ap (unusedOrBelow (B (c .before .before .before .before .before .before .before .before .before .before))) (c .before .read32 .ensures)
+
+-- only the sums are left
+sums : (c : tie.After-loop Inv-loop μ-loop Inv-scan μ-scan) → isTable (kindAt (D (c .before .before .before .before .before .before .before .before)) (B (c .before .before .before .before .before .before .before .before))) (S (c .before .before .before .before .before .before .before .before)) (B (c .before .before .before .before .before .before .before .before)) ≡ sealed (S (c .before .before .before .before .before .before .before .before))
+sums c =
+    let e = c .before .before .before .before .before .before .before .before in
+    let l = c .before .loop in
+    let passed : every (unusedOrBelow (B e)) (words (l .left) (S e) (l .entry)) ≡ true = words-passed (unusedOrBelow (B e)) (l .left) (S e) (l .entry) (omega arith) in
+    all-but-sums (kindAt (D e) (B e)) (S e) (B e) (c .before .before .before .before .before .before .if2 .left) (whole e) (frame (c .before .before .before)) (sym (l .inv .1) ∙ passed)
+
+scan-holds : tie.Need-scan-holds Inv-loop μ-loop Inv-scan μ-scan
+scan-holds c = (omega arith, refl)
+
+sub-b : tie.Need-sub-b Inv-loop μ-loop Inv-scan μ-scan
+sub-b c = omega arith
+
+cast-place : tie.Need-cast-place Inv-loop μ-loop Inv-scan μ-scan
+cast-place c = omega arith
+
+shared-slice-read-if2 : tie.Need-shared-slice-read-if2 Inv-loop μ-loop Inv-scan μ-scan
+shared-slice-read-if2 c = omega arith
+
+scan-less : tie.Need-scan-less Inv-loop μ-loop Inv-scan μ-scan
+scan-less c = omega arith
+
+scan-again : tie.Need-scan-again Inv-loop μ-loop Inv-scan μ-scan
+scan-again c = on (c .before .before) (other-kind (kindAt (D (c .before .before)) (B (c .before .before))) (S (c .before .before)) (B (c .before .before)) (c .if2 .taken))
+
+mul-at : tie.Need-mul-at Inv-loop μ-loop Inv-scan μ-scan
+mul-at c = omega arith
+
+add-end : tie.Need-add-end Inv-loop μ-loop Inv-scan μ-scan
+add-end c = omega arith
+
+sub-s : tie.Need-sub-s Inv-loop μ-loop Inv-scan μ-scan
+sub-s c = omega arith
+
+part-s-start : tie.Need-part-s-start Inv-loop μ-loop Inv-scan μ-scan
+part-s-start c = omega arith
+
+part-s-end : tie.Need-part-s-end Inv-loop μ-loop Inv-scan μ-scan
+part-s-end c = let e = c .before .before in omega (arith, sector-end (D e) (sized-tells (D e) (e .before .before .before .before .pre .0)) (B e) (within e))
+
+framed-requires : tie.Need-framed-requires Inv-loop μ-loop Inv-scan μ-scan
+framed-requires c κs = whole (c .before .before .before)
+
+scan-less-2 : tie.Need-scan-less-2 Inv-loop μ-loop Inv-scan μ-scan
+scan-less-2 c = omega arith
+
+scan-again-2 : tie.Need-scan-again-2 Inv-loop μ-loop Inv-scan μ-scan
+scan-again-2 c =
+    let e = c .before .before .before .before .before in
+    on e (not-framed (kindAt (D e) (B e)) (S e) (B e) (sym (c .before .framed .ensures) ∙ not-true (c .before .framed .result) (c .if3 .taken)))
+
+entry-count-requires : tie.Need-entry-count-requires Inv-loop μ-loop Inv-scan μ-scan
+entry-count-requires c κs = whole (c .before .before .before .before .before)
+
+loop-holds : tie.Need-loop-holds Inv-loop μ-loop Inv-scan μ-scan
+unfolding entriesOf
+loop-holds c =
+    let e = c .before .before .before .before .before .before in (
+      omega (arith, c .entry-count .ensures, told (c .before) .few),
+      ap (λ (n : ℕ). every (unusedOrBelow (B e)) (words n (S e) 176)) (c .entry-count .ensures),
+    )
+
+read32-requires : tie.Need-read32-requires Inv-loop μ-loop Inv-scan μ-scan
+read32-requires c κs = omega (arith, c .before .loop .inv .0, whole (c .before .before .before .before .before .before .before .before))
+
+may-name-requires : tie.Need-may-name-requires Inv-loop μ-loop Inv-scan μ-scan
+may-name-requires c κs = tt
+
+scan-less-3 : tie.Need-scan-less-3 Inv-loop μ-loop Inv-scan μ-scan
+scan-less-3 c = omega arith
+
+scan-again-3 : tie.Need-scan-again-3 Inv-loop μ-loop Inv-scan μ-scan
+scan-again-3 c =
+    let e = c .before .before .before .before .before .before .before .before .before .before .before in
+    let l = c .before .before .before .before .loop in
+    let wrong : unusedOrBelow (B e) (readLe 4 (S e) (l .entry)) ≡ false = sym (named (c .before)) ∙ not-true (c .before .may-name .result) (c .if4 .taken) in
+    on e (not-held (kindAt (D e) (B e)) (S e) (B e) (sym (l .inv .1) ∙ word-fails (unusedOrBelow (B e)) (l .left) (S e) (l .entry) (omega arith) wrong))
+
+add-entry : tie.Need-add-entry Inv-loop μ-loop Inv-scan μ-scan
+add-entry c = omega arith
+
+sub-left : tie.Need-sub-left Inv-loop μ-loop Inv-scan μ-scan
+sub-left c = omega arith
+
+loop-less : tie.Need-loop-less Inv-loop μ-loop Inv-scan μ-scan
+loop-less c = omega arith
+
+loop-again : tie.Need-loop-again Inv-loop μ-loop Inv-scan μ-scan
+loop-again c =
+    let e = c .before .before .before .before .before .before .before .before .before .before .before in
+    let l = c .before .before .before .before .loop in
+    let right : unusedOrBelow (B e) (readLe 4 (S e) (l .entry)) ≡ true = sym (named (c .before)) ∙ not-false (c .before .may-name .result) (c .if4 .left) in
+    (omega (arith, l .inv .0), word-passes (unusedOrBelow (B e)) (l .left) (S e) (l .entry) (omega arith) right ∙ l .inv .1)
+
+sealed-requires : tie.Need-sealed-requires Inv-loop μ-loop Inv-scan μ-scan
+sealed-requires c κs = let e = c .before .before .before in omega (arith, whole (e .before .before .before .before .before), told e .few, told e .sized .summed)
+
+scan-less-4 : tie.Need-scan-less-4 Inv-loop μ-loop Inv-scan μ-scan
+scan-less-4 c = omega arith
+
+scan-again-4 : tie.Need-scan-again-4 Inv-loop μ-loop Inv-scan μ-scan
+scan-again-4 c = on (c .before .before .before .before .before .before .before .before .before .before) (sums (c .before .before) ∙ sym (c .before .sealed .ensures) ∙ c .if5 .left)
+
+returns : tie.Need-returns Inv-loop μ-loop Inv-scan μ-scan
+returns c =
+    let i = c .before .scan .inv in
+    let a = c .before .before .before .before .args in
+    let d : Disc = lent (a .image .now) (a .kinds .now) in
+    ap blockFound (sym (none-below (tableAt d)) ∙ ap (newestBelow (tableAt d)) (sym (c .if1 .taken)) ∙ i .1)
+
+returns-2 : tie.Need-returns-2 Inv-loop μ-loop Inv-scan μ-scan
+returns-2 c =
+    let e = c .before .before .before .before .before .before .before .before .before .before in
+    let found : tableAt (D e) (B e) ≡ true = here e true (sums (c .before .before) ∙ sym (c .before .sealed .ensures) ∙ c .if5 .taken) in
+    ap blockFound (sym (scan-ends (tableAt (D e)) (e .before .scan .b) (newestBelow (tableAt (D e)) (e .before .before .before .before .args .recorded)) (omega arith) found (e .before .scan .inv .1)))
+
+pub newest-spec : {M : Type 1} → statement M
+newest-spec =
+    tie.close
+    (tie.spec
+    Inv-loop
+    μ-loop
+    Inv-scan
+    μ-scan
+    scan-holds
+    sub-b
+    cast-place
+    shared-slice-read-if2
+    scan-less
+    scan-again
+    mul-at
+    add-end
+    sub-s
+    part-s-start
+    part-s-end
+    framed-requires
+    scan-less-2
+    scan-again-2
+    entry-count-requires
+    loop-holds
+    read32-requires
+    may-name-requires
+    scan-less-3
+    scan-again-3
+    add-entry
+    sub-left
+    loop-less
+    loop-again
+    sealed-requires
+    scan-less-4
+    scan-again-4
+    returns
+    returns-2)

@@ -1,0 +1,96 @@
+-- `disc::tables::step_back` meets its contract: the previous table of a table is read, and then tested.
+-- Assumes nothing.
+use Prim.Native.Nat.{ℕ, _≤_, _<_}
+use native.Mathlib.Omega.{arith}
+use mathlib.Core.Path.{_≡_, sym, ap, _∙_, subst}
+use mathlib.Core.Bool.{true, false}
+use mathlib.Core.List.{List}
+use lib.ListN.{length}
+use borrow.Author.Tests.{not-true, not-false}
+use Rattle.vat.specs.Table.{sectorLength, limit, unused, entryCount, previousOf}
+use Rattle.vat.proofs.Theorems.{Recognised, recognised}
+use Rattle.disc.specs.declared.Walk.the-variants.{Reached}
+use Rattle.disc.specs.Disc.{Disc, lent, kindAt, sectorAt}
+use Rattle.disc.specs.Tables.{tableAt, previousAt}
+use Rattle.disc.proofs.Recording.{sized-tells}
+use Rattle.disc.proofs.Found.{part-sector, sector-end, table-within, step-ended, step-broken, step-reached}
+use borrow.Author.Needs.{needs}
+use Rattle.disc.proofs.tables.step_back.Statement.{statement}
+use Rattle.disc.proofs.tables.step_back.Tie as tie
+
+-- the disc, and that the block lies on it
+abbrev D : tie.Start → Disc
+D s = lent (s .args .image .now) (s .args .kinds .now)
+
+within : (s : tie.Start) → s .args .b < length (D s .kinds)
+within s = table-within (D s) (s .args .b) (s .pre .1)
+
+told : (s : tie.Start) → Recognised (kindAt (D s) (s .args .b)) (sectorAt (D s) (s .args .b)) (s .args .b)
+told s = recognised (kindAt (D s) (s .args .b)) (sectorAt (D s) (s .args .b)) (s .args .b) (s .pre .1)
+
+-- the previous table that was read
+read-back : (c : tie.After-previous) → c .previous .result ≡ previousAt (D (c .before .before .before .before)) (c .before .before .before .before .args .b)
+read-back c =
+    let s = c .before .before .before .before in
+    c .previous .ensures ∙ ap previousOf (part-sector (D s) (s .args .b))
+
+mul-at : tie.Need-mul-at
+mul-at c = search needs
+
+add-end : tie.Need-add-end
+add-end c = search needs
+
+sub-previous : tie.Need-sub-previous
+sub-previous c = search needs
+
+part-previous-start : tie.Need-part-previous-start
+part-previous-start c = search needs
+
+part-previous-end : tie.Need-part-previous-end
+part-previous-end c = let s = c .before .before in omega (arith, sector-end (D s) (sized-tells (D s) (s .pre .0)) (s .args .b) (within s))
+
+previous-requires : tie.Need-previous-requires
+previous-requires c κs =
+    let s = c .before .before .before in
+    let same = part-sector (D s) (s .args .b) in
+    (ap length same ∙ told s .whole, subst (λ (l : List ℕ). entryCount l ≤ limit) (sym same) (told s .frame .few))
+
+returns : tie.Need-returns
+returns c =
+    let s = c .before .before .before .before .before in
+    sym (step-ended (tableAt (D s)) (previousAt (D s)) (s .args .b) (sym (read-back (c .before)) ∙ c .if1 .taken))
+
+table-at-requires : tie.Need-table-at-requires
+table-at-requires c κs = search needs
+
+returns-2 : tie.Need-returns-2
+returns-2 c =
+    let q = c .before .before .before in
+    let s = q .before .before .before .before in
+    let no : tableAt (D s) (previousAt (D s) (s .args .b)) ≡ false =
+    ap (tableAt (D s)) (sym (read-back q)) ∙ sym (c .before .table-at .ensures) ∙ not-true (c .before .table-at .result) (c .if2 .taken) in
+    sym (step-broken (tableAt (D s)) (previousAt (D s)) (s .args .b) (λ e. c .before .before .if1 .left (read-back q ∙ e)) no)
+
+returns-3 : tie.Need-returns-3
+returns-3 c =
+    let q = c .before .before .before in
+    let s = q .before .before .before .before in
+    let yes : tableAt (D s) (previousAt (D s) (s .args .b)) ≡ true =
+    ap (tableAt (D s)) (sym (read-back q)) ∙ sym (c .before .table-at .ensures) ∙ not-false (c .before .table-at .result) (c .if2 .left) in
+    ap Reached (read-back q)
+    ∙ sym (step-reached (tableAt (D s)) (previousAt (D s)) (s .args .b) (λ e. c .before .before .if1 .left (read-back q ∙ e)) yes)
+
+pub step-back-spec : {M : Type 1} → statement M
+step-back-spec =
+    tie.close
+    (tie.spec
+    mul-at
+    add-end
+    sub-previous
+    part-previous-start
+    part-previous-end
+    previous-requires
+    returns
+    table-at-requires
+    returns-2
+    returns-3)

@@ -1,0 +1,30 @@
+// Sectors recorded.
+use vat::table::SECTOR;
+ghost use mathlib.Core.Path.{_≡_};
+ghost use mathlib.Core.List.{[]};
+ghost use Prim.Native.Nat.{_+_, _*_, _≤_, _<_};
+ghost use lib.ListN.{length, set, replicate};
+ghost use Rattle.vat.specs.Table.{sectorLength};
+ghost use Rattle.disc.specs.Disc.{lent, stored, link, puts};
+
+// "For a link sector only its kind changes".
+pub fn links(kinds: &mut [u8], b: usize, n: usize)
+    requires { ⌜ b + n ≤ length (now kinds) ⌝ }
+    ensures { λ _. ⌜ now (kinds .exit) ≡ puts (lent [] (now (kinds .entry))) b (replicate n link) .kinds ⌝ }
+{
+    let mut at = b;
+    let mut left = n;
+    while 0 < left {
+        kinds[at] = 2;
+        at += 1;
+        left -= 1;
+    }
+}
+
+pub fn data(image: &mut [u8], kinds: &mut [u8], b: usize, block: &[u8])
+    requires { ⌜ (length (now image) ≡ sectorLength * length (now kinds)) × (b < length (now kinds)) × (length (now block) ≡ sectorLength) ⌝ }
+    ensures { λ _. ⌜ (now (image .exit) ≡ stored (now (image .entry)) (sectorLength * b) (now (block .entry))) × (now (kinds .exit) ≡ set (now (kinds .entry)) b 1) ⌝ }
+{
+    le::run::put_text(image, SECTOR * b, block);
+    kinds[b] = 1;
+}

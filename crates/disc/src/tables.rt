@@ -1,0 +1,99 @@
+// The tables on a disc: the newest one, and the walk back from table to table.
+use crate::Walk;
+use vat::table::SECTOR;
+use vat::table::TABLE_AT;
+use vat::table::UNUSED;
+ghost use mathlib.Core.Path.{_≡_};
+ghost use mathlib.Core.Bool.{true};
+ghost use Prim.Native.Nat.{_≤_, _<_};
+ghost use lib.ListN.{length};
+ghost use Rattle.vat.specs.Table.{unused};
+ghost use Rattle.disc.specs.Disc.{lent, sized};
+ghost use Rattle.disc.specs.Tables.{tableAt, previousAt, blockFound, newestBelow, walk};
+
+// A block beyond the disc is no table sector.
+pub fn table_at(image: &[u8], kinds: &[u8], b: u32) -> bool
+    requires { ⌜ sized (lent (now image) (now kinds)) ≡ true ⌝ }
+    ensures { λ r. ⌜ r ≡ tableAt (lent (now (image .entry)) (now (kinds .entry))) b ⌝ }
+{
+    let place = b as usize;
+    if kinds.len() <= place {
+        return false;
+    }
+    let at = SECTOR * place;
+    let end = at + SECTOR;
+    vat::table::is_table(kinds[place], &image[at..end], b)
+}
+
+// "starts at the last recorded sector and goes towards block 0. The first table sector met ends the search." The costly CRC comes last.
+pub fn newest(image: &[u8], kinds: &[u8], recorded: u32) -> u32
+    requires { ⌜ (sized (lent (now image) (now kinds)) ≡ true) × (recorded ≤ length (now kinds)) ⌝ }
+    ensures { λ r. ⌜ r ≡ blockFound (newestBelow (tableAt (lent (now (image .entry)) (now (kinds .entry)))) recorded) ⌝ }
+{
+    let mut b = recorded;
+    let found = 'scan: loop {
+        if b == 0 {
+            break 'scan UNUSED;
+        }
+        b -= 1;
+        let place = b as usize;
+        if kinds[place] != 1 {
+            continue 'scan;
+        }
+        let at = SECTOR * place;
+        let end = at + SECTOR;
+        let s = &image[at..end];
+        if !vat::table::framed(s, b) {
+            continue 'scan;
+        }
+        let mut left = vat::table::entry_count(s);
+        let mut entry = TABLE_AT;
+        while 0 < left {
+            if !vat::table::may_name(b, le::read32(s, entry)) {
+                continue 'scan;
+            }
+            entry += 4;
+            left -= 1;
+        }
+        if tag::sealed(s) {
+            break 'scan b;
+        }
+    };
+    found
+}
+
+// The previous table of the table at block b.
+fn step_back(image: &[u8], kinds: &[u8], b: u32) -> Walk
+    requires { ⌜ (sized (lent (now image) (now kinds)) ≡ true) × (tableAt (lent (now image) (now kinds)) b ≡ true) ⌝ }
+    ensures { λ r. ⌜ r ≡ walk (tableAt (lent (now (image .entry)) (now (kinds .entry)))) (previousAt (lent (now (image .entry)) (now (kinds .entry)))) 1 b ⌝ }
+{
+    let at = SECTOR * (b as usize);
+    let end = at + SECTOR;
+    let previous = vat::table::previous(&image[at..end]);
+    if previous == UNUSED {
+        return Walk::Ended;
+    }
+    if !table_at(image, kinds, previous) {
+        return Walk::Broken;
+    }
+    Walk::Reached(previous)
+}
+
+// "follows the previous entry k times": half of the steps and then the others, so that the depth is the number of k's binary digits.
+pub fn walk_back(image: &[u8], kinds: &[u8], k: u32, b: u32) -> Walk
+    requires { ⌜ (sized (lent (now image) (now kinds)) ≡ true) × (tableAt (lent (now image) (now kinds)) b ≡ true) ⌝ }
+    ensures { λ r. ⌜ r ≡ walk (tableAt (lent (now (image .entry)) (now (kinds .entry)))) (previousAt (lent (now (image .entry)) (now (kinds .entry)))) k b ⌝ }
+{
+    if k == 0 {
+        return Walk::Reached(b);
+    }
+    if k == 1 {
+        return step_back(image, kinds, b);
+    }
+    let half = k / 2;
+    match walk_back(image, kinds, half, b) {
+        Walk::Reached(middle) => walk_back(image, kinds, k - half, middle),
+        Walk::Broken => Walk::Broken,
+        Walk::Ended => Walk::Ended,
+    }
+}

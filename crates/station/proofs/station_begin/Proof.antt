@@ -1,0 +1,71 @@
+-- `station::station_begin` meets its contract.
+-- Assumes nothing.
+use Prim.Native.Nat.{ℕ, _+_, _*_, _≤_, _<_}
+use native.Mathlib.Omega.{arith}
+use mathlib.Core.Path.{_≡_, sym, ap, ap₂, _∙_, subst}
+use mathlib.Core.List.{List, []}
+use Rattle.disc.specs.Disc.{Disc, lent, recorded}
+use Rattle.volume.specs.Volume.{unpack, pack}
+use Rattle.recorder.specs.Refusals.{outcome}
+use Rattle.recorder.specs.Effects.{After, left}
+use Rattle.volume.specs.Volume.{begun}
+use Rattle.recorder.specs.Calls.{begin}
+use Rattle.recorder.proofs.Done.{ledger-accepted}
+use Rattle.calls.proofs.Left.{refused-left, begin-left}
+use borrow.Author.Needs.{needs}
+use Rattle.station.proofs.station_begin.Statement.{statement}
+use Rattle.station.proofs.station_begin.Tie as tie
+
+-- the disc and the ledger
+abbrev D : tie.Start → Disc
+D s = lent (s .args .image .now) (s .args .kinds .now)
+
+abbrev L : tie.Start → List ℕ
+L s = s .args .ledger .now
+
+done : (c : tie.Else1) → outcome (D (c .before .before .before .before .before .before .before)) (L (c .before .before .before .before .before .before .before)) begin ≡ 0
+done c = sym (c .before .before .begin .ensures .0) ∙ c .if1 .left
+
+begin-requires : tie.Need-begin-requires
+begin-requires c κs = search needs
+
+refusal-requires : tie.Need-refusal-requires
+refusal-requires c κs = search needs
+
+same-length : tie.Need-same-length
+same-length c = search needs
+
+returns : tie.Need-returns
+returns c =
+    let s = c .before .before .before .before .before .before .before .before in
+    ap (λ (a : ℕ). left a (D s .image) (D s .kinds) (L s) []) (c .refusal .ensures)
+    ∙ refused-left (D s) (L s) begin (c .before .before .before .begin .result .outcome) (c .before .before .before .begin .ensures .0) (c .before .if1 .taken)
+
+begun-requires : tie.Need-begun-requires
+begun-requires c κs = search needs
+
+store-requires : tie.Need-store-requires
+store-requires c κs = let e = c .before .before in ledger-accepted (D (e .before .before .before .before .before .before .before)) (L (e .before .before .before .before .before .before .before)) begin (done e)
+
+same-length-2 : tie.Need-same-length-2
+same-length-2 c = search needs
+
+returns-2 : tie.Need-returns-2
+returns-2 c =
+    let e = c .before .before .before .before .before in
+    let s = e .before .before .before .before .before .before .before in
+    let stored = c .before .before .store .ensures ∙ ap pack (c .before .before .before .before .begun .ensures ∙ ap begun (e .before .before .begin .ensures .1 (e .if1 .left))) in
+    ap (λ (x : List ℕ). left 0 (D s .image) (D s .kinds) x []) stored ∙ begin-left (D s) (L s) (done e)
+
+pub station-begin-spec : {M : Type 1} → statement M
+station-begin-spec =
+    tie.close
+    (tie.spec
+    begin-requires
+    refusal-requires
+    same-length
+    returns
+    begun-requires
+    store-requires
+    same-length-2
+    returns-2)

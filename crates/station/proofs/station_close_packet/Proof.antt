@@ -1,0 +1,75 @@
+-- `station::station_close_packet` meets its contract.
+-- Assumes nothing.
+use Prim.Native.Nat.{ℕ, _+_, _*_, _≤_, _<_}
+use native.Mathlib.Omega.{arith}
+use mathlib.Core.Path.{_≡_, sym, ap, ap₂, _∙_, subst}
+use mathlib.Core.List.{List, []}
+use Rattle.disc.specs.Disc.{Disc, lent, recorded}
+use Rattle.volume.specs.Volume.{unpack, pack}
+use Rattle.recorder.specs.Refusals.{outcome}
+use Rattle.recorder.specs.Effects.{After, left}
+use Rattle.volume.specs.Volume.{closed}
+use Rattle.recorder.specs.Calls.{closePacket}
+use Rattle.recorder.proofs.Done.{ledger-accepted}
+use Rattle.calls.proofs.Left.{refused-left, close-left}
+use borrow.Author.Needs.{needs}
+use Rattle.station.proofs.station_close_packet.Statement.{statement}
+use Rattle.station.proofs.station_close_packet.Tie as tie
+
+-- the disc and the ledger
+abbrev D : tie.Start → Disc
+D s = lent (s .args .image .now) (s .args .kinds .now)
+
+abbrev L : tie.Start → List ℕ
+L s = s .args .ledger .now
+
+done : (c : tie.Else1) → outcome (D (c .before .before .before .before .before .before)) (L (c .before .before .before .before .before .before)) closePacket ≡ 0
+done c = sym (c .before .close-packet .ensures) ∙ c .if1 .left
+
+close-packet-requires : tie.Need-close-packet-requires
+close-packet-requires c κs = search needs
+
+refusal-requires : tie.Need-refusal-requires
+refusal-requires c κs = search needs
+
+same-length : tie.Need-same-length
+same-length c = search needs
+
+returns : tie.Need-returns
+returns c =
+    let s = c .before .before .before .before .before .before .before in
+    ap (λ (a : ℕ). left a (D s .image) (D s .kinds) (L s) []) (c .refusal .ensures)
+    ∙ refused-left (D s) (L s) closePacket (c .before .before .close-packet .result) (c .before .before .close-packet .ensures) (c .before .if1 .taken)
+
+load-requires : tie.Need-load-requires
+load-requires c κs = let e = c .before in ledger-accepted (D (e .before .before .before .before .before .before)) (L (e .before .before .before .before .before .before)) closePacket (done e)
+
+closed-requires : tie.Need-closed-requires
+closed-requires c κs = search needs
+
+store-requires : tie.Need-store-requires
+store-requires c κs = let e = c .before .before .before .before in ledger-accepted (D (e .before .before .before .before .before .before)) (L (e .before .before .before .before .before .before)) closePacket (done e)
+
+same-length-2 : tie.Need-same-length-2
+same-length-2 c = search needs
+
+returns-2 : tie.Need-returns-2
+returns-2 c =
+    let e = c .before .before .before .before .before .before .before in
+    let s = e .before .before .before .before .before .before in
+    let stored = c .before .before .store .ensures ∙ ap pack (c .before .before .before .before .closed .ensures ∙ ap closed (c .before .before .before .before .before .load .ensures)) in
+    ap (λ (x : List ℕ). left 0 (D s .image) (D s .kinds) x []) stored ∙ close-left (D s) (L s) (done e)
+
+pub station-close-packet-spec : {M : Type 1} → statement M
+station-close-packet-spec =
+    tie.close
+    (tie.spec
+    close-packet-requires
+    refusal-requires
+    same-length
+    returns
+    load-requires
+    closed-requires
+    store-requires
+    same-length-2
+    returns-2)

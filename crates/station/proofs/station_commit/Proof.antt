@@ -1,0 +1,148 @@
+-- `station::station_commit` meets its contract.
+-- Assumes nothing.
+use Prim.Native.Nat.{ℕ, _+_, _*_, _≤_, _<_}
+use native.Mathlib.Omega.{arith}
+use mathlib.Core.Path.{_≡_, sym, ap, ap₂, _∙_, subst}
+use mathlib.Core.List.{List, []}
+use lib.ListN.{length}
+use Rattle.disc.specs.Disc.{Disc, lent, recorded}
+use Rattle.volume.specs.Volume.{ledgerLength, unpack, pack}
+use Rattle.recorder.specs.Refusals.{outcome}
+use Rattle.recorder.specs.Effects.{After, left}
+use lib.ListN.{set, replicate}
+use Rattle.vat.specs.Table.{sectorLength, limit, unused}
+use Rattle.disc.specs.Disc.{link, stored, puts}
+use Rattle.disc.proofs.Recording.{length-links, leading-le}
+use Rattle.volume.specs.declared.Volume.{Volume}
+use Rattle.volume.specs.Volume.{mapOf}
+use Rattle.recorder.specs.Refusals.{links, target}
+use Rattle.vat.specs.Sector.{sector}
+use Rattle.volume.specs.Volume.{committed}
+use Rattle.recorder.specs.Calls.{commit}
+use Rattle.recorder.proofs.Done.{ledger-accepted, CommitDone, commit-done}
+use Rattle.calls.proofs.Left.{same-left, refused-left, linkedKinds, commit-left}
+use borrow.Author.Needs.{needs}
+use Rattle.station.proofs.station_commit.Statement.{statement}
+use Rattle.station.proofs.station_commit.Tie as tie
+
+-- the disc and the ledger
+abbrev D : tie.Start → Disc
+D s = lent (s .args .image .now) (s .args .kinds .now)
+
+abbrev L : tie.Start → List ℕ
+L s = s .args .ledger .now
+
+done : (c : tie.Else1) → outcome (D (c .before .before .before .before .before .before .before .before)) (L (c .before .before .before .before .before .before .before .before)) (commit) ≡ 0
+done c = sym (c .before .commit .ensures) ∙ c .if1 .left
+
+told : (c : tie.Else1) → CommitDone (D (c .before .before .before .before .before .before .before .before)) (L (c .before .before .before .before .before .before .before .before))
+told c = commit-done (D (c .before .before .before .before .before .before .before .before)) (L (c .before .before .before .before .before .before .before .before)) (done c)
+
+-- the block that is taken lies on the disc
+within : (c : tie.Else1) → target (unpack (L (c .before .before .before .before .before .before .before .before))) < length (D (c .before .before .before .before .before .before .before .before) .kinds)
+within c = omega (arith, told c .room, told c .fit .same-recorded, leading-le (D (c .before .before .before .before .before .before .before .before) .kinds))
+
+accepted : (c : tie.Else1) → length (L (c .before .before .before .before .before .before .before .before)) ≡ ledgerLength
+accepted c = ledger-accepted (D (c .before .before .before .before .before .before .before .before)) (L (c .before .before .before .before .before .before .before .before)) (commit) (done c)
+
+-- links leave as many kinds
+linked : (c : tie.After-record-links) → length (c .record-links .last .0) ≡ length (D (c .before .before .before .before .before .before .before .before .before .before .before) .kinds)
+linked c =
+    let s = c .before .before .before .before .before .before .before .before .before .before .before in
+    ap length (c .record-links .ensures .1) ∙ length-links (links (unpack (L s))) (D s .kinds) (unpack (L s) .recorded)
+
+commit-requires : tie.Need-commit-requires
+commit-requires c κs = search needs
+
+refusal-requires : tie.Need-refusal-requires
+refusal-requires c κs = search needs
+
+same-length : tie.Need-same-length
+same-length c = search needs
+
+same-length-2 : tie.Need-same-length-2
+same-length-2 c = search needs
+
+same-length-3 : tie.Need-same-length-3
+same-length-3 c = search needs
+
+returns : tie.Need-returns
+returns c =
+    let s = c .before .before .before .before .before .before .before .before .before in
+    ap (λ (a : ℕ). left a (D s .image) (D s .kinds) (L s) []) (c .refusal .ensures)
+    ∙ refused-left (D s) (L s) commit (c .before .before .commit .result) (c .before .before .commit .ensures) (c .before .if1 .taken)
+
+record-links-requires : tie.Need-record-links-requires
+record-links-requires c κs = let e = c .before .before in (accepted e, omega (arith, within e), told e .sound-disc .few)
+
+load-requires : tie.Need-load-requires
+load-requires c κs = accepted (c .before .before .before .before .before .before)
+
+record-table-requires : tie.Need-record-table-requires
+record-table-requires c κs =
+    let r = c .before .before .before .before .before .before in
+    let e = r .before .before .before in
+    let s = e .before .before .before .before .before .before .before .before in
+    let same : length (r .record-links .last .0) ≡ length (D s .kinds) = linked r in
+    let taken : r .record-links .result < length (r .record-links .last .0) = omega (arith, same, within e, r .record-links .ensures .0) in
+    (told e .sound-disc .whole ∙ ap (λ (n : ℕ). sectorLength * n) (sym same), taken, subst (λ (v : Volume). v .size ≤ limit) (sym (c .before .before .load .ensures)) (told e .fit .few))
+
+committed-requires : tie.Need-committed-requires
+committed-requires c κs =
+    let r = c .before .before .before .before .before .before .before .before .before .before .before in
+    let e = r .before .before .before in
+    omega (arith, r .record-links .ensures .0, within e, told e .sound-disc .few)
+
+store-requires : tie.Need-store-requires
+store-requires c κs = accepted (c .before .before .before .before .before .before .before .before .before .before .before .before .before .before .before .before)
+
+cast-result : tie.Need-cast-result
+cast-result c = search needs
+
+same-length-4 : tie.Need-same-length-4
+same-length-4 c = search needs
+
+same-length-5 : tie.Need-same-length-5
+same-length-5 c = search needs
+
+same-length-6 : tie.Need-same-length-6
+same-length-6 c = search needs
+
+returns-2 : tie.Need-returns-2
+returns-2 c =
+    let r = c .before .before .before .before .before .before .before .before .before .before .before .before .before .before .before .before in
+    let e = r .before .before .before in
+    let s = e .before .before .before .before .before .before .before .before in
+    let l : List ℕ = L s in
+    let b : ℕ = r .record-links .result in
+    let v : Volume = unpack l in
+    let at : b ≡ target v = r .record-links .ensures .0 in
+    let state : c .before .before .before .before .before .before .before .before .before .before .before .before .load .result ≡ v = c .before .before .before .before .before .before .before .before .before .before .before .before .load .ensures in
+    let image : c .before .before .before .before .before .before .before .before .before .record-table .last .0 ≡ stored (D s .image) (sectorLength * target v) (sector (mapOf v) (v .last) (target v)) =
+    c .before .before .before .before .before .before .before .before .before .record-table .ensures .0 ∙ ap₂ (λ (u : Volume) (n : ℕ). stored (D s .image) (sectorLength * n) (sector (mapOf u) (u .last) n)) state at in
+    let kinds : c .before .before .before .before .before .before .before .before .before .record-table .last .1 .0 ≡ set (linkedKinds (D s) l) (target v) 1 =
+    c .before .before .before .before .before .before .before .before .before .record-table .ensures .1 ∙ ap₂ (λ (ks : List ℕ) (n : ℕ). set ks n 1) (r .record-links .ensures .1) at in
+    let ledger : c .before .before .store .last .1 .0 ≡ pack (committed (target v) v) =
+    c .before .before .store .ensures ∙ ap pack (c .before .before .before .before .committed .ensures ∙ ap₂ committed at state) in
+    same-left at image kinds ledger ∙ commit-left (D s) l (done e)
+
+pub station-commit-spec : {M : Type 1} → statement M
+station-commit-spec =
+    tie.close
+    (tie.spec
+    commit-requires
+    refusal-requires
+    same-length
+    same-length-2
+    same-length-3
+    returns
+    record-links-requires
+    load-requires
+    record-table-requires
+    committed-requires
+    store-requires
+    cast-result
+    same-length-4
+    same-length-5
+    same-length-6
+    returns-2)

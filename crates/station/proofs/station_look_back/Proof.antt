@@ -1,0 +1,95 @@
+-- `station::station_look_back` meets its contract.
+-- Assumes nothing.
+use Prim.Native.Nat.{ℕ, _+_, _*_, _≤_, _<_}
+use native.Mathlib.Omega.{arith}
+use mathlib.Core.Path.{_≡_, sym, ap, ap₂, _∙_, subst}
+use mathlib.Core.List.{List, []}
+use lib.ListN.{length}
+use Rattle.disc.specs.Disc.{Disc, lent, recorded}
+use Rattle.volume.specs.Volume.{ledgerLength, unpack, pack}
+use Rattle.recorder.specs.Refusals.{outcome}
+use Rattle.recorder.specs.Effects.{After, left}
+use lib.ListN.{take, drop}
+use Rattle.vat.specs.Table.{sectorLength, entriesOf}
+use Rattle.disc.specs.Disc.{sectorAt}
+use Rattle.disc.specs.Tables.{tableAt, mapAt}
+use Rattle.volume.specs.Volume.{filled}
+use Rattle.disc.specs.declared.Walk.the-variants.{Reached}
+use Rattle.recorder.specs.Refusals.{walked}
+use Rattle.recorder.specs.Calls.{lookBack}
+use Rattle.recorder.proofs.Done.{ledger-accepted, look-back-done, walked-table, shown-fits}
+use Rattle.calls.proofs.Left.{refused-left, look-back-left}
+use borrow.Author.Needs.{needs}
+use Rattle.station.proofs.station_look_back.Statement.{statement}
+use Rattle.station.proofs.station_look_back.Tie as tie
+
+-- the disc and the ledger
+abbrev D : tie.Start → Disc
+D s = lent (s .args .image .now) (s .args .kinds .now)
+
+abbrev L : tie.Start → List ℕ
+L s = s .args .ledger .now
+
+done : (c : tie.Else1) → outcome (D (c .before .before .before .before .before .before .before)) (L (c .before .before .before .before .before .before .before)) (lookBack (c .before .before .before .before .before .before .before .args .k)) ≡ 0
+done c = sym (c .before .before .look-back .ensures .0) ∙ c .if1 .left
+
+counted : (c : tie.Else1) → c .before .before .look-back .result .recorded ≡ recorded (D (c .before .before .before .before .before .before .before))
+counted c = c .before .before .look-back .ensures .1 (c .if1 .left) .0
+
+found : (c : tie.Else1) → walked (D (c .before .before .before .before .before .before .before)) (c .before .before .before .before .before .before .before .args .k) ≡ Reached (c .before .before .look-back .result .block)
+found c = c .before .before .look-back .ensures .1 (c .if1 .left) .1
+
+shown : (c : tie.After-show) → c .show .last .1 .0 ≡ pack (filled (mapAt (D (c .before .before .before .before .before .before .before .before .before)) (c .before .before .before .before .look-back .result .block)) (c .before .before .before .before .look-back .result .block) (recorded (D (c .before .before .before .before .before .before .before .before .before))) 2)
+unfolding sectorAt
+shown c =
+    let b : ℕ = c .before .before .before .before .look-back .result .block in
+    c .show .ensures ∙ ap (λ (r : ℕ). pack (filled (entriesOf (take sectorLength (drop (sectorLength * b) (D (c .before .before .before .before .before .before .before .before .before) .image)))) b r 2)) (counted (c .before .before))
+
+look-back-requires : tie.Need-look-back-requires
+look-back-requires c κs = search needs
+
+refusal-requires : tie.Need-refusal-requires
+refusal-requires c κs = search needs
+
+same-length : tie.Need-same-length
+same-length c = search needs
+
+returns : tie.Need-returns
+returns c =
+    let s = c .before .before .before .before .before .before .before .before in
+    ap (λ (a : ℕ). left a (D s .image) (D s .kinds) (L s) []) (c .refusal .ensures)
+    ∙ refused-left (D s) (L s) (lookBack (s .args .k)) (c .before .before .before .look-back .result .outcome) (c .before .before .before .look-back .ensures .0) (c .before .if1 .taken)
+
+show-requires : tie.Need-show-requires
+show-requires c κs =
+    let e = c .before in
+    let s = e .before .before .before .before .before .before .before in
+    let b : ℕ = e .before .before .look-back .result .block in
+    let t = shown-fits (D s) b (look-back-done (D s) (L s) (s .args .k) (done e) .0) (walked-table (D s) (s .args .k) b (found e)) in
+    (ledger-accepted (D s) (L s) (lookBack (s .args .k)) (done e), t .0, t .1)
+
+cast-result : tie.Need-cast-result
+cast-result c = search needs
+
+same-length-2 : tie.Need-same-length-2
+same-length-2 c = search needs
+
+returns-2 : tie.Need-returns-2
+returns-2 c =
+    let e = c .before .before .before .before .before in
+    let s = e .before .before .before .before .before .before .before in
+    let b : ℕ = e .before .before .look-back .result .block in
+    ap (λ (x : List ℕ). left b (D s .image) (D s .kinds) x []) (shown (c .before .before .before)) ∙ look-back-left (D s) (L s) (s .args .k) b (done e) (found e)
+
+pub station-look-back-spec : {M : Type 1} → statement M
+station-look-back-spec =
+    tie.close
+    (tie.spec
+    look-back-requires
+    refusal-requires
+    same-length
+    returns
+    show-requires
+    cast-result
+    same-length-2
+    returns-2)

@@ -1,0 +1,129 @@
+-- `station::station_read` meets its contract.
+-- Assumes nothing.
+use Prim.Native.Nat.{ℕ, _+_, _*_, _≤_, _<_}
+use native.Mathlib.Omega.{arith}
+use mathlib.Core.Path.{_≡_, sym, ap, ap₂, _∙_, subst}
+use mathlib.Core.List.{List, []}
+use lib.ListN.{length}
+use Rattle.disc.specs.Disc.{Disc, lent, recorded}
+use Rattle.volume.specs.Volume.{ledgerLength, unpack, pack}
+use Rattle.recorder.specs.Refusals.{outcome}
+use Rattle.recorder.specs.Effects.{After, left}
+use lib.ListN.{getD, take, drop, length-drop, drop-of-length-le}
+use lib.Seq.{sets, sets-eq, length-take-le}
+use mathlib.Core.List.{_++_, append-nil}
+use Rattle.vat.specs.Table.{sectorLength, limit, unused}
+use Rattle.disc.specs.Disc.{sectorAt}
+use Rattle.disc.proofs.Recording.{sized-tells, sound-sized, leading-le}
+use Rattle.disc.proofs.Found.{part-sector, sector-end, sector-long}
+use Rattle.recorder.specs.Calls.{read}
+use Rattle.recorder.proofs.Done.{ledger-accepted, ReadDone, read-done, entry-recorded}
+use Rattle.calls.proofs.Left.{sets-whole, refused-left, read-left}
+use borrow.Author.Needs.{needs}
+use Rattle.station.proofs.station_read.Statement.{statement}
+use Rattle.station.proofs.station_read.Tie as tie
+
+-- the disc and the ledger
+abbrev D : tie.Start → Disc
+D s = lent (s .args .image .now) (s .args .kinds .now)
+
+abbrev L : tie.Start → List ℕ
+L s = s .args .ledger .now
+
+abbrev K : tie.Start → List ℕ
+K s = s .args .block .now
+
+done : (c : tie.Else1) → outcome (D (c .before .before .before .before .before .before .before)) (L (c .before .before .before .before .before .before .before)) (read (c .before .before .before .before .before .before .before .args .v) (K (c .before .before .before .before .before .before .before))) ≡ 0
+done c = sym (c .before .read .ensures) ∙ c .if1 .left
+
+told : (c : tie.Else1) → ReadDone (D (c .before .before .before .before .before .before .before)) (L (c .before .before .before .before .before .before .before)) (c .before .before .before .before .before .before .before .args .v) (K (c .before .before .before .before .before .before .before))
+told c = read-done (D (c .before .before .before .before .before .before .before)) (L (c .before .before .before .before .before .before .before)) (c .before .before .before .before .before .before .before .args .v) (K (c .before .before .before .before .before .before .before)) (done c)
+
+-- the number is below size, and its sector is a recorded one
+names : (c : tie.Else1) → (c .before .before .before .before .before .before .before .args .v < unpack (L (c .before .before .before .before .before .before .before)) .size) × (getD (unpack (L (c .before .before .before .before .before .before .before)) .entries) (c .before .before .before .before .before .before .before .args .v) unused < recorded (D (c .before .before .before .before .before .before .before)))
+names c = entry-recorded (D (c .before .before .before .before .before .before .before)) (unpack (L (c .before .before .before .before .before .before .before))) (c .before .before .before .before .before .before .before .args .v) (told c .fit) (told c .used)
+
+within : (c : tie.After-entry) → c .entry .result < length (D (c .before .before .before .before .before .before .before .before) .kinds)
+within c = omega (arith, c .entry .ensures, names (c .before) .1, leading-le (D (c .before .before .before .before .before .before .before .before) .kinds))
+
+long : (c : tie.After-entry) → length (sectorAt (D (c .before .before .before .before .before .before .before .before)) (c .entry .result)) ≡ sectorLength
+long c = sector-long (D (c .before .before .before .before .before .before .before .before)) (sized-tells (D (c .before .before .before .before .before .before .before .before)) (sound-sized (D (c .before .before .before .before .before .before .before .before)) (told (c .before) .sound-disc))) (c .entry .result) (within c)
+
+read-requires : tie.Need-read-requires
+read-requires c κs = search needs
+
+refusal-requires : tie.Need-refusal-requires
+refusal-requires c κs = search needs
+
+same-length : tie.Need-same-length
+same-length c = search needs
+
+returns : tie.Need-returns
+returns c =
+    let s = c .before .before .before .before .before .before .before .before in
+    ap (λ (a : ℕ). left a (D s .image) (D s .kinds) (L s) (K s)) (c .refusal .ensures)
+    ∙ refused-left (D s) (L s) (read (s .args .v) (K s)) (c .before .before .read .result) (c .before .before .read .ensures) (c .before .if1 .taken)
+
+entry-requires : tie.Need-entry-requires
+entry-requires c κs = let s = c .before .before .before .before .before .before .before in (ledger-accepted (D s) (L s) (read (s .args .v) (K s)) (done c), omega (arith, names c .0, told c .fit .few))
+
+cast-at : tie.Need-cast-at
+cast-at c = search needs
+
+mul-at : tie.Need-mul-at
+mul-at c = search needs
+
+add-end : tie.Need-add-end
+add-end c = search needs
+
+sub-put-text : tie.Need-sub-put-text
+sub-put-text c = search needs
+
+part-put-text-start : tie.Need-part-put-text-start
+part-put-text-start c = search needs
+
+part-put-text-end : tie.Need-part-put-text-end
+part-put-text-end c =
+    let at = c .before in
+    let e = at .before in
+    let s = e .before .before .before .before .before .before .before in
+    omega (arith, sector-end (D s) (sized-tells (D s) (sound-sized (D s) (told e .sound-disc))) (at .entry .result) (within at))
+
+put-text-requires : tie.Need-put-text-requires
+put-text-requires c κs =
+    let at = c .before .before in
+    let e = at .before in
+    let s = e .before .before .before .before .before .before .before in
+    omega (arith, ap length (part-sector (D s) (at .entry .result)) ∙ long at, told e .block-long)
+
+same-length-2 : tie.Need-same-length-2
+same-length-2 c = search needs
+
+returns-2 : tie.Need-returns-2
+returns-2 c =
+    let at = c .before .before .before .before .before in
+    let e = at .before in
+    let s = e .before .before .before .before .before .before .before in
+    let b : ℕ = at .entry .result in
+    let copied = c .before .before .put-text .ensures ∙ ap (sets (K s) 0) (part-sector (D s) b) ∙ sets-whole (sectorAt (D s) b) (K s) (long at ∙ sym (told e .block-long))
+    ∙ ap (sectorAt (D s)) (at .entry .ensures) in
+    ap (λ (x : List ℕ). left 0 (D s .image) (D s .kinds) (L s) x) copied ∙ read-left (D s) (L s) (s .args .v) (K s) (done e)
+
+pub station-read-spec : {M : Type 1} → statement M
+station-read-spec =
+    tie.close
+    (tie.spec
+    read-requires
+    refusal-requires
+    same-length
+    returns
+    entry-requires
+    cast-at
+    mul-at
+    add-end
+    sub-put-text
+    part-put-text-start
+    part-put-text-end
+    put-text-requires
+    same-length-2
+    returns-2)

@@ -1,0 +1,80 @@
+-- `station::station_release` meets its contract.
+-- Assumes nothing.
+use Prim.Native.Nat.{ℕ, _+_, _*_, _≤_, _<_}
+use native.Mathlib.Omega.{arith}
+use mathlib.Core.Path.{_≡_, sym, ap, ap₂, _∙_, subst}
+use mathlib.Core.List.{List, []}
+use lib.ListN.{length}
+use Rattle.disc.specs.Disc.{Disc, lent, recorded}
+use Rattle.volume.specs.Volume.{ledgerLength, unpack, pack}
+use Rattle.recorder.specs.Refusals.{outcome}
+use Rattle.recorder.specs.Effects.{After, left}
+use Rattle.vat.specs.Table.{limit}
+use Rattle.volume.specs.Volume.{released}
+use Rattle.recorder.specs.Calls.{release}
+use Rattle.recorder.proofs.Done.{ledger-accepted, release-done}
+use Rattle.calls.proofs.Left.{refused-left, release-left}
+use borrow.Author.Needs.{needs}
+use Rattle.station.proofs.station_release.Statement.{statement}
+use Rattle.station.proofs.station_release.Tie as tie
+
+-- the disc and the ledger
+abbrev D : tie.Start → Disc
+D s = lent (s .args .image .now) (s .args .kinds .now)
+
+abbrev L : tie.Start → List ℕ
+L s = s .args .ledger .now
+
+done : (c : tie.Else1) → outcome (D (c .before .before .before .before .before .before)) (L (c .before .before .before .before .before .before)) (release (c .before .before .before .before .before .before .args .v)) ≡ 0
+done c = sym (c .before .release .ensures) ∙ c .if1 .left
+
+accepted : (c : tie.Else1) → length (L (c .before .before .before .before .before .before)) ≡ ledgerLength
+accepted c = ledger-accepted (D (c .before .before .before .before .before .before)) (L (c .before .before .before .before .before .before)) (release (c .before .before .before .before .before .before .args .v)) (done c)
+
+release-requires : tie.Need-release-requires
+release-requires c κs = search needs
+
+refusal-requires : tie.Need-refusal-requires
+refusal-requires c κs = search needs
+
+same-length : tie.Need-same-length
+same-length c = search needs
+
+returns : tie.Need-returns
+returns c =
+    let s = c .before .before .before .before .before .before .before in
+    ap (λ (a : ℕ). left a (D s .image) (D s .kinds) (L s) []) (c .refusal .ensures)
+    ∙ refused-left (D s) (L s) (release (s .args .v)) (c .before .before .release .result) (c .before .before .release .ensures) (c .before .if1 .taken)
+
+load-requires : tie.Need-load-requires
+load-requires c κs = accepted (c .before)
+
+released-requires : tie.Need-released-requires
+released-requires c κs = let s = c .before .before .before .before .before .before .before .before in let d = release-done (D s) (L s) (s .args .v) (done (c .before .before)) in omega (arith, d .2, d .1 .fit .few)
+
+store-requires : tie.Need-store-requires
+store-requires c κs = accepted (c .before .before .before .before)
+
+same-length-2 : tie.Need-same-length-2
+same-length-2 c = search needs
+
+returns-2 : tie.Need-returns-2
+returns-2 c =
+    let e = c .before .before .before .before .before .before .before in
+    let s = e .before .before .before .before .before .before in
+    let stored = c .before .before .store .ensures ∙ ap pack (c .before .before .before .before .released .ensures ∙ ap (released (s .args .v)) (c .before .before .before .before .before .load .ensures)) in
+    ap (λ (x : List ℕ). left 0 (D s .image) (D s .kinds) x []) stored ∙ release-left (D s) (L s) (s .args .v) (done e)
+
+pub station-release-spec : {M : Type 1} → statement M
+station-release-spec =
+    tie.close
+    (tie.spec
+    release-requires
+    refusal-requires
+    same-length
+    returns
+    load-requires
+    released-requires
+    store-requires
+    same-length-2
+    returns-2)

@@ -1,0 +1,202 @@
+//! The measured calls: what each is prepared with, and one call of its batch.
+
+use crate::buffers::{Buffers, WINDOW};
+use crate::tuned::{LIMIT, NONE};
+use crate::version::Version;
+
+/// Calls of a batch that the clock is read once for.
+const BATCH: usize = 64;
+
+/// How the work of a call grows with the disc.
+#[derive(Clone, Copy, PartialEq)]
+pub enum Work {
+    /// The kinds, the ledger and a few sectors.
+    Few,
+    /// Every sector, so the batch is smaller on large discs.
+    EverySector,
+}
+
+/// Call i of a batch.
+type Call = fn(&Version, &mut Buffers, usize) -> u64;
+
+pub struct Row {
+    pub name: &'static str,
+    pub work: Work,
+    pub prepare: fn(&mut Buffers),
+    pub call: Call,
+    /// Sectors that one call records.
+    records: usize,
+}
+
+impl Row {
+    pub fn batch(&self, sectors: usize) -> usize {
+        match self.work {
+            Work::Few if self.records > 0 => BATCH.min(WINDOW / self.records),
+            Work::Few => BATCH,
+            Work::EverySector => (BATCH * 1000 / sectors).max(1),
+        }
+    }
+
+    const fn over_every_sector(mut self) -> Row {
+        self.work = Work::EverySector;
+        self
+    }
+
+    const fn recording(mut self, sectors: usize) -> Row {
+        self.records = sectors;
+        self
+    }
+}
+
+const fn row(name: &'static str, prepare: fn(&mut Buffers), call: Call) -> Row {
+    Row {
+        name,
+        work: Work::Few,
+        prepare,
+        call,
+        records: 0,
+    }
+}
+
+/// Close packet before the first commit: kinds and ledger, and no table.
+pub const CLOSE_PACKET: &str = "close packet, no table yet";
+
+pub static ROWS: [Row; 18] = [
+    row("begin, blank disc", blank, begin),
+    row("begin, all data, no table", all_plain, begin).over_every_sector(),
+    row("mount, clean", clean, mount),
+    row("mount, dirty by one", dirty_by_one, mount),
+    row("mount, dirty by all", dirty_by_all, mount).over_every_sector(),
+    row("mount, dirty by all, image swept", swept, mount).over_every_sector(),
+    row("write, mode 1, no table yet", open_without_vat, write).recording(1),
+    row("write, mode 1", open, write).recording(1),
+    row("write, mode 0 with links", open, write_links).recording(8),
+    row("release", open, release),
+    row(CLOSE_PACKET, open_without_vat, close_packet),
+    row("close packet", open, close_packet),
+    row("commit, 0 numbers", open_empty, commit).recording(1),
+    row("commit, 458 numbers", open, commit).recording(1),
+    row("read, no table yet", open_without_vat, read),
+    row("read", open, read),
+    row("look back 1", two_vats, look_back_one),
+    row("look back to the first", all_vats, look_back_all).over_every_sector(),
+];
+
+fn blank(buffers: &mut Buffers) {
+    buffers.record_plain(0);
+}
+
+fn all_plain(buffers: &mut Buffers) {
+    buffers.record_plain(buffers.sectors());
+}
+
+/// Half of the disc is recorded, and its last sector is a table of 458 numbers.
+fn clean(buffers: &mut Buffers) {
+    let half = buffers.sectors() / 2;
+    buffers.record_plain(half);
+    buffers.plant_vat(half - 1, LIMIT, NONE);
+}
+
+fn dirty_by_one(buffers: &mut Buffers) {
+    let half = buffers.sectors() / 2;
+    buffers.record_plain(half);
+    buffers.plant_vat(half - 2, LIMIT, NONE);
+}
+
+/// The only table, of no numbers, is at block 0, and every sector is recorded.
+fn dirty_by_all(buffers: &mut Buffers) {
+    all_plain(buffers);
+    buffers.plant_vat(0, 0, NONE);
+}
+
+/// The same with the caches full of other sectors.
+fn swept(buffers: &mut Buffers) {
+    dirty_by_all(buffers);
+    buffers.sweep();
+}
+
+/// A packet is open, and the last table is the last sector.
+fn open(buffers: &mut Buffers) {
+    clean(buffers);
+    buffers.mount(1);
+}
+
+fn open_without_vat(buffers: &mut Buffers) {
+    open(buffers);
+    buffers.forget_last_vat();
+}
+
+/// The same with a table of no numbers.
+fn open_empty(buffers: &mut Buffers) {
+    let half = buffers.sectors() / 2;
+    buffers.record_plain(half);
+    buffers.plant_vat(half - 1, 0, NONE);
+    buffers.mount(1);
+}
+
+/// Two tables of 458 numbers, the newest in the last sector.
+fn two_vats(buffers: &mut Buffers) {
+    let half = buffers.sectors() / 2;
+    clean(buffers);
+    buffers.plant_vat(half / 2, LIMIT, NONE);
+    buffers.plant_vat(half - 1, LIMIT, half as u32 / 2);
+}
+
+/// Every sector is a table of no numbers that names the one before.
+fn all_vats(buffers: &mut Buffers) {
+    all_plain(buffers);
+    buffers.plant_vat(0, 0, NONE);
+    for block in 1..buffers.sectors() {
+        buffers.plant_vat(block, 0, block as u32 - 1);
+    }
+}
+
+fn begin(version: &Version, b: &mut Buffers, _: usize) -> u64 {
+    (version.begin)(&b.image, &b.kinds, &mut b.ledger)
+}
+
+fn mount(version: &Version, b: &mut Buffers, _: usize) -> u64 {
+    (version.mount)(&b.image, &b.kinds, &mut b.ledger)
+}
+
+/// Each call of a batch takes the next sector, for another number.
+fn write(version: &Version, b: &mut Buffers, i: usize) -> u64 {
+    let v = i as u32;
+    (version.write)(&mut b.image, &mut b.kinds, &mut b.ledger, v, &b.block)
+}
+
+/// Mode 0 is set before each call of the batch, within the measured time.
+fn write_links(version: &Version, b: &mut Buffers, i: usize) -> u64 {
+    b.set_mode(0);
+    write(version, b, i)
+}
+
+/// Another number each time.
+fn release(version: &Version, b: &mut Buffers, i: usize) -> u64 {
+    (version.release)(&b.image, &b.kinds, &mut b.ledger, i as u32)
+}
+
+/// Closing a closed packet does the same work but for one kind.
+fn close_packet(version: &Version, b: &mut Buffers, _: usize) -> u64 {
+    (version.close_packet)(&b.image, &b.kinds, &mut b.ledger)
+}
+
+/// Each commit of a batch finds the one before as its last table.
+fn commit(version: &Version, b: &mut Buffers, _: usize) -> u64 {
+    (version.commit)(&mut b.image, &mut b.kinds, &mut b.ledger)
+}
+
+/// 64 numbers in turn, whose sectors stay in the cache.
+fn read(version: &Version, b: &mut Buffers, i: usize) -> u64 {
+    (version.read)(&b.image, &b.kinds, &b.ledger, i as u32, &mut b.block)
+}
+
+fn look_back_one(version: &Version, b: &mut Buffers, _: usize) -> u64 {
+    (version.look_back)(&b.image, &b.kinds, &mut b.ledger, 1)
+}
+
+/// "follows the previous entry k times", as far as it goes.
+fn look_back_all(version: &Version, b: &mut Buffers, _: usize) -> u64 {
+    let k = b.sectors() as u32 - 1;
+    (version.look_back)(&b.image, &b.kinds, &mut b.ledger, k)
+}

@@ -1,0 +1,44 @@
+//! "Each call answers an outcome (0 done, else a refusal) and a second number."
+
+/// The second number, or the lowest refusal that applies.
+pub type Answer = Result<u32, Refusal>;
+
+/// "Refusals, by who causes them": each with document 01's number.
+#[derive(Clone, Copy)]
+pub enum Refusal {
+    DiscSize = 1,
+    LentLength = 2,
+    DiscUnsound = 3,
+    LedgerUnfit = 4,
+    ReadOnly = 5,
+    VatExists = 6,
+    NoVat = 7,
+    ChainBroken = 8,
+    ChainEnded = 9,
+    NotInUse = 10,
+    Unreadable = 11,
+    AboveSize = 12,
+    AboveLimit = 13,
+    NoRoom = 14,
+    WouldBeVat = 15,
+}
+
+/// "the pair is one 64-bit number: outcome × 4,294,967,296 + second number";
+/// "A refusal's second number is 0".
+#[inline(always)]
+pub fn packed(answer: Answer) -> u64 {
+    match answer {
+        Ok(second) => u64::from(second),
+        Err(refusal) => (refusal as u64) << 32,
+    }
+}
+
+/// One test of a call's ordered list of refusals.
+#[inline(always)]
+pub fn refuse(condition: bool, refusal: Refusal) -> Result<(), Refusal> {
+    if condition {
+        Err(refusal)
+    } else {
+        Ok(())
+    }
+}

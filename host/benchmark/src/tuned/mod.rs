@@ -1,0 +1,59 @@
+//! A tuned version of document 01's eight calls, for the comparison alone.
+//!
+//! Written to be fast in safe Rust for plain x86-64, with the same contract as
+//! the recording core: the 64-bit answer and every lent byte. No call allocates.
+//!
+//! - [`fields`]: little-endian fields;
+//! - [`crc`]: the sum, sixteen bytes at a time;
+//! - [`table`]: the table sector at block b, recognised and made;
+//! - [`disc`]: one pass over the kinds, the newest table, the walk back;
+//! - [`ledger`]: the volume's working state, and when it fits the disc;
+//! - [`calls`]: the eight calls; [`answer`]: their two numbers.
+
+#![forbid(unsafe_code)]
+
+mod answer;
+mod calls;
+mod crc;
+mod disc;
+mod fields;
+mod ledger;
+mod table;
+
+use answer::packed;
+
+pub use crc::{crc, CRC_FORM};
+pub use ledger::LEDGER;
+pub use table::{put_vat, Sector, LIMIT, NONE, SECTOR};
+
+pub fn begin(image: &[u8], kinds: &[u8], ledger: &mut [u8]) -> u64 {
+    packed(calls::begin(image, kinds, ledger))
+}
+
+pub fn mount(image: &[u8], kinds: &[u8], ledger: &mut [u8]) -> u64 {
+    packed(calls::mount(image, kinds, ledger))
+}
+
+pub fn write(image: &mut [u8], kinds: &mut [u8], ledger: &mut [u8], v: u32, block: &[u8]) -> u64 {
+    packed(calls::write(image, kinds, ledger, v, block))
+}
+
+pub fn release(image: &[u8], kinds: &[u8], ledger: &mut [u8], v: u32) -> u64 {
+    packed(calls::release(image, kinds, ledger, v))
+}
+
+pub fn close_packet(image: &[u8], kinds: &[u8], ledger: &mut [u8]) -> u64 {
+    packed(calls::close_packet(image, kinds, ledger))
+}
+
+pub fn commit(image: &mut [u8], kinds: &mut [u8], ledger: &mut [u8]) -> u64 {
+    packed(calls::commit(image, kinds, ledger))
+}
+
+pub fn read(image: &[u8], kinds: &[u8], ledger: &[u8], v: u32, block: &mut [u8]) -> u64 {
+    packed(calls::read(image, kinds, ledger, v, block))
+}
+
+pub fn look_back(image: &[u8], kinds: &[u8], ledger: &mut [u8], k: u32) -> u64 {
+    packed(calls::look_back(image, kinds, ledger, k))
+}

@@ -1,0 +1,47 @@
+//! The two versions of the eight calls, with the same signatures.
+
+use crate::tuned;
+use station::raw;
+
+type Plain = fn(&[u8], &[u8], &mut [u8]) -> u64;
+type Numbered = fn(&[u8], &[u8], &mut [u8], u32) -> u64;
+type Committing = fn(&mut [u8], &mut [u8], &mut [u8]) -> u64;
+type Writing = fn(&mut [u8], &mut [u8], &mut [u8], u32, &[u8]) -> u64;
+type Reading = fn(&[u8], &[u8], &[u8], u32, &mut [u8]) -> u64;
+
+/// Eight functions. They are called through pointers, so that neither version
+/// is compiled into the loop that measures it.
+pub struct Version {
+    pub begin: Plain,
+    pub mount: Plain,
+    pub write: Writing,
+    pub release: Numbered,
+    pub close_packet: Plain,
+    pub commit: Committing,
+    pub read: Reading,
+    pub look_back: Numbered,
+}
+
+/// The recording core, through the package `station`.
+pub const CORE: Version = Version {
+    begin: raw::begin,
+    mount: raw::mount,
+    write: raw::write,
+    release: raw::release,
+    close_packet: raw::close_packet,
+    commit: raw::commit,
+    read: raw::read,
+    look_back: raw::look_back,
+};
+
+/// The version written for the comparison.
+pub const TUNED: Version = Version {
+    begin: tuned::begin,
+    mount: tuned::mount,
+    write: tuned::write,
+    release: tuned::release,
+    close_packet: tuned::close_packet,
+    commit: tuned::commit,
+    read: tuned::read,
+    look_back: tuned::look_back,
+};

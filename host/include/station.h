@@ -1,0 +1,173 @@
+/*
+ * The recording core of a disc station: a write-once sector log on CD-R.
+ *
+ * Link libstation.a. The functions allocate nothing, keep nothing between two
+ * calls and run on a stack of 256 KiB.
+ *
+ * Every call is lent a disc and a ledger, each buffer as a pointer and its
+ * length in bytes. The pointer points at that many bytes, also where there are
+ * none, and is not null; buffers of one call do not overlap. Apart from that
+ * any lengths and any contents may be lent: they are tested.
+ *
+ *   image   2048 bytes a sector. A disc has 1 to 360,000 sectors; a block
+ *           number counts from 0.
+ *   kinds   one byte a sector: 0 blank, 1 data, 2 link, 3 unreadable. All
+ *           sectors that are not blank form a beginning of the disc; their
+ *           count is called recorded.
+ *   ledger  1,848 bytes: 458 map entries, then size, recorded, last table and
+ *           mode, each 32 bits, little-endian. Unused map entries, all entries
+ *           from size on, and a missing last table are hex FFFFFFFF. Mode is
+ *           0 (no packet open), 1 (packet open) or 2 (looking only).
+ *   block   2048 bytes.
+ *
+ * Each call answers an outcome (0 done, else a refusal) and a second number, as
+ * one number: outcome * 4294967296 + second number. A refusal's second number
+ * is 0, and it alters no lent byte. The lowest applicable number is given. What
+ * a call may not change is lent as const.
+ *
+ * In mode 0 with recorded above 0, write and commit first record seven link
+ * sectors; of a link sector only its kind changes, to 2.
+ */
+#ifndef STATION_H
+#define STATION_H
+
+#include <stddef.h>
+#include <stdint.h>
+
+#ifdef __cplusplus
+extern "C" {
+#endif
+
+#define STATION_SECTOR 2048         /* bytes of a sector, and of a block */
+#define STATION_LEDGER 1848         /* bytes of the ledger */
+#define STATION_MOST_SECTORS 360000 /* the most sectors of a disc */
+#define STATION_LIMIT 458           /* the most virtual numbers */
+#define STATION_UNUSED 0xFFFFFFFFu  /* an unused entry, a missing last table */
+
+/* The outcomes. */
+enum station_outcome {
+    STATION_DONE = 0,
+    /* no sectors, more than 360,000, or image length is not 2048 x kinds
+       length */
+    STATION_DISC_SIZE = 1,
+    /* a lent block is not 2048 bytes, or a lent ledger is not 1,848 */
+    STATION_LENT_LENGTH = 2,
+    /* a kind above 3, or a recorded sector after a blank one */
+    STATION_DISC_UNSOUND = 3,
+    /* the ledger does not fit: size above 458; an entry from size on not
+       FFFFFFFF; one below size neither FFFFFFFF nor below recorded; recorded
+       differs from the disc's; last table neither FFFFFFFF nor a table sector;
+       mode above 2; mode 1 where the last recorded sector is missing or not
+       kind 1 */
+    STATION_LEDGER_UNFIT = 4,
+    /* write, release, close packet or commit with mode 2 */
+    STATION_READ_ONLY = 5,
+    /* begin, and a table sector exists */
+    STATION_VAT_EXISTS = 6,
+    /* mount or look back, and none exists */
+    STATION_NO_VAT = 7,
+    /* a step of look back names a sector that is not a table sector */
+    STATION_CHAIN_BROKEN = 8,
+    /* look back meets FFFFFFFF before k steps */
+    STATION_CHAIN_ENDED = 9,
+    /* read or release of v not below size, or of an unused entry */
+    STATION_NOT_IN_USE = 10,
+    /* read, and the entry's sector is not kind 1 */
+    STATION_UNREADABLE = 11,
+    /* write of v above size */
+    STATION_ABOVE_SIZE = 12,
+    /* write of v at or above 458 */
+    STATION_ABOVE_LIMIT = 13,
+    /* no room: write needs links + 1 + 8 blank sectors, commit links + 1 */
+    STATION_NO_ROOM = 14,
+    /* the lent block would be a table sector at the block it is about to take */
+    STATION_WOULD_BE_VAT = 15
+};
+
+/* The outcome of an answer: 0 done, else a refusal. */
+#define STATION_OUTCOME(answer) ((uint32_t)((uint64_t)(answer) >> 32))
+
+/* The second number of an answer. */
+#define STATION_SECOND(answer) ((uint32_t)((uint64_t)(answer) & 0xFFFFFFFFu))
+
+/*
+ * Begin: size 0, no last table, mode 0. Allowed on a disc with recorded sectors
+ * if none is a table sector. Second number 0. Refusals 1, 2, 3, 6. The ledger's
+ * content is not read.
+ */
+uint64_t station_begin(const uint8_t *image, size_t image_length,
+                       const uint8_t *kinds, size_t kinds_length,
+                       uint8_t *ledger, size_t ledger_length);
+
+/*
+ * Mount: starts at the last recorded sector and goes towards block 0. The first
+ * table sector met ends the search. Its entries and size fill the ledger; it is
+ * the last table; mode 0. Second number 1 if clean, which means that it is the
+ * last recorded sector, and 0 if dirty. Refusals 1, 2, 3, 7. The ledger's
+ * content is not read.
+ */
+uint64_t station_mount(const uint8_t *image, size_t image_length,
+                       const uint8_t *kinds, size_t kinds_length,
+                       uint8_t *ledger, size_t ledger_length);
+
+/*
+ * Write number v: records one data sector with the lent block and sets entry v
+ * to it. If v equals size, size grows by one. A released number below size may
+ * be written again. Mode becomes 1. Second number: the block recorded. Refusals
+ * 1, 2, 3, 4, 5, 12, 13, 14, 15.
+ */
+uint64_t station_write(uint8_t *image, size_t image_length, uint8_t *kinds,
+                       size_t kinds_length, uint8_t *ledger,
+                       size_t ledger_length, uint32_t v, const uint8_t *block,
+                       size_t block_length);
+
+/*
+ * Release v: sets the entry to unused. Size stays. Second number 0. Refusals 1,
+ * 2, 3, 4, 5, 10.
+ */
+uint64_t station_release(const uint8_t *image, size_t image_length,
+                         const uint8_t *kinds, size_t kinds_length,
+                         uint8_t *ledger, size_t ledger_length, uint32_t v);
+
+/*
+ * Close packet: mode 0 (also after an underrun). Nothing is recorded. Closing a
+ * closed packet is done. Second number 0. Refusals 1, 2, 3, 4, 5.
+ */
+uint64_t station_close_packet(const uint8_t *image, size_t image_length,
+                              const uint8_t *kinds, size_t kinds_length,
+                              uint8_t *ledger, size_t ledger_length);
+
+/*
+ * Commit: records the table sector, which becomes the last table. It may follow
+ * in any mode but 2, and mode is 1 afterwards. Allowed with nothing changed and
+ * with size 0. Second number: the block recorded. Refusals 1, 2, 3, 4, 5, 14.
+ */
+uint64_t station_commit(uint8_t *image, size_t image_length, uint8_t *kinds,
+                        size_t kinds_length, uint8_t *ledger,
+                        size_t ledger_length);
+
+/*
+ * Read v: copies the 2048 bytes to the lent block; allowed with mode 2. Second
+ * number 0. Refusals 1, 2, 3, 4, 10, 11.
+ */
+uint64_t station_read(const uint8_t *image, size_t image_length,
+                      const uint8_t *kinds, size_t kinds_length,
+                      const uint8_t *ledger, size_t ledger_length, uint32_t v,
+                      uint8_t *block, size_t block_length);
+
+/*
+ * Look back k: from the table that mount would find, follows the previous entry
+ * k times; k 0 is that table. The ledger gets its map, recorded as it is now,
+ * that table as last, mode 2. Second number: the table's block. Refusals 1, 2,
+ * 3, 7, then 8 or 9 at the first failing step. The ledger's content is not
+ * read.
+ */
+uint64_t station_look_back(const uint8_t *image, size_t image_length,
+                           const uint8_t *kinds, size_t kinds_length,
+                           uint8_t *ledger, size_t ledger_length, uint32_t k);
+
+#ifdef __cplusplus
+}
+#endif
+
+#endif

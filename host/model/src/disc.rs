@@ -1,0 +1,168 @@
+//! "A disc is two lent buffers: the image, 2048 bytes a sector, and the kinds,
+//! one byte a sector."
+//!
+//! What a disc shows ([`Disc`]) and how sectors are recorded on it
+//! ([`record`], and [`fail_power`] for a cut).
+
+use crate::answer::Refusal;
+use crate::table::{recognise, Vat, NONE, SECTOR};
+
+/// "0 blank, 1 data, 2 link, 3 unreadable"
+pub const BLANK: u8 = 0;
+pub const DATA: u8 = 1;
+pub const LINK: u8 = 2;
+pub const UNREADABLE: u8 = 3;
+
+/// "It has 1 to 360,000 sectors."
+pub const MOST_SECTORS: usize = 360_000;
+
+/// A disc of right size, not yet known to be sound.
+#[derive(Clone, Copy)]
+pub struct Disc<'a> {
+    sectors: &'a [[u8; SECTOR]],
+    kinds: &'a [u8],
+}
+
+/// A table sector and its block.
+#[derive(Clone, Debug, PartialEq, Eq)]
+pub struct Found {
+    pub block: u32,
+    pub vat: Vat,
+}
+
+impl<'a> Disc<'a> {
+    /// Refusal 1: "no sectors, more than 360,000, or image length is not
+    /// 2048 × kinds length".
+    pub fn lent(image: &'a [u8], kinds: &'a [u8]) -> Result<Disc<'a>, Refusal> {
+        let (sectors, rest) = image.as_chunks::<SECTOR>();
+        let right_size = (1..=MOST_SECTORS).contains(&kinds.len())
+            && sectors.len() == kinds.len()
+            && rest.is_empty();
+        if right_size {
+            Ok(Disc { sectors, kinds })
+        } else {
+            Err(Refusal::DiscSize)
+        }
+    }
+
+    /// Refusal 3 is the contrary: "a kind above 3, or a recorded sector after
+    /// a blank one". Where there is such a sector, one directly follows a blank.
+    pub fn is_sound(&self) -> bool {
+        let recorded_after_blank = |pair: &[u8]| pair[0] == BLANK && pair[1] != BLANK;
+        self.kinds.iter().all(|kind| *kind <= UNREADABLE)
+            && !self.kinds.windows(2).any(recorded_after_blank)
+    }
+
+    /// "All sectors that are not blank form a beginning of the disc. Their
+    /// count is called *recorded*."
+    pub fn recorded(&self) -> u32 {
+        recorded(self.kinds) as u32
+    }
+
+    /// Blank sectors that are left.
+    pub fn blank(&self) -> u32 {
+        self.kinds.len() as u32 - self.recorded()
+    }
+
+    /// The kind of a block, if the disc has it.
+    pub fn kind(&self, block: u32) -> Option<u8> {
+        self.kinds.get(block as usize).copied()
+    }
+
+    /// The bytes of a block of kind 1: "Bytes of a sector whose kind is not 1
+    /// mean nothing."
+    pub fn data(&self, block: u32) -> Option<&'a [u8; SECTOR]> {
+        if self.kind(block) == Some(DATA) {
+            self.sectors.get(block as usize)
+        } else {
+            None
+        }
+    }
+
+    /// What the block holds if it is a table sector.
+    pub fn vat_at(&self, block: u32) -> Option<Vat> {
+        recognise(self.data(block)?, block)
+    }
+
+    /// "starts at the last recorded sector and goes towards block 0. The first
+    /// table sector met ends the search."
+    pub fn newest_vat(&self) -> Option<Found> {
+        (0..self.recorded()).rev().find_map(|block| {
+            let vat = self.vat_at(block)?;
+            Some(Found { block, vat })
+        })
+    }
+
+    /// "from the table that mount would find, follows the previous entry k
+    /// times; k 0 is that table". "Look back stops at its first failing step."
+    pub fn walk_back(&self, k: u32) -> Result<Found, Refusal> {
+        let mut found = self.newest_vat().ok_or(Refusal::NoVat)?;
+        for _ in 0..k {
+            found = self.step_back(&found)?;
+        }
+        Ok(found)
+    }
+
+    fn step_back(&self, found: &Found) -> Result<Found, Refusal> {
+        let block = found.vat.previous;
+        if block == NONE {
+            return Err(Refusal::ChainEnded);
+        }
+        let vat = self.vat_at(block).ok_or(Refusal::ChainBroken)?;
+        Ok(Found { block, vat })
+    }
+}
+
+fn recorded(kinds: &[u8]) -> usize {
+    kinds.iter().filter(|kind| **kind != BLANK).count()
+}
+
+/// One sector that a call records.
+#[derive(Clone, Debug, PartialEq, Eq)]
+pub enum Sector {
+    Link,
+    Data(Box<[u8; SECTOR]>),
+}
+
+/// "A call's sectors are recorded one after another", from the first blank on,
+/// as many as the disc has blank sectors for.
+pub fn record(image: &mut [u8], kinds: &mut [u8], sectors: &[Sector]) {
+    let first = recorded(kinds);
+    let places = image.as_chunks_mut::<SECTOR>().0.iter_mut().zip(kinds);
+    for ((bytes, kind), sector) in places.skip(first).zip(sectors) {
+        match sector {
+            // "For a link sector only its kind changes, to 2; its image bytes stay."
+            Sector::Link => *kind = LINK,
+            Sector::Data(data) => {
+                *kind = DATA;
+                *bytes = **data;
+            }
+        }
+    }
+}
+
+/// "A cut keeps the first j of them, for any j from 0 to all; the call's next
+/// sector, if there is one, stays blank or has kind 3 with arbitrary bytes":
+/// the torn sector's bytes, if it is not blank.
+pub fn fail_power(
+    image: &mut [u8],
+    kinds: &mut [u8],
+    sectors: &[Sector],
+    j: usize,
+    torn: Option<&[u8; SECTOR]>,
+) {
+    let kept = j.min(sectors.len());
+    record(image, kinds, &sectors[..kept]);
+    if let (true, Some(bytes)) = (kept < sectors.len(), torn) {
+        tear(image, kinds, bytes);
+    }
+}
+
+fn tear(image: &mut [u8], kinds: &mut [u8], torn: &[u8; SECTOR]) {
+    let next = recorded(kinds);
+    let mut places = image.as_chunks_mut::<SECTOR>().0.iter_mut().zip(kinds);
+    if let Some((bytes, kind)) = places.nth(next) {
+        *kind = UNREADABLE;
+        *bytes = *torn;
+    }
+}

@@ -1,0 +1,33 @@
+//! An independent model of document 01: the disc, the ledger, the eight calls
+//! and the book that the cut rule speaks of. It is written from document 01's
+//! text alone and shares nothing with the recording core, so that the two can
+//! be held against each other.
+//!
+//! Document 01's words stand in quotes at each definition. Its trade words
+//! have field terms as identifiers: the ledger is a [`Volume`], a table is a
+//! VAT (virtual allocation table), a page of the book is a [`Snapshot`] and
+//! the book a [`History`].
+//!
+//! Bottom to top:
+//!
+//! - [`fields`]: little-endian fields;
+//! - [`answer`]: the two numbers that each call answers, and the refusals;
+//! - [`table`]: the table sector at block b;
+//! - [`disc`]: image and kinds, the newest table, the walk back, recording;
+//! - [`ledger`]: the volume's working state and when it fits the disc;
+//! - [`calls`]: the eight calls;
+//! - [`book`]: pages and draft, what the cut rule promises.
+//!
+//! [`Volume`]: ledger::Volume
+//! [`Snapshot`]: book::Snapshot
+//! [`History`]: book::History
+
+#![forbid(unsafe_code)]
+
+pub mod answer;
+pub mod book;
+pub mod calls;
+pub mod disc;
+pub mod fields;
+pub mod ledger;
+pub mod table;

@@ -1,0 +1,198 @@
+//! The table sector at block b: a file entry (ECMA-167 4/14.9) with the VAT
+//! (virtual allocation table) embedded.
+//!
+//! [`recognise`] says whether a sector of kind 1 is one and what it holds;
+//! [`vat_sector`] is the sector that commit records.
+
+use crate::fields::{put, u16_at, u32_at, u64_at};
+
+/// "the image, 2048 bytes a sector"
+pub const SECTOR: usize = 2048;
+
+/// "hex FFFFFFFF": an unused entry or a missing table.
+pub const NONE: u32 = 0xFFFF_FFFF;
+
+/// "176 + 4 × N + 36 < 2048, so N is at most 458"
+pub const LIMIT: usize = 458;
+
+/// Byte 16: where the CRC starts, behind the tag.
+const BODY: usize = 16;
+
+/// Byte 176: "the table".
+const TABLE: usize = 176;
+
+/// "Regid bytes 1 to 23 hold the text `*UDF Virtual Alloc Tbl` and one zero."
+const VAT_NAME: [u8; 23] = *b"*UDF Virtual Alloc Tbl\0";
+
+/// "implementation regid (128) flags 0, then `*Bench Station`, then zeros"
+const IMPLEMENTATION_NAME: [u8; 14] = *b"*Bench Station";
+
+/// What a table sector holds: "entries of 32 bits, a 32-byte regid, the
+/// previous table's block".
+#[derive(Clone, Debug, PartialEq, Eq)]
+pub struct Vat {
+    pub map: Vec<u32>,
+    pub previous: u32,
+}
+
+/// "The table length is 4 × N + 36 exactly."
+pub fn table_length(entries: usize) -> usize {
+    4 * entries + 36
+}
+
+/// "CRC: 16 bits, polynomial hex 1021, start 0, high bit first"
+pub fn crc(bytes: &[u8]) -> u16 {
+    bytes.iter().fold(0, |crc, byte| crc_byte(crc, *byte))
+}
+
+fn crc_byte(crc: u16, byte: u8) -> u16 {
+    (0..8).fold(crc ^ u16::from(byte) << 8, |crc, _| crc_bit(crc))
+}
+
+fn crc_bit(crc: u16) -> u16 {
+    if crc & 0x8000 == 0 {
+        crc << 1
+    } else {
+        crc << 1 ^ 0x1021
+    }
+}
+
+/// "A sector of kind 1 is a table sector exactly if all of this holds"; the
+/// answer is what the table holds. The CRC is the dearest test and comes last.
+pub fn recognise(sector: &[u8; SECTOR], b: u32) -> Option<Vat> {
+    if !has_tag(sector, b) || !is_embedded_file(sector) {
+        return None;
+    }
+    let entries = entry_count(sector)?;
+    if !names_vat(sector, entries) {
+        return None;
+    }
+    let vat = held(sector, entries);
+    (vat.points_below(b) && has_crc(sector, entries)).then_some(vat)
+}
+
+/// Bytes 0 to 5 and 12 to 15: "tag identifier 261; descriptor version 2",
+/// "sum [...] modulo 256; zero", "tag location = b".
+fn has_tag(sector: &[u8; SECTOR], b: u32) -> bool {
+    u16_at(sector, 0) == 261
+        && u16_at(sector, 2) == 2
+        && sector[4] == tag_sum(sector)
+        && sector[5] == 0
+        && u32_at(sector, 12) == b
+}
+
+/// "sum of bytes 0 to 3 and 5 to 15, modulo 256"
+fn tag_sum(sector: &[u8; SECTOR]) -> u8 {
+    let summed = sector[0..4].iter().chain(&sector[5..16]);
+    summed.fold(0, |sum: u8, byte| sum.wrapping_add(*byte))
+}
+
+/// Bytes 20, 27, 34 and 48: "strategy 4", "file type 0", "flags: low three
+/// bits 3, embedded", "link count 0".
+fn is_embedded_file(sector: &[u8; SECTOR]) -> bool {
+    u16_at(sector, 20) == 4
+        && sector[27] == 0
+        && u16_at(sector, 34) & 7 == 3
+        && u16_at(sector, 48) == 0
+}
+
+/// "Entry count N = (length − 36) / 4", if the four lengths of bytes 10, 56,
+/// 168 and 172 agree on a table of at most 458 entries.
+fn entry_count(sector: &[u8; SECTOR]) -> Option<usize> {
+    let attributes = u32_at(sector, 168) as usize;
+    let descriptors = u32_at(sector, 172) as usize;
+    let entries = descriptors.checked_sub(36)? / 4;
+    let agree = entries <= LIMIT
+        && table_length(entries) == descriptors
+        && attributes == 0
+        && u64_at(sector, 56) == descriptors as u64
+        && usize::from(u16_at(sector, 10)) == 160 + attributes + descriptors;
+    agree.then_some(entries)
+}
+
+/// "Its flags (byte 0) and suffix are not tested."
+fn names_vat(sector: &[u8; SECTOR], entries: usize) -> bool {
+    let name = regid_at(entries) + 1;
+    sector[name..name + VAT_NAME.len()] == VAT_NAME
+}
+
+/// The table's regid stands behind its entries.
+fn regid_at(entries: usize) -> usize {
+    TABLE + 4 * entries
+}
+
+/// The previous table's block stands behind the 32-byte regid.
+fn previous_at(entries: usize) -> usize {
+    regid_at(entries) + 32
+}
+
+fn held(sector: &[u8; SECTOR], entries: usize) -> Vat {
+    Vat {
+        map: (0..entries)
+            .map(|v| u32_at(sector, TABLE + 4 * v))
+            .collect(),
+        previous: u32_at(sector, previous_at(entries)),
+    }
+}
+
+impl Vat {
+    /// "Each entry and the previous block is FFFFFFFF or less than b."
+    fn points_below(&self, b: u32) -> bool {
+        let mut blocks = self.map.iter().chain([&self.previous]);
+        blocks.all(|block| *block == NONE || *block < b)
+    }
+}
+
+/// "over CRC-length bytes from byte 16": 160 + table length of them, which
+/// end with the table.
+fn has_crc(sector: &[u8; SECTOR], entries: usize) -> bool {
+    let end = TABLE + table_length(entries);
+    u16_at(sector, 8) == crc(&sector[BODY..end])
+}
+
+/// "What commit records" at block b, for at most 458 entries.
+pub fn vat_sector(b: u32, map: &[u32], previous: u32) -> [u8; SECTOR] {
+    let mut sector = [0; SECTOR];
+    put_file_entry(&mut sector, table_length(map.len()));
+    put_table(&mut sector, map, previous);
+    seal(&mut sector, b);
+    sector
+}
+
+/// "the fields above [...] maximum entries (byte 24, 16 bits) 1; user and
+/// group (36 and 40, 32 bits) FFFFFFFF; checkpoint (108, 32 bits) 1".
+fn put_file_entry(sector: &mut [u8; SECTOR], length: usize) {
+    put(sector, 0, &261u16.to_le_bytes());
+    put(sector, 2, &2u16.to_le_bytes());
+    put(sector, 10, &(160 + length as u16).to_le_bytes());
+    put(sector, 20, &4u16.to_le_bytes());
+    put(sector, 24, &1u16.to_le_bytes());
+    put(sector, 34, &3u16.to_le_bytes());
+    put(sector, 36, &NONE.to_le_bytes());
+    put(sector, 40, &NONE.to_le_bytes());
+    put(sector, 56, &(length as u64).to_le_bytes());
+    put(sector, 108, &1u32.to_le_bytes());
+    put(sector, 129, &IMPLEMENTATION_NAME);
+    put(sector, 172, &(length as u32).to_le_bytes());
+}
+
+/// "table regid flags 0, suffix hex 50 01 and six zeros"
+fn put_table(sector: &mut [u8; SECTOR], map: &[u32], previous: u32) {
+    for (v, block) in map.iter().enumerate() {
+        put(sector, TABLE + 4 * v, &block.to_le_bytes());
+    }
+    let regid = regid_at(map.len());
+    put(sector, regid + 1, &VAT_NAME);
+    put(sector, regid + 24, &[0x50, 0x01]);
+    put(sector, previous_at(map.len()), &previous.to_le_bytes());
+}
+
+/// Puts the location and the right sums into a tag: the CRC over CRC-length
+/// bytes, as far as the sector has them, and then the sum, which covers it.
+pub fn seal(sector: &mut [u8; SECTOR], b: u32) {
+    let end = SECTOR.min(BODY + usize::from(u16_at(sector, 10)));
+    let crc = crc(&sector[BODY..end]);
+    put(sector, 8, &crc.to_le_bytes());
+    put(sector, 12, &b.to_le_bytes());
+    sector[4] = tag_sum(sector);
+}

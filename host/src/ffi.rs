@@ -1,0 +1,216 @@
+//! The recording core's C functions, and for each one safe function with the
+//! same answer. All unsafe code of this crate is here.
+//!
+//! A slice is lent as its pointer and its length. That is all the core asks
+//! for: none of its functions has a precondition, so every length and every
+//! content may be lent, and it touches no byte outside what it is lent. What
+//! it may change is lent as `&mut`.
+
+mod archive {
+    extern "C" {
+        pub fn station_begin(
+            image: *const u8,
+            image_length: usize,
+            kinds: *const u8,
+            kinds_length: usize,
+            ledger: *mut u8,
+            ledger_length: usize,
+        ) -> u64;
+        pub fn station_mount(
+            image: *const u8,
+            image_length: usize,
+            kinds: *const u8,
+            kinds_length: usize,
+            ledger: *mut u8,
+            ledger_length: usize,
+        ) -> u64;
+        pub fn station_write(
+            image: *mut u8,
+            image_length: usize,
+            kinds: *mut u8,
+            kinds_length: usize,
+            ledger: *mut u8,
+            ledger_length: usize,
+            v: u32,
+            block: *const u8,
+            block_length: usize,
+        ) -> u64;
+        pub fn station_release(
+            image: *const u8,
+            image_length: usize,
+            kinds: *const u8,
+            kinds_length: usize,
+            ledger: *mut u8,
+            ledger_length: usize,
+            v: u32,
+        ) -> u64;
+        pub fn station_close_packet(
+            image: *const u8,
+            image_length: usize,
+            kinds: *const u8,
+            kinds_length: usize,
+            ledger: *mut u8,
+            ledger_length: usize,
+        ) -> u64;
+        pub fn station_commit(
+            image: *mut u8,
+            image_length: usize,
+            kinds: *mut u8,
+            kinds_length: usize,
+            ledger: *mut u8,
+            ledger_length: usize,
+        ) -> u64;
+        pub fn station_read(
+            image: *const u8,
+            image_length: usize,
+            kinds: *const u8,
+            kinds_length: usize,
+            ledger: *const u8,
+            ledger_length: usize,
+            v: u32,
+            block: *mut u8,
+            block_length: usize,
+        ) -> u64;
+        pub fn station_look_back(
+            image: *const u8,
+            image_length: usize,
+            kinds: *const u8,
+            kinds_length: usize,
+            ledger: *mut u8,
+            ledger_length: usize,
+            k: u32,
+        ) -> u64;
+    }
+}
+
+/// `station_begin`: the answer of [`crate::begin`] as one number.
+pub fn begin(image: &[u8], kinds: &[u8], ledger: &mut [u8]) -> u64 {
+    // SAFETY: each pointer and length is one live slice.
+    unsafe {
+        archive::station_begin(
+            image.as_ptr(),
+            image.len(),
+            kinds.as_ptr(),
+            kinds.len(),
+            ledger.as_mut_ptr(),
+            ledger.len(),
+        )
+    }
+}
+
+/// `station_mount`: the answer of [`crate::mount`] as one number; the second
+/// is 1 if clean and 0 if dirty.
+pub fn mount(image: &[u8], kinds: &[u8], ledger: &mut [u8]) -> u64 {
+    // SAFETY: each pointer and length is one live slice.
+    unsafe {
+        archive::station_mount(
+            image.as_ptr(),
+            image.len(),
+            kinds.as_ptr(),
+            kinds.len(),
+            ledger.as_mut_ptr(),
+            ledger.len(),
+        )
+    }
+}
+
+/// `station_write`: the answer of [`crate::write`] as one number; the second
+/// is the block recorded.
+pub fn write(image: &mut [u8], kinds: &mut [u8], ledger: &mut [u8], v: u32, block: &[u8]) -> u64 {
+    // SAFETY: each pointer and length is one live slice, and no two overlap.
+    unsafe {
+        archive::station_write(
+            image.as_mut_ptr(),
+            image.len(),
+            kinds.as_mut_ptr(),
+            kinds.len(),
+            ledger.as_mut_ptr(),
+            ledger.len(),
+            v,
+            block.as_ptr(),
+            block.len(),
+        )
+    }
+}
+
+/// `station_release`: the answer of [`crate::release`] as one number.
+pub fn release(image: &[u8], kinds: &[u8], ledger: &mut [u8], v: u32) -> u64 {
+    // SAFETY: each pointer and length is one live slice.
+    unsafe {
+        archive::station_release(
+            image.as_ptr(),
+            image.len(),
+            kinds.as_ptr(),
+            kinds.len(),
+            ledger.as_mut_ptr(),
+            ledger.len(),
+            v,
+        )
+    }
+}
+
+/// `station_close_packet`: the answer of [`crate::close_packet`] as one number.
+pub fn close_packet(image: &[u8], kinds: &[u8], ledger: &mut [u8]) -> u64 {
+    // SAFETY: each pointer and length is one live slice.
+    unsafe {
+        archive::station_close_packet(
+            image.as_ptr(),
+            image.len(),
+            kinds.as_ptr(),
+            kinds.len(),
+            ledger.as_mut_ptr(),
+            ledger.len(),
+        )
+    }
+}
+
+/// `station_commit`: the answer of [`crate::commit`] as one number; the second
+/// is the block recorded.
+pub fn commit(image: &mut [u8], kinds: &mut [u8], ledger: &mut [u8]) -> u64 {
+    // SAFETY: each pointer and length is one live slice, and no two overlap.
+    unsafe {
+        archive::station_commit(
+            image.as_mut_ptr(),
+            image.len(),
+            kinds.as_mut_ptr(),
+            kinds.len(),
+            ledger.as_mut_ptr(),
+            ledger.len(),
+        )
+    }
+}
+
+/// `station_read`: the answer of [`crate::read`] as one number.
+pub fn read(image: &[u8], kinds: &[u8], ledger: &[u8], v: u32, block: &mut [u8]) -> u64 {
+    // SAFETY: each pointer and length is one live slice.
+    unsafe {
+        archive::station_read(
+            image.as_ptr(),
+            image.len(),
+            kinds.as_ptr(),
+            kinds.len(),
+            ledger.as_ptr(),
+            ledger.len(),
+            v,
+            block.as_mut_ptr(),
+            block.len(),
+        )
+    }
+}
+
+/// `station_look_back`: the answer of [`crate::look_back`] as one number; the
+/// second is the table's block.
+pub fn look_back(image: &[u8], kinds: &[u8], ledger: &mut [u8], k: u32) -> u64 {
+    // SAFETY: each pointer and length is one live slice.
+    unsafe {
+        archive::station_look_back(
+            image.as_ptr(),
+            image.len(),
+            kinds.as_ptr(),
+            kinds.len(),
+            ledger.as_mut_ptr(),
+            ledger.len(),
+            k,
+        )
+    }
+}

@@ -1,0 +1,141 @@
+//! "Refusals, by who causes them."
+
+use std::error::Error;
+use std::fmt;
+
+/// A refusal, with document 01's number. It "alters no lent byte", and the
+/// lowest applicable number is given.
+#[repr(u32)]
+#[derive(Clone, Copy, Debug, PartialEq, Eq, Hash, PartialOrd, Ord)]
+pub enum Refusal {
+    /// 1, the host program: no sectors, more than 360,000, or image length is
+    /// not 2048 × kinds length.
+    DiscSize = 1,
+    /// 2, the host program: a lent block is not 2048 bytes, or a lent ledger is
+    /// not 1,848.
+    LentLength = 2,
+    /// 3, the disc: a kind above 3, or a recorded sector after a blank one.
+    DiscUnsound = 3,
+    /// 4, the host program: the ledger does not fit. Its size is above 458; an
+    /// entry from size on is not FFFFFFFF; one below size is neither FFFFFFFF
+    /// nor below recorded; recorded differs from the disc's; last table is
+    /// neither FFFFFFFF nor a table sector; mode is above 2; or mode is 1 where
+    /// the last recorded sector is missing or not kind 1.
+    LedgerUnfit = 4,
+    /// 5, the operator: write, release, close packet or commit with mode 2.
+    ReadOnly = 5,
+    /// 6, the disc: begin, and a table sector exists.
+    VatExists = 6,
+    /// 7, the disc: mount or look back, and no table sector exists.
+    NoVat = 7,
+    /// 8, the disc: a step of look back names a sector that is not a table
+    /// sector.
+    ChainBroken = 8,
+    /// 9, the operator: look back meets FFFFFFFF before k steps.
+    ChainEnded = 9,
+    /// 10, the operator: read or release of v not below size, or of an unused
+    /// entry.
+    NotInUse = 10,
+    /// 11, the disc: read, and the entry's sector is not kind 1.
+    Unreadable = 11,
+    /// 12, the operator: write of v above size.
+    AboveSize = 12,
+    /// 13, the operator: write of v at or above 458.
+    AboveLimit = 13,
+    /// 14, the recording: no room. Write needs links + 1 + 8 blank sectors,
+    /// commit links + 1.
+    NoRoom = 14,
+    /// 15, the recording: the lent block would be a table sector at the block
+    /// it is about to take.
+    WouldBeVat = 15,
+}
+
+/// Each refusal at the place of its number less one.
+const ALL: [Refusal; 15] = [
+    Refusal::DiscSize,
+    Refusal::LentLength,
+    Refusal::DiscUnsound,
+    Refusal::LedgerUnfit,
+    Refusal::ReadOnly,
+    Refusal::VatExists,
+    Refusal::NoVat,
+    Refusal::ChainBroken,
+    Refusal::ChainEnded,
+    Refusal::NotInUse,
+    Refusal::Unreadable,
+    Refusal::AboveSize,
+    Refusal::AboveLimit,
+    Refusal::NoRoom,
+    Refusal::WouldBeVat,
+];
+
+impl Refusal {
+    /// Document 01's number, 1 to 15.
+    pub const fn number(self) -> u32 {
+        self as u32
+    }
+
+    /// The refusal of an outcome that is not 0.
+    pub(crate) fn of(outcome: u32) -> Refusal {
+        let place = (outcome as usize).wrapping_sub(1);
+        match ALL.get(place) {
+            Some(refusal) => *refusal,
+            None => panic!("the core answered outcome {outcome}, which document 01 does not have"),
+        }
+    }
+
+    /// The condition in document 01's words.
+    fn condition(self) -> &'static str {
+        match self {
+            Refusal::DiscSize => {
+                "no sectors, more than 360,000, or image length is not 2048 × kinds length"
+            }
+            Refusal::LentLength => "a lent block is not 2048 bytes, or a lent ledger is not 1,848",
+            Refusal::DiscUnsound => "a kind above 3, or a recorded sector after a blank one",
+            Refusal::LedgerUnfit => "the ledger does not fit",
+            Refusal::ReadOnly => "write, release, close packet or commit with mode 2",
+            Refusal::VatExists => "begin, and a table sector exists",
+            Refusal::NoVat => "mount or look back, and no table sector exists",
+            Refusal::ChainBroken => "a step of look back names a sector that is not a table sector",
+            Refusal::ChainEnded => "look back meets FFFFFFFF before k steps",
+            Refusal::NotInUse => "read or release of v not below size, or of an unused entry",
+            Refusal::Unreadable => "read, and the entry's sector is not kind 1",
+            Refusal::AboveSize => "write of v above size",
+            Refusal::AboveLimit => "write of v at or above 458",
+            Refusal::NoRoom => "no room",
+            Refusal::WouldBeVat => {
+                "the lent block would be a table sector at the block it is about to take"
+            }
+        }
+    }
+}
+
+impl fmt::Display for Refusal {
+    fn fmt(&self, out: &mut fmt::Formatter) -> fmt::Result {
+        write!(out, "refusal {}: {}", self.number(), self.condition())
+    }
+}
+
+impl Error for Refusal {}
+
+#[cfg(test)]
+mod tests {
+    use super::Refusal;
+
+    #[test]
+    fn each_number_is_its_own_refusal() {
+        for number in 1..=15 {
+            let refusal = Refusal::of(number);
+            assert_eq!(refusal.number(), number);
+            assert!(refusal
+                .to_string()
+                .starts_with(&format!("refusal {number}: ")));
+        }
+    }
+
+    #[test]
+    #[should_panic(expected = "outcome 16")]
+    fn no_refusal_beyond_15() {
+        Refusal::of(16);
+    }
+}

@@ -1,0 +1,96 @@
+//! The typed functions: each answers what the raw one answers and leaves the
+//! same bytes.
+
+mod common;
+
+use common::core::Core;
+use common::forge;
+use common::random::{cases, Random};
+use common::station::Station;
+use station::Refusal;
+use station_model::calls::Call;
+use station_model::table::SECTOR;
+
+/// The typed call; what it gives as a number, as document 01 has it.
+fn typed(core: &mut Core, call: Call, block: &mut [u8]) -> Result<u32, Refusal> {
+    let (image, kinds) = (&mut core.image, &mut core.kinds);
+    let ledger = &mut core.ledger;
+    match call {
+        Call::Begin => station::begin(image, kinds, ledger).map(|()| 0),
+        Call::Mount => station::mount(image, kinds, ledger).map(u32::from),
+        Call::Write(v) => station::write(image, kinds, ledger, v, block),
+        Call::Release(v) => station::release(image, kinds, ledger, v).map(|()| 0),
+        Call::ClosePacket => station::close_packet(image, kinds, ledger).map(|()| 0),
+        Call::Commit => station::commit(image, kinds, ledger),
+        Call::Read(v) => station::read(image, kinds, ledger, v, block).map(|()| 0),
+        Call::LookBack(k) => station::look_back(image, kinds, ledger, k),
+    }
+}
+
+/// "outcome × 4,294,967,296 + second number"
+fn packed(answer: Result<u32, Refusal>) -> u64 {
+    match answer {
+        Ok(second) => u64::from(second),
+        Err(refusal) => u64::from(refusal.number()) << 32,
+    }
+}
+
+fn any_station(random: &mut Random) -> Station {
+    let sectors = 1 + random.below(20);
+    let mut station = forge::used_disc_with_vats(random, sectors);
+    if random.one_in(3) {
+        station = Station::blank(sectors);
+    }
+    let fitting = forge::fitting(random, &station.disc()).to_bytes();
+    station.ledger = forge::spoiled(random, &fitting);
+    if random.one_in(2) {
+        station.ledger = fitting.to_vec();
+    }
+    match random.below(12) {
+        0 => station.kinds[0] = 7,
+        1 => station.kinds.push(0),
+        2 => station.ledger.push(0),
+        _ => {}
+    }
+    station
+}
+
+#[test]
+fn typed_answers_are_the_raw_ones() {
+    let mut met = [false; 16];
+    let all = cases(40_000);
+    let whole = all.len() > 1;
+    for case in all {
+        let mut random = Random::of_case(case);
+        let station = any_station(&mut random);
+        let recorded = station.kinds.iter().filter(|kind| **kind != 0).count();
+        let block = forge::block(&mut random, &station.image, recorded as u32);
+        let call = forge::call(&mut random, forge::size_in(&station.ledger), 2);
+        let (mut one, mut two) = (Core::holding(&station, 0), Core::holding(&station, 0));
+        let (mut one_block, mut two_block) = (block.clone(), block);
+        let raw = one.perform(call, &mut one_block);
+        let answer = typed(&mut two, call, &mut two_block);
+        assert_eq!(packed(answer), raw, "case {case}, {call:?}");
+        assert!(one.same_bytes(&two) && one_block == two_block);
+        met[(raw >> 32) as usize] = true;
+    }
+    assert!(!whole || met.iter().all(|met| *met), "{met:?}");
+}
+
+/// The text tells number and cause; a refusal is an error like others.
+#[test]
+fn refusals_as_errors() {
+    let mut ledger = [0; station::LEDGER];
+    let refused = station::begin(&[], &[], &mut ledger).expect_err("no sectors");
+    assert_eq!(refused, Refusal::DiscSize);
+    let error: Box<dyn std::error::Error> = Box::new(refused);
+    assert_eq!(
+        error.to_string(),
+        "refusal 1: no sectors, more than 360,000, or image length is not 2048 × kinds length"
+    );
+    let refused = station::mount(&[0; SECTOR], &[0], &mut ledger).expect_err("a blank disc");
+    assert_eq!(
+        refused.to_string(),
+        "refusal 7: mount or look back, and no table sector exists"
+    );
+}

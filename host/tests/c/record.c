@@ -1,0 +1,119 @@
+/*
+ * Records on a small disc through the C header: begin, writes, commits, a
+ * closed packet, and then what mount, read and look back show of it. Exits 0 if
+ * every answer is right, and names the first that is not.
+ */
+#include <stdio.h>
+#include <stdlib.h>
+#include <string.h>
+
+#include "station.h"
+
+#define SECTORS 31
+
+static uint8_t image[SECTORS * STATION_SECTOR];
+static uint8_t kinds[SECTORS];
+static uint8_t ledger[STATION_LEDGER];
+static uint8_t block[STATION_SECTOR];
+
+#define DISC image, sizeof image, kinds, sizeof kinds
+#define LENT DISC, ledger, sizeof ledger
+
+static void expect(const char *call, uint64_t answer, uint32_t outcome, uint32_t second)
+{
+    if (STATION_OUTCOME(answer) == outcome && STATION_SECOND(answer) == second)
+        return;
+    printf("%s: outcome %lu, second number %lu\n", call,
+           (unsigned long)STATION_OUTCOME(answer), (unsigned long)STATION_SECOND(answer));
+    exit(1);
+}
+
+static void hold(const char *what, int holds)
+{
+    if (holds)
+        return;
+    printf("%s does not hold\n", what);
+    exit(1);
+}
+
+static uint64_t write_number(uint32_t v, int byte)
+{
+    memset(block, byte, sizeof block);
+    return station_write(LENT, v, block, sizeof block);
+}
+
+static uint64_t read_number(uint32_t v)
+{
+    memset(block, 0, sizeof block);
+    return station_read(LENT, v, block, sizeof block);
+}
+
+static uint32_t entry(size_t at)
+{
+    const uint8_t *bytes = ledger + 4 * at;
+    return (uint32_t)bytes[0] | (uint32_t)bytes[1] << 8 | (uint32_t)bytes[2] << 16 |
+           (uint32_t)bytes[3] << 24;
+}
+
+/* The disc of 31 of document 01's listing. */
+static void record(void)
+{
+    expect("begin", station_begin(LENT), STATION_DONE, 0);
+    expect("write 1 at size 0", write_number(1, 0x11), STATION_ABOVE_SIZE, 0);
+    expect("write 0", write_number(0, 0x11), STATION_DONE, 0);
+    expect("commit", station_commit(LENT), STATION_DONE, 1);
+    expect("write 1", write_number(1, 0x22), STATION_DONE, 2);
+    expect("release 0", station_release(LENT, 0), STATION_DONE, 0);
+    expect("release 0 again", station_release(LENT, 0), STATION_NOT_IN_USE, 0);
+    expect("commit", station_commit(LENT), STATION_DONE, 3);
+    expect("close packet", station_close_packet(LENT), STATION_DONE, 0);
+    expect("commit", station_commit(LENT), STATION_DONE, 11);
+    hold("seven links", memcmp(kinds, "\1\1\1\1\2\2\2\2\2\2\2\1\0", 13) == 0);
+}
+
+static void mount_and_read(void)
+{
+    memset(ledger, 0xA5, sizeof ledger);
+    expect("begin on a table", station_begin(LENT), STATION_VAT_EXISTS, 0);
+    expect("mount", station_mount(LENT), STATION_DONE, 1);
+    hold("size 2", entry(STATION_LIMIT) == 2);
+    hold("0 is unused", entry(0) == STATION_UNUSED);
+    hold("1 is block 2", entry(1) == 2);
+    hold("last table 11", entry(STATION_LIMIT + 2) == 11);
+    expect("read 0", read_number(0), STATION_NOT_IN_USE, 0);
+    expect("read 1", read_number(1), STATION_DONE, 0);
+    hold("1 reads 22", block[0] == 0x22 && block[STATION_SECTOR - 1] == 0x22);
+}
+
+static void look_back(void)
+{
+    expect("look back 0", station_look_back(LENT, 0), STATION_DONE, 11);
+    expect("look back 1", station_look_back(LENT, 1), STATION_DONE, 3);
+    expect("look back 2", station_look_back(LENT, 2), STATION_DONE, 1);
+    expect("read 0", read_number(0), STATION_DONE, 0);
+    hold("0 reads 11", block[0] == 0x11 && block[STATION_SECTOR - 1] == 0x11);
+    expect("commit while looking", station_commit(LENT), STATION_READ_ONLY, 0);
+    expect("look back 3", station_look_back(LENT, 3), STATION_CHAIN_ENDED, 0);
+}
+
+static void lend_wrongly(void)
+{
+    uint64_t short_image =
+        station_mount(image, sizeof image - 1, kinds, sizeof kinds, ledger, sizeof ledger);
+    uint64_t short_ledger = station_mount(DISC, ledger, sizeof ledger - 1);
+    expect("an image too short", short_image, STATION_DISC_SIZE, 0);
+    expect("a ledger too short", short_ledger, STATION_LENT_LENGTH, 0);
+    kinds[30] = 4;
+    expect("a kind above 3", station_mount(LENT), STATION_DISC_UNSOUND, 0);
+    kinds[30] = 0;
+}
+
+int main(void)
+{
+    record();
+    mount_and_read();
+    look_back();
+    lend_wrongly();
+    puts("recorded, mounted, read and looked back");
+    return 0;
+}

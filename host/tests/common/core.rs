@@ -1,0 +1,134 @@
+//! The core on a disc and a ledger of its own, each between canaries.
+
+use station::raw;
+use station_model::answer::Answer;
+use station_model::calls::Call;
+use station_model::disc::Disc;
+use station_model::ledger::Volume;
+use station_model::table::SECTOR;
+
+use super::guarded::Guarded;
+use super::station::Station;
+
+#[derive(Clone)]
+pub struct Core {
+    pub image: Guarded,
+    pub kinds: Guarded,
+    pub ledger: Guarded,
+}
+
+/// How many bytes of a buffer are not lent.
+#[derive(Clone, Copy, Debug, Default, PartialEq)]
+pub struct Short {
+    pub image: usize,
+    pub kinds: usize,
+    pub ledger: usize,
+}
+
+impl Core {
+    pub fn holding(station: &Station, shift: usize) -> Core {
+        Core {
+            image: Guarded::holding(&station.image, shift),
+            kinds: Guarded::holding(&station.kinds, shift / 3),
+            ledger: Guarded::holding(&station.ledger, shift / 5),
+        }
+    }
+
+    /// Any of the eight, with the block that a write or read is lent.
+    pub fn perform(&mut self, call: Call, block: &mut [u8]) -> u64 {
+        self.perform_short(call, block, Short::default())
+    }
+
+    /// The same with the last bytes of some buffers not lent.
+    pub fn perform_short(&mut self, call: Call, block: &mut [u8], short: Short) -> u64 {
+        let image = all_but(&mut self.image, short.image);
+        let kinds = all_but(&mut self.kinds, short.kinds);
+        let ledger = all_but(&mut self.ledger, short.ledger);
+        match call {
+            Call::Begin => raw::begin(image, kinds, ledger),
+            Call::Mount => raw::mount(image, kinds, ledger),
+            Call::Write(v) => raw::write(image, kinds, ledger, v, block),
+            Call::Release(v) => raw::release(image, kinds, ledger, v),
+            Call::ClosePacket => raw::close_packet(image, kinds, ledger),
+            Call::Commit => raw::commit(image, kinds, ledger),
+            Call::Read(v) => raw::read(image, kinds, ledger, v, block),
+            Call::LookBack(k) => raw::look_back(image, kinds, ledger, k),
+        }
+    }
+
+    /// The same with a copy of the block, between canaries too. A canary that
+    /// was changed ends the test.
+    pub fn call_lent(&mut self, call: Call, block: &mut [u8]) -> Answer {
+        self.call_short(call, block, Short::default())
+    }
+
+    pub fn call_short(&mut self, call: Call, block: &mut [u8], short: Short) -> Answer {
+        let mut lent = Guarded::holding(block, 0);
+        let answer = self.perform_short(call, &mut lent, short);
+        if let Some(struck) = self.struck(&lent) {
+            panic!("{call:?} on the core wrote outside: {struck}");
+        }
+        block.copy_from_slice(&lent);
+        unpacked(answer)
+    }
+
+    /// A call that is lent no block.
+    pub fn call(&mut self, call: Call) -> Answer {
+        self.call_lent(call, &mut [])
+    }
+
+    /// The buffer outside which the core wrote, and where.
+    pub fn struck(&self, block: &Guarded) -> Option<String> {
+        let buffers = [
+            ("image", &self.image),
+            ("kinds", &self.kinds),
+            ("ledger", &self.ledger),
+            ("block", block),
+        ];
+        buffers
+            .iter()
+            .find_map(|(name, buffer)| buffer.struck().map(|place| format!("{name}, {place}")))
+    }
+
+    pub fn disc(&self) -> Disc<'_> {
+        Disc::lent(&self.image, &self.kinds).expect("a disc of right size")
+    }
+
+    pub fn volume(&self) -> Volume {
+        Volume::load(&self.ledger).expect("1,848 bytes")
+    }
+
+    pub fn same_bytes(&self, other: &Core) -> bool {
+        self.image[..] == other.image[..]
+            && self.kinds[..] == other.kinds[..]
+            && self.ledger[..] == other.ledger[..]
+    }
+
+    /// The disc that a cut leaves, from the one that the whole call left: the
+    /// first j sectors that the call recorded are kept, and the next stays as
+    /// it was or is torn.
+    pub fn cut(&mut self, whole: &Core, j: usize, torn: Option<&[u8; SECTOR]>) {
+        let first = self.disc().recorded() as usize;
+        let kept = first..first + j;
+        self.kinds[kept.clone()].copy_from_slice(&whole.kinds[kept.clone()]);
+        let bytes = kept.start * SECTOR..kept.end * SECTOR;
+        self.image[bytes.clone()].copy_from_slice(&whole.image[bytes]);
+        if let Some(torn) = torn {
+            self.kinds[kept.end] = 3;
+            self.image[kept.end * SECTOR..][..SECTOR].copy_from_slice(torn);
+        }
+    }
+}
+
+fn all_but(bytes: &mut [u8], not_lent: usize) -> &mut [u8] {
+    let lent = bytes.len() - not_lent;
+    &mut bytes[..lent]
+}
+
+/// "outcome × 4,294,967,296 + second number"
+pub fn unpacked(answer: u64) -> Answer {
+    Answer {
+        outcome: (answer >> 32) as u32,
+        second: answer as u32,
+    }
+}

@@ -1,0 +1,235 @@
+//! The core beside the model: each call is made on both, and the answer and
+//! every byte of image, kinds, ledger and block afterwards are compared.
+
+use std::cell::Cell;
+use std::fmt::Write;
+
+use station_model::answer::Answer;
+use station_model::calls::{perform, Call};
+use station_model::table::SECTOR;
+
+use super::core::{unpacked, Core};
+use super::guarded::Guarded;
+use super::random::seed;
+use super::station::Station;
+use super::tally::Outcomes;
+
+thread_local! {
+    /// Calls compared by one test, which runs on a thread of its own.
+    static COMPARED: Cell<usize> = const { Cell::new(0) };
+}
+
+/// An image up to this many sectors is compared whole after each call. Of a
+/// larger one the sectors near the recorded ones, some more in turn, and the
+/// whole at the end.
+const COMPARED_WHOLE: usize = 64;
+
+pub struct Pair {
+    model: Station,
+    core: Core,
+    block: Vec<u8>,
+    core_block: Guarded,
+    case: Option<usize>,
+    shift: usize,
+    turn: usize,
+    pub outcomes: Outcomes,
+}
+
+/// What was lent, for the report: the buffers that are small.
+struct Before {
+    kinds: Vec<u8>,
+    ledger: Vec<u8>,
+    block: Vec<u8>,
+}
+
+impl Pair {
+    pub fn holding(station: &Station) -> Pair {
+        Pair::shifted(station, 0)
+    }
+
+    /// The core's buffers at addresses that vary with the shift.
+    pub fn shifted(station: &Station, shift: usize) -> Pair {
+        Pair {
+            model: station.clone(),
+            core: Core::holding(station, shift),
+            block: Vec::new(),
+            core_block: Guarded::holding(&[], shift),
+            case: None,
+            shift,
+            turn: 0,
+            outcomes: Outcomes::default(),
+        }
+    }
+
+    /// A pair that names its case where a difference shows.
+    pub fn of_case(station: &Station, case: usize) -> Pair {
+        let mut pair = Pair::shifted(station, case);
+        pair.case = Some(case);
+        pair
+    }
+
+    pub fn station(&self) -> &Station {
+        &self.model
+    }
+
+    pub fn block(&self) -> &[u8] {
+        &self.block
+    }
+
+    pub fn into_station(self) -> Station {
+        self.compare_whole();
+        self.model
+    }
+
+    /// Lends another ledger from now on.
+    pub fn lend_ledger(&mut self, ledger: &[u8]) {
+        if ledger.len() == self.model.ledger.len() {
+            self.core.ledger.copy_from_slice(ledger);
+        } else {
+            self.core.ledger = Guarded::holding(ledger, self.shift);
+        }
+        self.model.ledger.clear();
+        self.model.ledger.extend_from_slice(ledger);
+    }
+
+    /// Changes one sector of both discs.
+    pub fn put_sector(&mut self, block: u32, kind: u8, bytes: &[u8; SECTOR]) {
+        self.model.put_sector(block, kind, bytes);
+        self.core.kinds[block as usize] = kind;
+        self.core.image[block as usize * SECTOR..][..SECTOR].copy_from_slice(bytes);
+    }
+
+    /// Takes back what a call did: the sectors that it recorded and the ledger
+    /// become the given station's again.
+    pub fn take_back(&mut self, station: &Station) {
+        for (block, kind) in station.kinds.iter().enumerate() {
+            if self.model.kinds[block] != *kind {
+                self.put_sector(block as u32, *kind, station.sector(block as u32));
+            }
+        }
+        self.lend_ledger(&station.ledger);
+    }
+
+    /// The call with a copy of the block on either side. A difference ends the
+    /// test with all that is needed to see it again.
+    pub fn call(&mut self, call: Call, block: &[u8]) -> Answer {
+        let before = Before {
+            kinds: self.model.kinds.clone(),
+            ledger: self.model.ledger.clone(),
+            block: block.to_vec(),
+        };
+        self.lend_block(block);
+        let Station {
+            image,
+            kinds,
+            ledger,
+        } = &mut self.model;
+        let expected = perform(image, kinds, ledger, &mut self.block, call);
+        let answer = self.core.perform(call, &mut self.core_block);
+        if let Some(difference) = self.difference(expected, answer) {
+            panic!("{}", self.report(call, &before, &difference));
+        }
+        COMPARED.with(|count| count.set(count.get() + 1));
+        self.outcomes.count(call, expected);
+        expected
+    }
+
+    fn lend_block(&mut self, block: &[u8]) {
+        self.block.clear();
+        self.block.extend_from_slice(block);
+        if self.core_block.len() == block.len() {
+            self.core_block.copy_from_slice(block);
+        } else {
+            self.core_block = Guarded::holding(block, self.shift / 7);
+        }
+    }
+
+    fn difference(&mut self, expected: Answer, answer: u64) -> Option<String> {
+        if answer != expected.packed() {
+            let core = unpacked(answer);
+            return Some(format!("the model answers {expected:?}, the core {core:?}"));
+        }
+        let (model, core) = (&self.model, &self.core);
+        let struck = core.struck(&self.core_block);
+        struck
+            .map(|place| format!("the core wrote outside: {place}"))
+            .or_else(|| first_difference("ledger", 0, &model.ledger, &core.ledger))
+            .or_else(|| first_difference("kinds", 0, &model.kinds, &core.kinds))
+            .or_else(|| first_difference("block", 0, &self.block, &self.core_block))
+            .or_else(|| self.image_difference())
+    }
+
+    fn image_difference(&mut self) -> Option<String> {
+        let sectors = self.model.image.len() / SECTOR;
+        if sectors <= COMPARED_WHOLE {
+            return first_difference("image", 0, &self.model.image, &self.core.image);
+        }
+        self.turn += 1;
+        let recorded = self.model.kinds.iter().take_while(|kind| **kind != 0);
+        let near = recorded.count().saturating_sub(10);
+        let in_turn = 8 * self.turn % sectors;
+        [(near, 20), (in_turn, 8)]
+            .iter()
+            .find_map(|(first, count)| {
+                let window = first * SECTOR..sectors.min(first + count) * SECTOR;
+                let model = &self.model.image[window.clone()];
+                first_difference("image", window.start, model, &self.core.image[window])
+            })
+    }
+
+    /// Compares an image that was so far compared in parts.
+    pub fn compare_whole(&self) {
+        let difference = first_difference("image", 0, &self.model.image, &self.core.image);
+        if let Some(difference) = difference {
+            panic!("after the last call, {difference}");
+        }
+    }
+
+    fn report(&self, call: Call, before: &Before, difference: &str) -> String {
+        let mut text = format!("{difference}\nafter {call:?}");
+        if let Some(case) = self.case {
+            let _ = write!(text, "; STATION_SEED={} STATION_CASE={case}", seed());
+        }
+        let _ = write!(
+            text,
+            "\nlent: image {}, kinds {}, ledger {}, block {} bytes\nkinds {}\nledger {}\nblock {}",
+            self.model.image.len(),
+            before.kinds.len(),
+            before.ledger.len(),
+            before.block.len(),
+            hex(&before.kinds),
+            hex(&before.ledger),
+            hex(&before.block),
+        );
+        text
+    }
+}
+
+/// Says how many calls the test has compared.
+pub fn tell_compared(test: &str) {
+    println!("{test}: {} calls compared", COMPARED.get());
+}
+
+/// The first byte that differs, and what either side has there.
+fn first_difference(name: &str, start: usize, model: &[u8], core: &[u8]) -> Option<String> {
+    if model == core {
+        return None;
+    }
+    let at = (0..model.len()).find(|at| model[*at] != core[*at])?;
+    Some(format!(
+        "{name} byte {}: the model has {:02X}, the core {:02X}",
+        start + at,
+        model[at],
+        core[at]
+    ))
+}
+
+/// Bytes in hex, a run of one byte as its first and how often.
+fn hex(bytes: &[u8]) -> String {
+    let runs = bytes.chunk_by(|one, next| one == next);
+    let words = runs.map(|run| match run.len() {
+        1 => format!("{:02X}", run[0]),
+        count => format!("{:02X}x{count}", run[0]),
+    });
+    words.collect::<Vec<_>>().join(" ")
+}

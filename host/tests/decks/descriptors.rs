@@ -1,0 +1,219 @@
+//! ECMA-167 descriptors, as far as these tests look into them or alter them.
+//!
+//! Written from ECMA-167 and document 01 for these tests alone: neither the
+//! core nor the model has a part in it.
+
+use std::ops::Range;
+
+use station::SECTOR;
+
+/// An unused entry, or no previous table.
+pub const NONE: u32 = 0xFFFF_FFFF;
+
+/// Tag identifiers (ECMA-167 3/7.2.1 and 4/7.2.1).
+const PARTITION: u16 = 5;
+const LOGICAL_VOLUME: u16 = 6;
+const FILE_ENTRY: u16 = 261;
+const EXTENDED_FILE_ENTRY: u16 = 266;
+
+/// File types of a table: 0 in UDF 1.50, 248 from UDF 2.00 on.
+const VAT_TYPES: [u8; 2] = [0, 248];
+
+pub fn u16_at(bytes: &[u8], at: usize) -> u16 {
+    u16::from_le_bytes(bytes[at..at + 2].try_into().expect("two bytes"))
+}
+
+pub fn u32_at(bytes: &[u8], at: usize) -> u32 {
+    u32::from_le_bytes(bytes[at..at + 4].try_into().expect("four bytes"))
+}
+
+fn u64_at(bytes: &[u8], at: usize) -> u64 {
+    u64::from_le_bytes(bytes[at..at + 8].try_into().expect("eight bytes"))
+}
+
+pub fn put(bytes: &mut [u8], at: usize, field: &[u8]) {
+    bytes[at..at + field.len()].copy_from_slice(field);
+}
+
+/// The descriptor CRC (ECMA-167 3/7.2.6), by long division of the bits.
+fn crc(bytes: &[u8]) -> u16 {
+    let mut rest: u32 = 0;
+    for byte in bytes {
+        rest ^= u32::from(*byte) << 8;
+        for _ in 0..8 {
+            rest <<= 1;
+            if rest > 0xFFFF {
+                rest ^= 0x1_1021;
+            }
+        }
+    }
+    rest as u16
+}
+
+/// Sum of the tag's bytes without its own place (ECMA-167 3/7.2.3).
+fn tag_sum(sector: &[u8]) -> u8 {
+    let all: u32 = sector[..16].iter().map(|byte| u32::from(*byte)).sum();
+    (all - u32::from(sector[4])) as u8
+}
+
+/// Puts the right sums: the CRC over CRC-length bytes, and then the tag's.
+pub fn seal(sector: &mut [u8]) {
+    seal_over(sector, usize::from(u16_at(sector, 10)));
+}
+
+/// The same with a CRC over so many bytes, whatever the tag says of them.
+pub fn seal_over(sector: &mut [u8], length: usize) {
+    let sum = crc(&sector[16..16 + length]);
+    put(sector, 8, &sum.to_le_bytes());
+    sector[4] = tag_sum(sector);
+}
+
+/// Whether a tag with one of these identifiers and this location stands here.
+/// Its sum tells a tag from other bytes.
+fn is_tagged(sector: &[u8], identifiers: &[u16], location: usize) -> bool {
+    identifiers.contains(&u16_at(sector, 0))
+        && sector[4] == tag_sum(sector)
+        && u32_at(sector, 12) as usize == location
+}
+
+/// The partition: its first sector on the volume, and how many it has room for
+/// (ECMA-167 3/10.5, bytes 188 and 192).
+pub fn partition(volume: &[u8]) -> Range<usize> {
+    let mut sectors = volume.chunks_exact(SECTOR).enumerate();
+    let found = sectors.find(|(n, sector)| is_tagged(sector, &[PARTITION], *n));
+    let (_, descriptor) = found.expect("a partition descriptor");
+    let start = u32_at(descriptor, 188) as usize;
+    start..start + u32_at(descriptor, 192) as usize
+}
+
+/// Lets both logical volume descriptors name this virtual number as the place
+/// of the file set descriptor (ECMA-167 3/10.6.7: bytes 248 to 263 are the
+/// extent, bytes 252 to 255 its block; mkudffs names the virtual partition).
+pub fn name_file_set(volume: &mut [u8], number: u32) {
+    let mut named = 0;
+    for (n, sector) in volume.chunks_exact_mut(SECTOR).enumerate() {
+        if is_tagged(sector, &[LOGICAL_VOLUME], n) {
+            put(sector, 252, &number.to_le_bytes());
+            seal(sector);
+            named += 1;
+        }
+    }
+    assert_eq!(named, 2, "descriptors of the logical volume");
+}
+
+/// The file set descriptor under another name, to be recorded as this virtual
+/// number (ECMA-167 4/14.1). The name is a dstring of 32 bytes at byte 304; the
+/// tag location of what is read through a table is the virtual number.
+pub fn renamed_file_set(sector: &[u8], name: &str, number: u32) -> Vec<u8> {
+    let mut renamed = sector.to_vec();
+    let mut dstring = [0; 32];
+    dstring[0] = 8;
+    put(&mut dstring, 1, name.as_bytes());
+    dstring[31] = 1 + name.len() as u8;
+    put(&mut renamed, 304, &dstring);
+    put(&mut renamed, 12, &number.to_le_bytes());
+    seal(&mut renamed);
+    renamed
+}
+
+/// The blocks that hold a VAT ICB of any edition: a file entry of either form
+/// with a table's file type, tagged for the block where it stands.
+pub fn vat_icbs(image: &[u8]) -> Vec<usize> {
+    let forms = [FILE_ENTRY, EXTENDED_FILE_ENTRY];
+    let sectors = image.chunks_exact(SECTOR).enumerate();
+    let found = sectors.filter(|(block, sector)| {
+        is_tagged(sector, &forms, *block) && VAT_TYPES.contains(&sector[27])
+    });
+    found.map(|(block, _)| block).collect()
+}
+
+/// A table in a file entry, wherever it lies in its sector: behind the extended
+/// attributes. Lengths that leave the sector give an empty one.
+fn table(sector: &[u8]) -> &[u8] {
+    let start = 176 + u32_at(sector, 168) as usize;
+    let end = start + u32_at(sector, 172) as usize;
+    sector.get(start..end).unwrap_or_default()
+}
+
+/// The entries of a UDF 1.50 table; 36 bytes stand behind them.
+pub fn entries(sector: &[u8]) -> Vec<u32> {
+    let table = table(sector);
+    let entries = table
+        .chunks_exact(4)
+        .take(table.len().saturating_sub(36) / 4);
+    entries.map(|entry| u32_at(entry, 0)).collect()
+}
+
+/// Moves a file entry's table to byte 176 over its extended attributes and
+/// says so in its lengths and sums.
+pub fn without_attributes(sector: &[u8]) -> Vec<u8> {
+    let mut plain = sector[..176].to_vec();
+    let table = table(sector);
+    plain.extend_from_slice(table);
+    plain.resize(SECTOR, 0);
+    put(&mut plain, 10, &(160 + table.len() as u16).to_le_bytes());
+    put(&mut plain, 168, &0u32.to_le_bytes());
+    seal(&mut plain);
+    plain
+}
+
+/// Document 01's rows that a file entry at this block does not keep, by name.
+/// The table's own rows are read where its attributes end, so that attributes
+/// count once, in their own row.
+pub fn rows_not_kept(sector: &[u8], block: usize) -> Vec<&'static str> {
+    let mut rows = Vec::from(tag_rows(sector, block));
+    rows.extend(entry_rows(sector));
+    rows.extend(table_rows(sector, block));
+    let not_kept = rows.into_iter().filter(|(_, kept)| !kept);
+    not_kept.map(|(row, _)| row).collect()
+}
+
+type Row = (&'static str, bool);
+
+/// Bytes 0 to 15.
+fn tag_rows(sector: &[u8], block: usize) -> [Row; 7] {
+    let length = usize::from(u16_at(sector, 10));
+    let described = 160 + u64::from(u32_at(sector, 168)) + u64::from(u32_at(sector, 172));
+    [
+        ("tag identifier", u16_at(sector, 0) == FILE_ENTRY),
+        ("descriptor version", u16_at(sector, 2) == 2),
+        ("tag sum", sector[4] == tag_sum(sector)),
+        ("zero byte 5", sector[5] == 0),
+        ("CRC", u16_at(sector, 8) == crc(&sector[16..16 + length])),
+        ("CRC length", length as u64 == described),
+        ("tag location", u32_at(sector, 12) as usize == block),
+    ]
+}
+
+/// Bytes 20 to 171.
+fn entry_rows(sector: &[u8]) -> [Row; 6] {
+    let length = u64::from(u32_at(sector, 172));
+    [
+        ("strategy", u16_at(sector, 20) == 4),
+        ("file type", sector[27] == 0),
+        ("flags", u16_at(sector, 34) & 7 == 3),
+        ("link count", u16_at(sector, 48) == 0),
+        ("information length", u64_at(sector, 56) == length),
+        ("attribute length", u32_at(sector, 168) == 0),
+    ]
+}
+
+/// The table: entries, regid, previous block.
+fn table_rows(sector: &[u8], block: usize) -> [Row; 3] {
+    let table = table(sector);
+    let count = table.len().saturating_sub(36) / 4;
+    let regid = 4 * count;
+    let text = table.get(regid + 1..regid + 24).unwrap_or_default();
+    let previous = table.get(regid + 32..).unwrap_or_default();
+    let mut blocks = entries(sector);
+    blocks.extend(previous.chunks_exact(4).map(|entry| u32_at(entry, 0)));
+    let below = |b: &u32| *b == NONE || (*b as usize) < block;
+    [
+        (
+            "table length",
+            count <= 458 && table.len() == 4 * count + 36,
+        ),
+        ("regid text", text == b"*UDF Virtual Alloc Tbl\0"),
+        ("entries and previous", blocks.iter().all(below)),
+    ]
+}

@@ -1,0 +1,149 @@
+//! A volume as the station sees it: the partition's sectors are the disc, and
+//! what stands in front of them (recognition, volume descriptors, anchor) is
+//! kept only to hand the whole to another reader.
+
+use station::{Refusal, LEDGER, SECTOR};
+
+use super::descriptors::{partition, u32_at, NONE};
+
+const BLANK: u8 = 0;
+const DATA: u8 = 1;
+
+/// What a blank sector's bytes are here. They mean nothing, and links keep
+/// them; so they are no zeros, which readers like to take for an end.
+const UNRECORDED: u8 = 0xA5;
+
+/// What a lost ledger holds: begin and mount do not read it.
+const LOST: u8 = 0xEE;
+
+#[derive(Clone)]
+pub struct Disc {
+    front: Vec<u8>,
+    pub image: Vec<u8>,
+    pub kinds: Vec<u8>,
+    pub ledger: Vec<u8>,
+}
+
+impl Disc {
+    /// The partition of a volume, all of it data; no sector is blank.
+    pub fn of_volume(volume: &[u8]) -> Disc {
+        let (front, image) = volume.split_at(partition(volume).start * SECTOR);
+        assert_eq!(image.len() % SECTOR, 0, "whole sectors");
+        Disc {
+            front: front.to_vec(),
+            image: image.to_vec(),
+            kinds: vec![DATA; image.len() / SECTOR],
+            ledger: vec![LOST; LEDGER],
+        }
+    }
+
+    /// The same with so many blank sectors behind.
+    pub fn with_blank(mut self, sectors: usize) -> Disc {
+        let all = self.kinds.len() + sectors;
+        self.kinds.resize(all, BLANK);
+        self.image.resize(all * SECTOR, UNRECORDED);
+        self
+    }
+
+    /// The disc when only its first sectors were recorded, and the ledger is
+    /// lost: what a power cut leaves.
+    pub fn cut_to(&self, recorded: usize) -> Disc {
+        let mut disc = self.clone();
+        disc.kinds[recorded..].fill(BLANK);
+        disc.image[recorded * SECTOR..].fill(UNRECORDED);
+        disc.ledger.fill(LOST);
+        disc
+    }
+
+    /// The whole volume up to the last recorded sector, where other readers
+    /// expect the table.
+    pub fn volume(&self) -> Vec<u8> {
+        let end = self.recorded() * SECTOR;
+        [&self.front, &self.image[..end]].concat()
+    }
+
+    /// The first sector of the partition on the volume.
+    pub fn start(&self) -> usize {
+        self.front.len() / SECTOR
+    }
+
+    pub fn recorded(&self) -> usize {
+        self.kinds.iter().filter(|kind| **kind != BLANK).count()
+    }
+
+    pub fn sector(&self, block: usize) -> &[u8] {
+        &self.image[block * SECTOR..(block + 1) * SECTOR]
+    }
+
+    pub fn set_sector(&mut self, block: usize, bytes: &[u8]) {
+        self.image[block * SECTOR..(block + 1) * SECTOR].copy_from_slice(bytes);
+    }
+
+    /// The ledger's map below its size: "458 map entries, then size, recorded,
+    /// last table, mode, each 32 bits".
+    pub fn map(&self) -> Vec<u32> {
+        let size = u32_at(&self.ledger, 1832) as usize;
+        (0..size).map(|v| u32_at(&self.ledger, 4 * v)).collect()
+    }
+
+    /// The ledger's last table.
+    pub fn last_vat(&self) -> Option<usize> {
+        let block = u32_at(&self.ledger, 1840);
+        (block != NONE).then_some(block as usize)
+    }
+
+    pub fn begin(&mut self) -> Result<(), Refusal> {
+        station::begin(&self.image, &self.kinds, &mut self.ledger)
+    }
+
+    /// Whether the disc is clean.
+    pub fn mount(&mut self) -> Result<bool, Refusal> {
+        station::mount(&self.image, &self.kinds, &mut self.ledger)
+    }
+
+    pub fn look_back(&mut self, k: u32) -> Result<usize, Refusal> {
+        let block = station::look_back(&self.image, &self.kinds, &mut self.ledger, k)?;
+        Ok(block as usize)
+    }
+
+    /// What the mounted table shows for v.
+    pub fn read(&self, v: u32) -> Result<Vec<u8>, Refusal> {
+        let mut block = vec![0; SECTOR];
+        station::read(&self.image, &self.kinds, &self.ledger, v, &mut block)?;
+        Ok(block)
+    }
+
+    /// Records a block as number v; the block's place.
+    pub fn write(&mut self, v: u32, block: &[u8]) -> usize {
+        let Disc {
+            image,
+            kinds,
+            ledger,
+            ..
+        } = self;
+        match station::write(image, kinds, ledger, v, block) {
+            Ok(block) => block as usize,
+            Err(refusal) => panic!("write {v} is refused: {}", refusal.number()),
+        }
+    }
+
+    /// The table's place.
+    pub fn commit(&mut self) -> usize {
+        match station::commit(&mut self.image, &mut self.kinds, &mut self.ledger) {
+            Ok(block) => block as usize,
+            Err(refusal) => panic!("commit is refused: {}", refusal.number()),
+        }
+    }
+
+    pub fn release(&mut self, v: u32) {
+        if let Err(refusal) = station::release(&self.image, &self.kinds, &mut self.ledger, v) {
+            panic!("release {v} is refused: {}", refusal.number());
+        }
+    }
+
+    pub fn close_packet(&mut self) {
+        if let Err(refusal) = station::close_packet(&self.image, &self.kinds, &mut self.ledger) {
+            panic!("close packet is refused: {}", refusal.number());
+        }
+    }
+}

@@ -1,0 +1,265 @@
+//! The largest disc, 360,000 sectors, and a walk back through 360,000 tables.
+//!
+//! There is one image of 737 MB. Before each call the model says what the call
+//! is to do; then the core makes it, on a thread with a stack of 256 KiB that
+//! does nothing else; then the answer, ledger, kinds, block and the sectors
+//! recorded are compared, and the whole image at the end of each part.
+
+mod common;
+
+use std::thread;
+
+use common::core::{unpacked, Core, Short};
+use common::guarded::Guarded;
+use common::station::{done, refused};
+use station_model::answer::{Answer, Refusal};
+use station_model::calls::{effect, Call, Effect, Lent};
+use station_model::disc::{Sector, DATA, LINK, MOST_SECTORS, UNREADABLE};
+use station_model::ledger::{Volume, LEDGER};
+use station_model::table::{vat_sector, NONE, SECTOR};
+
+/// "every call runs on a 256 KiB stack"
+const STACK: usize = 256 * 1024;
+
+const SECTORS: u32 = MOST_SECTORS as u32;
+
+/// One sector more than a disc may have is there, and as a rule not lent.
+const ONE_SECTOR: Short = Short {
+    image: SECTOR,
+    kinds: 1,
+    ledger: 0,
+};
+
+struct FullSize {
+    core: Core,
+    block: Guarded,
+    compared: usize,
+}
+
+impl FullSize {
+    fn blank() -> FullSize {
+        let core = Core {
+            image: Guarded::zeros((MOST_SECTORS + 1) * SECTOR, 0),
+            kinds: Guarded::zeros(MOST_SECTORS + 1, 0),
+            ledger: Guarded::zeros(LEDGER, 0),
+        };
+        FullSize {
+            core,
+            block: Guarded::holding(&[0x5A; SECTOR], 0),
+            compared: 0,
+        }
+    }
+
+    fn kinds(&mut self) -> &mut [u8] {
+        &mut self.core.kinds[..MOST_SECTORS]
+    }
+
+    fn put_sector(&mut self, block: u32, bytes: &[u8; SECTOR]) {
+        self.core.image[block as usize * SECTOR..][..SECTOR].copy_from_slice(bytes);
+    }
+
+    fn lend_ledger(&mut self, edit: impl FnOnce(&mut Volume)) {
+        let mut volume = self.core.volume();
+        edit(&mut volume);
+        self.core.ledger.copy_from_slice(&volume.to_bytes());
+    }
+
+    /// What the model says that the call is to do.
+    fn expected(&self, call: Call, short: Short) -> Result<Effect, Refusal> {
+        let lent = Lent {
+            image: &self.core.image[..self.core.image.len() - short.image],
+            kinds: &self.core.kinds[..self.core.kinds.len() - short.kinds],
+            ledger: &self.core.ledger,
+            block: &self.block,
+        };
+        effect(&lent, call)
+    }
+
+    fn on_a_small_stack(&mut self, call: Call, short: Short) -> Answer {
+        let (core, block) = (&mut self.core, &mut self.block);
+        let answer = thread::scope(|scope| {
+            let small = thread::Builder::new().stack_size(STACK);
+            let made = small.spawn_scoped(scope, || core.perform_short(call, block, short));
+            made.expect("a thread").join().expect("an answer")
+        });
+        unpacked(answer)
+    }
+
+    fn call(&mut self, call: Call) -> Answer {
+        self.call_short(call, ONE_SECTOR)
+    }
+
+    fn call_short(&mut self, call: Call, short: Short) -> Answer {
+        let expected = self.expected(call, short);
+        let mut kinds = self.core.kinds.to_vec();
+        let mut ledger = self.core.ledger.to_vec();
+        let mut block = self.block.to_vec();
+        let answer = self.on_a_small_stack(call, short);
+        match &expected {
+            Err(refusal) => assert_eq!(answer, Answer::refused(*refusal), "{call:?}"),
+            Ok(effect) => {
+                assert_eq!(answer, Answer::done(effect.second), "{call:?}");
+                ledger = effect.volume.to_bytes().to_vec();
+                block = effect.shown.as_ref().map_or(block, |shown| shown.to_vec());
+                self.compare_sectors(&mut kinds, &effect.sectors);
+            }
+        }
+        assert!(self.core.kinds[..] == kinds, "kinds after {call:?}");
+        assert!(self.core.ledger[..] == ledger, "ledger after {call:?}");
+        assert!(self.block[..] == block, "block after {call:?}");
+        assert_eq!(self.core.struck(&self.block), None, "{call:?}");
+        self.compared += 1;
+        answer
+    }
+
+    /// Puts the kinds of the recorded sectors in and compares their bytes.
+    fn compare_sectors(&self, kinds: &mut [u8], sectors: &[Sector]) {
+        let first = kinds.iter().take_while(|kind| **kind != 0).count();
+        for (block, sector) in (first..).zip(sectors) {
+            match sector {
+                Sector::Link => kinds[block] = LINK,
+                Sector::Data(bytes) => {
+                    kinds[block] = DATA;
+                    let core = &self.core.image[block * SECTOR..][..SECTOR];
+                    assert!(core == &bytes[..], "bytes of block {block}");
+                }
+            }
+        }
+    }
+
+    /// Every sector of the image, the one that is not lent too.
+    fn compare_image(&self, expected: impl Fn(u32) -> [u8; SECTOR]) {
+        let sectors = self.core.image.as_chunks::<SECTOR>().0;
+        for (block, bytes) in (0..).zip(sectors) {
+            assert!(*bytes == expected(block), "bytes of block {block}");
+        }
+    }
+}
+
+/// "more than 360,000": one more is refused before anything is read.
+fn one_sector_too_many(disc: &mut FullSize) {
+    for call in every_call() {
+        assert_eq!(disc.call_short(call, Short::default()), refused(1));
+    }
+}
+
+fn every_call() -> [Call; 8] {
+    [
+        Call::Begin,
+        Call::Mount,
+        Call::Write(0),
+        Call::Release(0),
+        Call::ClosePacket,
+        Call::Commit,
+        Call::Read(0),
+        Call::LookBack(0),
+    ]
+}
+
+/// A block and a table at the start, and what is shown of them.
+fn recorded_at_the_start(disc: &mut FullSize) {
+    assert_eq!(disc.call(Call::Begin), done(0));
+    assert_eq!(disc.call(Call::Write(0)), done(0));
+    assert_eq!(disc.call(Call::Commit), done(1));
+    assert_eq!(disc.call(Call::Mount), done(1));
+    assert_eq!(disc.call(Call::LookBack(0)), done(1));
+    assert_eq!(disc.call(Call::LookBack(1)), refused(9));
+    assert_eq!(disc.call(Call::Read(0)), done(0));
+    assert_eq!(disc.call(Call::Begin), refused(6));
+}
+
+/// Data up to the sixteenth sector before the end: room for seven links, a
+/// write and its reserve, and for no second write.
+fn recorded_at_the_end(disc: &mut FullSize) {
+    disc.kinds()[2..MOST_SECTORS - 16].fill(DATA);
+    assert_eq!(disc.call(Call::Mount), done(0));
+    assert_eq!(disc.call(Call::LookBack(0)), done(1));
+    assert_eq!(disc.call(Call::Mount), done(0));
+    assert_eq!(disc.call(Call::Write(1)), done(SECTORS - 9));
+    assert_eq!(disc.call(Call::Write(2)), refused(14));
+    assert_eq!(disc.call(Call::Release(0)), done(0));
+    assert_eq!(disc.call(Call::Read(1)), done(0));
+    assert_eq!(disc.call(Call::Commit), done(SECTORS - 8));
+    assert_eq!(disc.call(Call::ClosePacket), done(0));
+    assert_eq!(disc.call(Call::Commit), refused(14));
+    assert_eq!(disc.call(Call::Mount), done(1));
+    assert_eq!(disc.call(Call::LookBack(1)), done(1));
+}
+
+/// A kind above 3 in the last sector, and a gap before it.
+fn broken_at_the_end(disc: &mut FullSize) {
+    for kind in [4, DATA] {
+        disc.kinds()[MOST_SECTORS - 1] = kind;
+        for call in every_call() {
+            assert_eq!(disc.call(call), refused(3));
+        }
+    }
+    disc.kinds()[MOST_SECTORS - 1] = 0;
+}
+
+/// 360,000 tables, each naming the one before.
+fn chain(disc: &mut FullSize) {
+    for block in 0..SECTORS {
+        disc.put_sector(block, &link_of_the_chain(block));
+    }
+    disc.kinds().fill(DATA);
+    assert_eq!(disc.call(Call::Mount), done(1));
+    assert_eq!(disc.call(Call::LookBack(SECTORS - 1)), done(0));
+    assert_eq!(disc.call(Call::LookBack(SECTORS)), refused(9));
+    assert_eq!(disc.call(Call::LookBack(NONE)), refused(9));
+    assert_eq!(disc.call(Call::Begin), refused(6));
+    assert_eq!(disc.call(Call::Mount), done(1));
+    assert_eq!(disc.call(Call::Write(0)), refused(14));
+    assert_eq!(disc.call(Call::Commit), refused(14));
+    assert_eq!(disc.call(Call::Release(0)), refused(10));
+    assert_eq!(disc.call(Call::Read(0)), refused(10));
+    assert_eq!(disc.call(Call::ClosePacket), done(0));
+}
+
+fn link_of_the_chain(block: u32) -> [u8; SECTOR] {
+    vat_sector(block, &[], block.checked_sub(1).unwrap_or(NONE))
+}
+
+/// The oldest table cannot be read: the last step names no table.
+fn broken_chain(disc: &mut FullSize) {
+    disc.kinds()[0] = UNREADABLE;
+    assert_eq!(disc.call(Call::LookBack(SECTORS - 2)), done(1));
+    assert_eq!(disc.call(Call::LookBack(SECTORS - 1)), refused(8));
+    assert_eq!(disc.call(Call::LookBack(NONE)), refused(8));
+}
+
+/// One table in block 0 and data behind it: the search goes through the disc.
+fn table_in_the_first_sector(disc: &mut FullSize) {
+    disc.kinds().fill(UNREADABLE);
+    disc.kinds()[0] = DATA;
+    assert_eq!(disc.call(Call::Mount), done(0));
+    disc.kinds()[0] = LINK;
+    assert_eq!(disc.call(Call::Mount), refused(7));
+    assert_eq!(disc.call(Call::Begin), done(0));
+    disc.lend_ledger(|volume| volume.mode = 1);
+    assert_eq!(disc.call(Call::Commit), refused(4));
+}
+
+#[test]
+fn a_disc_of_360_000_sectors() {
+    let mut disc = FullSize::blank();
+    one_sector_too_many(&mut disc);
+    recorded_at_the_start(&mut disc);
+    recorded_at_the_end(&mut disc);
+    broken_at_the_end(&mut disc);
+    disc.compare_image(|block| match block {
+        0 => [0x5A; SECTOR],
+        1 => vat_sector(1, &[0], NONE),
+        _ if block == SECTORS - 9 => [0x5A; SECTOR],
+        _ if block == SECTORS - 8 => vat_sector(block, &[NONE, SECTORS - 9], 1),
+        _ => [0; SECTOR],
+    });
+    chain(&mut disc);
+    broken_chain(&mut disc);
+    table_in_the_first_sector(&mut disc);
+    disc.compare_image(|block| match block {
+        SECTORS => [0; SECTOR],
+        _ => link_of_the_chain(block),
+    });
+    println!("{} calls compared at full size", disc.compared);
+}

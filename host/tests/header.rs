@@ -1,0 +1,119 @@
+//! The C header: a C program that includes it is compiled against the archive
+//! and run; C++ takes it too; its numbers are the crate's.
+
+use std::path::{Path, PathBuf};
+use std::process::Command;
+
+use station::Refusal;
+
+/// The folder of the archive that this package links.
+const ARCHIVE: &str = env!("STATION_ARCHIVE_FOLDER");
+
+const REFUSALS: [Refusal; 15] = [
+    Refusal::DiscSize,
+    Refusal::LentLength,
+    Refusal::DiscUnsound,
+    Refusal::LedgerUnfit,
+    Refusal::ReadOnly,
+    Refusal::VatExists,
+    Refusal::NoVat,
+    Refusal::ChainBroken,
+    Refusal::ChainEnded,
+    Refusal::NotInUse,
+    Refusal::Unreadable,
+    Refusal::AboveSize,
+    Refusal::AboveLimit,
+    Refusal::NoRoom,
+    Refusal::WouldBeVat,
+];
+
+fn package() -> &'static Path {
+    Path::new(env!("CARGO_MANIFEST_DIR"))
+}
+
+/// A file that only the test needs.
+fn scratch(name: &str) -> PathBuf {
+    Path::new(env!("CARGO_TARGET_TMPDIR")).join(name)
+}
+
+/// Runs the command and gives what it said; it must succeed.
+fn run(command: &mut Command) -> String {
+    let output = command.output().expect("the command is there");
+    let said = String::from_utf8_lossy(&output.stdout).into_owned();
+    let complaint = String::from_utf8_lossy(&output.stderr);
+    assert!(output.status.success(), "{command:?}: {said}{complaint}");
+    said
+}
+
+/// A strict compiler that finds the header.
+fn compiler(name: &str, standard: &str) -> Command {
+    let mut compiler = Command::new(name);
+    compiler.arg(standard);
+    compiler.args(["-pedantic", "-Wall", "-Wextra", "-Werror"]);
+    compiler.arg("-I").arg(package().join("include"));
+    compiler
+}
+
+#[test]
+fn a_c_program_records_and_mounts() {
+    let program = scratch("record");
+    let mut compile = compiler("cc", "-std=c99");
+    compile.arg(package().join("tests/c/record.c"));
+    compile.arg(Path::new(ARCHIVE).join("libstation.a"));
+    run(compile.arg("-o").arg(&program));
+    let said = run(&mut Command::new(program));
+    assert_eq!(said, "recorded, mounted, read and looked back\n");
+}
+
+/// The header twice in one file: in C, and in C++ where there is a compiler.
+#[test]
+fn the_header_alone() {
+    let text = "#include \"station.h\"\n#include \"station.h\"\n";
+    for (name, standard, file) in [
+        ("cc", "-std=c99", "twice.c"),
+        ("c++", "-std=c++11", "twice.cpp"),
+    ] {
+        if name == "c++" && Command::new(name).arg("--version").output().is_err() {
+            println!("not tried: there is no c++");
+            continue;
+        }
+        std::fs::write(scratch(file), text).expect("a file beside the tests");
+        let mut check = compiler(name, standard);
+        run(check.arg("-fsyntax-only").arg(scratch(file)));
+    }
+}
+
+#[test]
+fn the_header_has_the_crates_numbers() {
+    let header = std::fs::read_to_string(package().join("include/station.h")).expect("the header");
+    let constants = [
+        ("SECTOR", station::SECTOR.to_string()),
+        ("LEDGER", station::LEDGER.to_string()),
+        ("MOST_SECTORS", station::MOST_SECTORS.to_string()),
+        ("LIMIT", station::LIMIT.to_string()),
+        ("UNUSED", format!("0x{:X}u", station::UNUSED)),
+    ];
+    for (name, value) in constants {
+        let line = format!("#define STATION_{name} {value} ");
+        assert!(header.contains(&line), "{line}");
+    }
+    for refusal in REFUSALS {
+        let line = format!("    STATION_{} = {}", c_name(refusal), refusal.number());
+        let found = header
+            .lines()
+            .any(|held| held.trim_end_matches(',') == line);
+        assert!(found, "{line}");
+    }
+}
+
+/// `DiscSize` is DISC_SIZE in C.
+fn c_name(refusal: Refusal) -> String {
+    let mut name = String::new();
+    for letter in format!("{refusal:?}").chars() {
+        if letter.is_uppercase() && !name.is_empty() {
+            name.push('_');
+        }
+        name.push(letter.to_ascii_uppercase());
+    }
+    name
+}

@@ -1,0 +1,118 @@
+//! Every wrong length of image, kinds, ledger and block, alone and together, on
+//! the core and on the model, compared.
+
+mod common;
+
+use common::built::{saved, BLOCK};
+use common::pair::{tell_compared, Pair};
+use common::station::Station;
+use station_model::calls::Call;
+use station_model::ledger::LEDGER;
+use station_model::table::SECTOR;
+
+/// Right, none, one less, one more, and doubled.
+fn lengths(right: usize) -> [usize; 5] {
+    [right, 0, right - 1, right + 1, 2 * right]
+}
+
+fn resized(bytes: &[u8], length: usize) -> Vec<u8> {
+    let mut resized = bytes.to_vec();
+    resized.resize(length, 0);
+    resized
+}
+
+const CALLS: [Call; 8] = [
+    Call::Begin,
+    Call::Mount,
+    Call::Write(0),
+    Call::Release(0),
+    Call::ClosePacket,
+    Call::Commit,
+    Call::Read(0),
+    Call::LookBack(0),
+];
+
+/// All eight calls with the station's buffers at each length; a kind that no
+/// disc has, or a spoiled ledger, shows that the lower refusal is given.
+fn at_each_length(station: &Station) {
+    for image in lengths(station.image.len()) {
+        for kinds in lengths(station.kinds.len()) {
+            for ledger in lengths(LEDGER) {
+                let lent = Station {
+                    image: resized(&station.image, image),
+                    kinds: resized(&station.kinds, kinds),
+                    ledger: resized(&station.ledger, ledger),
+                };
+                with_each_block(&lent);
+            }
+        }
+    }
+}
+
+fn with_each_block(lent: &Station) {
+    for call in CALLS {
+        for block in lengths(SECTOR) {
+            let mut pair = Pair::shifted(lent, block);
+            pair.call(call, &resized(&BLOCK, block));
+        }
+    }
+}
+
+#[test]
+fn lengths_of_a_good_station() {
+    at_each_length(&saved(19));
+    tell_compared("lengths_of_a_good_station");
+}
+
+#[test]
+fn lengths_of_a_disc_of_one_sector() {
+    at_each_length(&Station::begun(1));
+    tell_compared("lengths_of_a_disc_of_one_sector");
+}
+
+#[test]
+fn lengths_beside_higher_refusals() {
+    let mut unsound = saved(12);
+    unsound.kinds[5] = 9;
+    at_each_length(&unsound);
+    let mut unfit = saved(12);
+    unfit.change(|volume| volume.mode = 3);
+    at_each_length(&unfit);
+    tell_compared("lengths_beside_higher_refusals");
+}
+
+/// Every length of the ledger and of a block up to beyond the right one.
+#[test]
+fn every_length_of_ledger_and_block() {
+    let station = saved(19);
+    for length in 0..=2050 {
+        let mut pair = Pair::holding(&station);
+        for call in [Call::Write(1), Call::Read(0)] {
+            pair.call(call, &resized(&BLOCK, length));
+        }
+        pair.lend_ledger(&resized(&station.ledger, length));
+        for call in CALLS {
+            pair.call(call, &BLOCK);
+        }
+    }
+    tell_compared("every_length_of_ledger_and_block");
+}
+
+/// Image lengths about every multiple of a sector.
+#[test]
+fn every_length_of_a_small_image() {
+    let station = saved(12);
+    for image in 0..3 * SECTOR {
+        for kinds in [0, 1, 2, 3] {
+            let lent = Station {
+                image: station.image[..image].to_vec(),
+                kinds: station.kinds[..kinds].to_vec(),
+                ledger: station.ledger.clone(),
+            };
+            let mut pair = Pair::holding(&lent);
+            pair.call(Call::ClosePacket, &[]);
+            pair.call(Call::Begin, &[]);
+        }
+    }
+    tell_compared("every_length_of_a_small_image");
+}

@@ -1,0 +1,200 @@
+//! Random calls on random small discs, on the core and on the model: the answer
+//! and every byte afterwards are compared after each call.
+//!
+//! STATION_SEED names another seed, STATION_CASE one case of it.
+
+mod common;
+
+use common::forge;
+use common::pair::Pair;
+use common::random::{cases, Random};
+use common::station::Station;
+use common::tally::Outcomes;
+use station_model::calls::Call;
+use station_model::ledger::{LEDGER, READ_ONLY};
+use station_model::table::SECTOR;
+
+/// A disc of a few sectors, so that comparing it is cheap: blank, used, with
+/// tables, or with chains of them.
+fn small_disc(random: &mut Random) -> Station {
+    let sectors = match random.below(8) {
+        0 => 1 + random.below(12),
+        1 => 50 + random.below(14),
+        _ => 12 + random.below(28),
+    };
+    let mut station = match random.below(6) {
+        0..=1 => Station::blank(sectors),
+        2 => forge::used_disc(random, sectors),
+        3 => forge::disc_of_chains(random, sectors),
+        _ => forge::used_disc_with_vats(random, sectors),
+    };
+    random.fill(&mut station.ledger);
+    station
+}
+
+/// A call with the block that it needs.
+fn one_call(pair: &mut Pair, random: &mut Random) {
+    let station = pair.station();
+    let call = forge::call(random, forge::size_in(&station.ledger), 3);
+    let recorded = station.kinds.iter().take_while(|kind| **kind != 0).count();
+    let block = match call {
+        Call::Write(_) => forge::block(random, &station.image, recorded as u32),
+        Call::Read(_) => vec![random.next() as u8; SECTOR],
+        _ => Vec::new(),
+    };
+    pair.call(call, &block);
+}
+
+/// Begin or mount, whichever is done on this disc.
+fn open(pair: &mut Pair) {
+    if !pair.call(Call::Mount, &[]).is_done() {
+        pair.call(Call::Begin, &[]);
+    }
+}
+
+/// Calls one after another on what the one before has left; now and then the
+/// disc is opened again, and before some calls the ledger is another.
+fn list(case: usize) -> Outcomes {
+    let mut random = Random::of_case(case);
+    let disc = small_disc(&mut random);
+    let mut pair = Pair::of_case(&disc, case);
+    open(&mut pair);
+    for _ in 0..60 {
+        let looking = pair.station().volume().mode == READ_ONLY;
+        match random.below(40) {
+            0 => open(&mut pair),
+            1 => other_ledger(&mut pair, &mut random),
+            2 => with_an_odd_kind(&mut pair, &mut random),
+            3..=13 if looking => open(&mut pair),
+            _ => one_call(&mut pair, &mut random),
+        }
+    }
+    pair.outcomes
+}
+
+/// A call with a ledger that fits or nearly fits, or that holds anything; then
+/// the one before is lent again.
+fn other_ledger(pair: &mut Pair, random: &mut Random) {
+    let before = pair.station().ledger.clone();
+    let disc = pair.station().disc();
+    let ledger = match random.below(4) {
+        0 => forge::spoiled(random, &before),
+        1 => {
+            let fitting = forge::fitting(random, &disc).to_bytes();
+            forge::spoiled(random, &fitting)
+        }
+        _ => forge::lost_ledger(random, &disc, &before),
+    };
+    let recorded = disc.recorded();
+    pair.lend_ledger(&ledger);
+    one_call(pair, random);
+    if pair.station().disc().recorded() == recorded {
+        pair.lend_ledger(&before);
+    }
+}
+
+/// A call while one sector has another kind, also one that no disc has.
+fn with_an_odd_kind(pair: &mut Pair, random: &mut Random) {
+    let at = random.below(pair.station().kinds.len()) as u32;
+    let kind = pair.station().kinds[at as usize];
+    let bytes = *pair.station().sector(at);
+    let odd = random.pick(&[0, 1, 2, 3, 4, 5, 128, 255]);
+    pair.put_sector(at, odd, &bytes);
+    let before = pair.station().kinds.clone();
+    one_call(pair, random);
+    if pair.station().kinds == before {
+        pair.put_sector(at, kind, &bytes);
+    }
+}
+
+/// Every call is lent another ledger: one that fits, one that nearly does, or
+/// random bytes.
+fn any_ledgers(case: usize) -> Outcomes {
+    let mut random = Random::of_case(case);
+    let disc = small_disc(&mut random);
+    let mut pair = Pair::of_case(&disc, case);
+    for _ in 0..60 {
+        let fitting = forge::fitting(&mut random, &pair.station().disc()).to_bytes();
+        let ledger = match random.below(8) {
+            0 => random.bytes(LEDGER),
+            1..=3 => forge::spoiled(&mut random, &fitting),
+            _ => fitting.to_vec(),
+        };
+        pair.lend_ledger(&ledger);
+        one_call(&mut pair, &mut random);
+    }
+    pair.outcomes
+}
+
+/// One call on buffers of any lengths and contents.
+fn any_lengths(case: usize) -> Outcomes {
+    let mut random = Random::of_case(case);
+    let mut station = match random.below(2) {
+        0 => Station::blank(1 + random.below(12)),
+        _ => {
+            let sectors = 1 + random.below(6);
+            forge::used_disc_with_vats(&mut random, sectors)
+        }
+    };
+    station.ledger = forge::fitting(&mut random, &station.disc())
+        .to_bytes()
+        .to_vec();
+    let call = forge::call(&mut random, forge::size_in(&station.ledger), 2);
+    let mut block = random.bytes(SECTOR);
+    match random.below(5) {
+        0 => station.image = other_length(&mut random, &station.image),
+        1 => station.kinds = other_length(&mut random, &station.kinds),
+        2 => station.ledger = other_length(&mut random, &station.ledger),
+        3 => block = other_length(&mut random, &block),
+        _ => random.fill(&mut station.kinds),
+    }
+    let mut pair = Pair::of_case(&station, case);
+    pair.call(call, &block);
+    pair.outcomes
+}
+
+/// None, one less, one more, half, doubled, or any length up to that.
+fn other_length(random: &mut Random, bytes: &[u8]) -> Vec<u8> {
+    let length = bytes.len();
+    let any = random.below(2 * length + 1);
+    let lengths = [0, length - 1, length + 1, length / 2, 2 * length, any];
+    let mut other = bytes.to_vec();
+    other.resize(random.pick(&lengths), 0);
+    other
+}
+
+/// All cases of a kind; of the outcomes that they aim at, each call met each
+/// that it has a hundred times.
+fn run(count: usize, case: fn(usize) -> Outcomes, aimed_at: &[usize]) {
+    let mut outcomes = Outcomes::default();
+    let cases = cases(count);
+    let all = cases.len() == count;
+    for number in cases {
+        outcomes.add(&case(number));
+    }
+    println!("{outcomes}");
+    assert!(!all || outcomes.cover(aimed_at, 100), "{outcomes}");
+}
+
+#[test]
+fn lists_of_calls() {
+    run(
+        20_000,
+        list,
+        &[0, 3, 4, 5, 6, 7, 8, 9, 10, 11, 12, 13, 14, 15],
+    );
+}
+
+#[test]
+fn calls_with_any_ledgers() {
+    run(
+        20_000,
+        any_ledgers,
+        &[0, 4, 5, 6, 7, 8, 9, 10, 11, 12, 13, 14, 15],
+    );
+}
+
+#[test]
+fn calls_with_any_lengths() {
+    run(200_000, any_lengths, &[1, 2, 3]);
+}
