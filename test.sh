@@ -78,7 +78,7 @@ archive() {
 }
 
 host_tests() {
-    cargo test --release --offline --manifest-path host/Cargo.toml
+    cargo test --release --offline --manifest-path host/Cargo.toml -p station -p station-cli
 }
 
 set_up

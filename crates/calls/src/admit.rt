@@ -7,10 +7,11 @@ use vat::table::LIMIT;
 use vat::table::SECTOR;
 use vat::table::UNUSED;
 ghost use mathlib.Core.Path.{_≡_};
+ghost use mathlib.Core.Bool.{true};
 ghost use mathlib.Core.Option.{some};
 ghost use Rattle.disc.specs.declared.Walk.the-variants.{Reached};
 ghost use Rattle.disc.specs.Disc.{lent, recorded};
-ghost use Rattle.disc.specs.Tables.{newest};
+ghost use Rattle.disc.specs.Tables.{tableAt, newest};
 ghost use Rattle.recorder.specs.Calls.{begin, mount, write, release, closePacket, commit, read, lookBack};
 ghost use Rattle.recorder.specs.Refusals.{walked, outcome};
 
@@ -50,7 +51,7 @@ pub fn mount(image: &[u8], kinds: &[u8], ledger: &[u8]) -> Plan
 }
 
 pub fn look_back(image: &[u8], kinds: &[u8], ledger: &[u8], k: u32) -> Plan
-    ensures { λ r. ⌜ (r .outcome ≡ outcome (lent (now (image .entry)) (now (kinds .entry))) (now (ledger .entry)) (lookBack k)) × (r .outcome ≡ 0 → (r .recorded ≡ recorded (lent (now (image .entry)) (now (kinds .entry)))) × (walked (lent (now (image .entry)) (now (kinds .entry))) k ≡ Reached (r .block))) ⌝ }
+    ensures { λ r. ⌜ (r .outcome ≡ outcome (lent (now (image .entry)) (now (kinds .entry))) (now (ledger .entry)) (lookBack k)) × (r .outcome ≡ 0 → (r .recorded ≡ recorded (lent (now (image .entry)) (now (kinds .entry)))) × (walked (lent (now (image .entry)) (now (kinds .entry))) k ≡ Reached (r .block)) × (tableAt (lent (now (image .entry)) (now (kinds .entry))) (r .block) ≡ true)) ⌝ }
 {
     let plan = mount(image, kinds, ledger);
     if plan.outcome != 0 {

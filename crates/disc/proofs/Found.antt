@@ -12,10 +12,10 @@ use lib.ListN.{length, getD, take, drop, length-drop}
 use lib.Seq.{length-take-le}
 use borrow.Author.Tests.{eq-eqb, ne-eqb, ltb-true, ltb-false}
 use Rattle.le.specs.Bytes.{every}
-use Rattle.le.specs.Field.{readLe, words}
+use Rattle.le.specs.Field.{readLe, holds, words}
 use Rattle.le.proofs.Runs.{words-none}
 use Rattle.tag.specs.Tag.{sealed}
-use Rattle.vat.specs.Table.{sectorLength, unused, unusedOrBelow, entryCount, entriesOf, framed, isTable}
+use Rattle.vat.specs.Table.{sectorLength, unused, plainRows, unusedOrBelow, entryCount, entriesOf, framed, isTable}
 use Rattle.vat.proofs.Frame.{word-taken}
 use Rattle.vat.proofs.Theorems.{recognised}
 use Rattle.disc.specs.declared.Walk.{Walk}
@@ -103,6 +103,10 @@ module _ (kind : ℕ) (s : List ℕ) (b : ℕ) where
       let rest : Bool = every (unusedOrBelow b) (entriesOf s) && sealed s in
       let f : Bool = framed s b (entryCount s) in
       and-false (eqb kind 1) (eqb (length s) sectorLength && (f && rest)) (and-false (eqb (length s) sectorLength) (f && rest) (ap (λ (t : Bool). t && rest) e))
+
+  pub untagged : eqb (readLe 2 s 0) 261 ≡ false → isTable kind s b ≡ false
+  unfolding framed holds plainRows
+  untagged e = not-framed (rw e)
 
   pub not-held : every (unusedOrBelow b) (entriesOf s) ≡ false → isTable kind s b ≡ false
   unfolding isTable

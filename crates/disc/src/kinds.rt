@@ -64,16 +64,20 @@ fn larger(a: u8, b: u8) -> u8
     a
 }
 
-// By the least and the largest kind, with no early exit, so that many kinds are tested at once.
+// By the least and the largest kind, with no early exit, so that many kinds are tested at once; both halves in one loop, which halves its turns. Of an
+// odd count the middle one is tested twice.
 fn every_recorded(kinds: &[u8]) -> bool
     ensures { λ r. ⌜ r ≡ every (λ k. ltb 0 k && leb k 3) (now (kinds .entry)) ⌝ }
 {
+    let half = kinds.len() / 2;
+    let turns = kinds.len() - half;
     let mut least: u8 = 1;
     let mut most: u8 = 1;
     let mut i: usize = 0;
-    while i < kinds.len() {
-        least = smaller(least, kinds[i]);
-        most = larger(most, kinds[i]);
+    while i < turns {
+        let j = half + i;
+        least = smaller(least, smaller(kinds[i], kinds[j]));
+        most = larger(most, larger(kinds[i], kinds[j]));
         i += 1;
     }
     (0 < least) & (most <= 3)
@@ -82,10 +86,13 @@ fn every_recorded(kinds: &[u8]) -> bool
 fn every_blank(kinds: &[u8]) -> bool
     ensures { λ r. ⌜ r ≡ every (λ k. eqb k 0) (now (kinds .entry)) ⌝ }
 {
+    let half = kinds.len() / 2;
+    let turns = kinds.len() - half;
     let mut most: u8 = 0;
     let mut i: usize = 0;
-    while i < kinds.len() {
-        most = larger(most, kinds[i]);
+    while i < turns {
+        let j = half + i;
+        most = larger(most, larger(kinds[i], kinds[j]));
         i += 1;
     }
     most == 0

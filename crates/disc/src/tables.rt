@@ -43,6 +43,9 @@ pub fn newest(image: &[u8], kinds: &[u8], recorded: u32) -> u32
         let at = SECTOR * place;
         let end = at + SECTOR;
         let s = &image[at..end];
+        if !vat::table::tagged(s) {
+            continue 'scan;
+        }
         if !vat::table::framed(s, b) {
             continue 'scan;
         }

@@ -1,9 +1,10 @@
 // A table sector, recognised and read.
 ghost use mathlib.Core.Path.{_≡_};
 ghost use Prim.Native.Nat.{_+_, _*_, _≤_, _<_};
+ghost use lib.Dec.{eqb};
 ghost use lib.ListN.{length};
 ghost use Rattle.le.specs.Bytes.{every};
-ghost use Rattle.le.specs.Field.{holds, words};
+ghost use Rattle.le.specs.Field.{readLe, holds, words};
 ghost use Rattle.vat.specs.Table.{sectorLength, limit, tableAt, plainRows, lengthRows, unusedOrBelow, entryCount, entryOf, previousOf, framed, isTable};
 
 pub const SECTOR: usize = 2048;
@@ -77,6 +78,14 @@ pub fn may_name(b: u32, x: u32) -> bool
     ensures { λ r. ⌜ r ≡ unusedOrBelow b x ⌝ }
 {
     (x < b) | (x == UNUSED)
+}
+
+// The tag identifier alone: nearly every sector that is no table is known by it, at once.
+pub fn tagged(s: &[u8]) -> bool
+    requires { ⌜ length (now s) ≡ sectorLength ⌝ }
+    ensures { λ r. ⌜ r ≡ eqb (readLe 2 (now (s .entry)) 0) 261 ⌝ }
+{
+    le::read16(s, 0) == 261
 }
 
 // All but the entries and the two sums.

@@ -17,7 +17,7 @@ use Rattle.volume.specs.Volume.{filled}
 use Rattle.disc.specs.declared.Walk.the-variants.{Reached}
 use Rattle.recorder.specs.Refusals.{walked}
 use Rattle.recorder.specs.Calls.{lookBack}
-use Rattle.recorder.proofs.Done.{ledger-accepted, look-back-done, walked-table, shown-fits}
+use Rattle.recorder.proofs.Done.{ledger-accepted, look-back-done, shown-fits}
 use Rattle.calls.proofs.Left.{refused-left, look-back-left}
 use borrow.Author.Needs.{needs}
 use Rattle.station.proofs.station_look_back.Statement.{statement}
@@ -65,7 +65,7 @@ show-requires c κs =
     let e = c .before in
     let s = e .before .before .before .before .before .before .before in
     let b : ℕ = e .before .before .look-back .result .block in
-    let t = shown-fits (D s) b (look-back-done (D s) (L s) (s .args .k) (done e) .0) (walked-table (D s) (s .args .k) b (found e)) in
+    let t = shown-fits (D s) b (look-back-done (D s) (L s) (s .args .k) (done e) .0) (e .before .before .look-back .ensures .1 (e .if1 .left) .2) in
     (ledger-accepted (D s) (L s) (lookBack (s .args .k)) (done e), t .0, t .1)
 
 cast-result : tie.Need-cast-result

@@ -19,7 +19,7 @@ use mathlib.Core.Option.{some}
 use Rattle.disc.specs.declared.Walk.{Walk}
 use Rattle.disc.specs.declared.Walk.the-variants.{Reached, Broken, Ended}
 use Rattle.disc.specs.Tables.{tableAt, previousAt, newest, walk}
-use Rattle.disc.proofs.Found.{newest-table}
+use Rattle.disc.proofs.Found.{newest-table, walk-table}
 use Rattle.recorder.specs.Refusals.{walkFrom, walked}
 use Rattle.recorder.proofs.Done.{mount-done}
 use Rattle.calls.proofs.Outcomes.{look-back-stopped, look-back-8, look-back-9, look-back-0}
@@ -79,7 +79,10 @@ returns-2 c =
     let e = c .before .before .before .before in
     let s = e .before .before .before .before .before .before in
     let way : walked (D s) (s .args .k) ≡ Reached (c .before .block .given .0 .0) = went (c .before .before .before) ∙ c .before .block .given .1 in
-    (sym (look-back-0 (D s) (L s) (s .args .k) (c .before .block .given .0 .0) (done e) way), λ z. (e .before .before .mount .ensures .1 (e .if1 .left) .0, way))
+    let m : ℕ = e .before .before .mount .result .block in
+    let reached : walk (tableAt (D s)) (previousAt (D s)) (s .args .k) m ≡ Reached (c .before .block .given .0 .0) = sym (c .before .before .before .walk-back .ensures) ∙ c .before .block .given .1 in
+    let table = walk-table (tableAt (D s)) (previousAt (D s)) (s .args .k) m (c .before .block .given .0 .0) reached (newest-table (tableAt (D s)) (recorded (D s)) m (found e)) in
+    (sym (look-back-0 (D s) (L s) (s .args .k) (c .before .block .given .0 .0) (done e) way), λ z. (e .before .before .mount .ensures .1 (e .if1 .left) .0, way, table))
 
 returns-3 : tie.Need-returns-3
 returns-3 c =

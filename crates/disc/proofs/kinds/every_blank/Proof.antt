@@ -1,31 +1,43 @@
--- `disc::kinds::every_blank` meets its contract: the largest so far, and the kinds that are left, make the answer.
+-- `disc::kinds::every_blank` meets its contract: the largest so far, and what is left of both halves, make the answer.
 -- Assumes nothing.
-use Prim.Native.Nat.{ℕ, _+_, _-_, _≤_}
+use Prim.Native.Nat.{ℕ, _+_, _-_, _/_, _≤_}
 use native.Mathlib.Omega.{arith}
-use mathlib.Core.Path.{_≡_, refl, sym, ap, _∙_}
-use mathlib.Core.Bool.{Bool, _&&_, and-true}
+use mathlib.Core.Path.{_≡_, sym, ap, _∙_}
+use mathlib.Core.Bool.{Bool, true, _&&_}
 use mathlib.Core.List.{List}
 use lib.Dec.{eqb}
-use lib.ListN.{length, getD, drop, drop-of-length-le}
+use lib.ListN.{length, getD}
 use Rattle.le.specs.Bytes.{every}
-use Rattle.disc.proofs.Order.{kind-taken}
+use Rattle.disc.proofs.Order.{leftOf, pair-taken, all-left, none-left}
 use Rattle.disc.proofs.kinds.every_blank.Statement.{statement}
 use Rattle.disc.proofs.kinds.every_blank.Tie as tie
 
 abbrev Inv-loop : tie.InvT-loop
-Inv-loop kinds most₀ i₀ most i = (i ≤ length kinds) × ((eqb most 0 && every (λ k. eqb k 0) (drop i kinds)) ≡ every (λ k. eqb k 0) kinds)
+Inv-loop kinds half turns most₀ i₀ most i = (i ≤ turns) × (leftOf (λ k. eqb k 0) kinds half turns i (eqb most 0) ≡ every (λ k. eqb k 0) kinds)
 
 abbrev μ-loop : tie.MeasureT-loop
-μ-loop kinds most₀ i₀ most i = length kinds - i
+μ-loop kinds half turns most₀ i₀ most i = turns - i
+
+sub-turns : tie.Need-sub-turns Inv-loop μ-loop
+sub-turns c = omega arith
 
 loop-holds : tie.Need-loop-holds Inv-loop μ-loop
-loop-holds c = (omega arith, refl)
+loop-holds c = (omega arith, let ks : List ℕ = c .before .args .kinds .now in all-left (λ k. eqb k 0) ks (length ks / 2) (length ks - length ks / 2) (omega arith))
+
+add-j : tie.Need-add-j Inv-loop μ-loop
+add-j c = omega arith
 
 shared-slice-read-larger : tie.Need-shared-slice-read-larger Inv-loop μ-loop
 shared-slice-read-larger c = omega arith
 
+shared-slice-read-larger-2 : tie.Need-shared-slice-read-larger-2 Inv-loop μ-loop
+shared-slice-read-larger-2 c = omega arith
+
 larger-requires : tie.Need-larger-requires Inv-loop μ-loop
 larger-requires c κs = tt
+
+larger-requires-2 : tie.Need-larger-requires-2 Inv-loop μ-loop
+larger-requires-2 c κs = tt
 
 add-i : tie.Need-add-i Inv-loop μ-loop
 add-i c = omega arith
@@ -35,20 +47,24 @@ loop-less c = omega arith
 
 loop-again : tie.Need-loop-again Inv-loop μ-loop
 loop-again c =
-    let at = c .before .before .before in
-    let ks : List ℕ = at .before .before .args .kinds .now in
-    let i : ℕ = at .loop .i in (
+    let ks : List ℕ = c .before .before .before .before .before .before .before .args .kinds .now in
+    let half : ℕ = length ks / 2 in
+    let turns : ℕ = length ks - half in
+    let l = c .before .before .before .before .before .loop in
+    let x : ℕ = getD ks (l .i) 0 in
+    let y : ℕ = getD ks (half + l .i) 0 in
+    let most : eqb (c .larger2 .result) 0 ≡ (eqb (l .most) 0 && (eqb x 0 && eqb y 0)) = c .larger2 .ensures .1 ∙ ap (λ (t : Bool). eqb (l .most) 0 && t) (c .before .larger .ensures .1) in (
       omega arith,
-      ap (λ (t : Bool). t && every (λ k. eqb k 0) (drop (i + 1) ks)) (c .larger .ensures .1)
-          ∙ kind-taken (eqb (at .loop .most) 0) (λ k. eqb k 0) ks i (omega arith)
-          ∙ at .loop .inv .1,
+      ap (leftOf (λ k. eqb k 0) ks half turns (l .i + 1)) most ∙ pair-taken (λ k. eqb k 0) ks half turns (l .i) (eqb (l .most) 0) (omega arith) (omega arith) ∙ l .inv .1,
     )
 
 returns : tie.Need-returns Inv-loop μ-loop
-unfolding every
 returns c =
-    let at = c .before in
-    sym (and-true (eqb (at .loop .most) 0)) ∙ rw (drop-of-length-le (at .before .before .args .kinds .now) (c .loop-test .left)) at (at .loop .inv .1)
+    let ks : List ℕ = c .before .before .before .args .kinds .now in
+    let half : ℕ = length ks / 2 in
+    let turns : ℕ = length ks - half in
+    let l = c .before .loop in
+    sym (none-left (λ k. eqb k 0) ks half turns (l .i) (eqb (l .most) 0) (omega arith) (omega arith)) ∙ l .inv .1
 
 pub every-blank-spec : {M : Type 1} → statement M
 every-blank-spec =
@@ -56,9 +72,13 @@ every-blank-spec =
     (tie.spec
     Inv-loop
     μ-loop
+    sub-turns
     loop-holds
+    add-j
     shared-slice-read-larger
+    shared-slice-read-larger-2
     larger-requires
+    larger-requires-2
     add-i
     loop-less
     loop-again

@@ -15,7 +15,7 @@ use Rattle.vat.proofs.Frame.{Framed, framed-tells}
 use Rattle.disc.specs.Disc.{Disc, lent, kindAt}
 use Rattle.disc.specs.Tables.{tableAt, blockFound, newestBelow}
 use Rattle.disc.proofs.Recording.{sized-tells}
-use Rattle.disc.proofs.Found.{part-sector, sector-end, sector-long, other-kind, not-framed, not-held, all-but-sums, word-fails, word-passes, words-passed, none-below, scan-on, scan-ends}
+use Rattle.disc.proofs.Found.{part-sector, sector-end, sector-long, other-kind, untagged, not-framed, not-held, all-but-sums, word-fails, word-passes, words-passed, none-below, scan-on, scan-ends}
 use Rattle.disc.proofs.tables.newest.Statement.{statement}
 use Rattle.disc.proofs.tables.newest.Tie as tie
 
@@ -59,24 +59,24 @@ on c e = (
   scan-on (tableAt (D c)) (c .before .scan .b) (newestBelow (tableAt (D c)) (c .before .before .before .before .args .recorded)) (omega arith) (here c false e) (c .before .scan .inv .1),
 )
 
-frame : (c : tie.Else3 Inv-loop μ-loop Inv-scan μ-scan) → framed (S (c .before .before .before .before .before)) (B (c .before .before .before .before .before)) (entryCount (S (c .before .before .before .before .before))) ≡ true
-frame c = sym (c .before .framed .ensures) ∙ not-false (c .before .framed .result) (c .if3 .left)
+frame : (c : tie.Else4 Inv-loop μ-loop Inv-scan μ-scan) → framed (S (c .before .before .before .before .before .before .before)) (B (c .before .before .before .before .before .before .before)) (entryCount (S (c .before .before .before .before .before .before .before))) ≡ true
+frame c = sym (c .before .framed .ensures) ∙ not-false (c .before .framed .result) (c .if4 .left)
 
-told : (c : tie.Else3 Inv-loop μ-loop Inv-scan μ-scan) → Framed (S (c .before .before .before .before .before)) (B (c .before .before .before .before .before)) (entryCount (S (c .before .before .before .before .before)))
-told c = framed-tells (S (c .before .before .before .before .before)) (B (c .before .before .before .before .before)) (entryCount (S (c .before .before .before .before .before))) (frame c)
+told : (c : tie.Else4 Inv-loop μ-loop Inv-scan μ-scan) → Framed (S (c .before .before .before .before .before .before .before)) (B (c .before .before .before .before .before .before .before)) (entryCount (S (c .before .before .before .before .before .before .before)))
+told c = framed-tells (S (c .before .before .before .before .before .before .before)) (B (c .before .before .before .before .before .before .before)) (entryCount (S (c .before .before .before .before .before .before .before))) (frame c)
 
 -- the entry that was read
 named : (c : tie.After-may-name Inv-loop μ-loop Inv-scan μ-scan)
-    → c .may-name .result ≡ unusedOrBelow (B (c .before .before .before .before .before .before .before .before .before .before)) (readLe 4 (S (c .before .before .before .before .before .before .before .before .before .before)) (c .before .before .before .loop .entry))
-named c = c .may-name .ensures ∙ ap (unusedOrBelow (B (c .before .before .before .before .before .before .before .before .before .before))) (c .before .read32 .ensures)
+    → c .may-name .result ≡ unusedOrBelow (B (c .before .before .before .before .before .before .before .before .before .before .before .before)) (readLe 4 (S (c .before .before .before .before .before .before .before .before .before .before .before .before)) (c .before .before .before .loop .entry))
+named c = c .may-name .ensures ∙ ap (unusedOrBelow (B (c .before .before .before .before .before .before .before .before .before .before .before .before))) (c .before .read32 .ensures)
 
 -- only the sums are left
-sums : (c : tie.After-loop Inv-loop μ-loop Inv-scan μ-scan) → isTable (kindAt (D (c .before .before .before .before .before .before .before .before)) (B (c .before .before .before .before .before .before .before .before))) (S (c .before .before .before .before .before .before .before .before)) (B (c .before .before .before .before .before .before .before .before)) ≡ sealed (S (c .before .before .before .before .before .before .before .before))
+sums : (c : tie.After-loop Inv-loop μ-loop Inv-scan μ-scan) → isTable (kindAt (D (c .before .before .before .before .before .before .before .before .before .before)) (B (c .before .before .before .before .before .before .before .before .before .before))) (S (c .before .before .before .before .before .before .before .before .before .before)) (B (c .before .before .before .before .before .before .before .before .before .before)) ≡ sealed (S (c .before .before .before .before .before .before .before .before .before .before))
 sums c =
-    let e = c .before .before .before .before .before .before .before .before in
+    let e = c .before .before .before .before .before .before .before .before .before .before in
     let l = c .before .loop in
     let passed : every (unusedOrBelow (B e)) (words (l .left) (S e) (l .entry)) ≡ true = words-passed (unusedOrBelow (B e)) (l .left) (S e) (l .entry) (omega arith) in
-    all-but-sums (kindAt (D e) (B e)) (S e) (B e) (c .before .before .before .before .before .before .if2 .left) (whole e) (frame (c .before .before .before)) (sym (l .inv .1) ∙ passed)
+    all-but-sums (kindAt (D e) (B e)) (S e) (B e) (c .before .before .before .before .before .before .before .before .if2 .left) (whole e) (frame (c .before .before .before)) (sym (l .inv .1) ∙ passed)
 
 scan-holds : tie.Need-scan-holds Inv-loop μ-loop Inv-scan μ-scan
 scan-holds c = (omega arith, refl)
@@ -111,8 +111,8 @@ part-s-start c = omega arith
 part-s-end : tie.Need-part-s-end Inv-loop μ-loop Inv-scan μ-scan
 part-s-end c = let e = c .before .before in omega (arith, sector-end (D e) (sized-tells (D e) (e .before .before .before .before .pre .0)) (B e) (within e))
 
-framed-requires : tie.Need-framed-requires Inv-loop μ-loop Inv-scan μ-scan
-framed-requires c κs = whole (c .before .before .before)
+tagged-requires : tie.Need-tagged-requires Inv-loop μ-loop Inv-scan μ-scan
+tagged-requires c κs = whole (c .before .before .before)
 
 scan-less-2 : tie.Need-scan-less-2 Inv-loop μ-loop Inv-scan μ-scan
 scan-less-2 c = omega arith
@@ -120,33 +120,44 @@ scan-less-2 c = omega arith
 scan-again-2 : tie.Need-scan-again-2 Inv-loop μ-loop Inv-scan μ-scan
 scan-again-2 c =
     let e = c .before .before .before .before .before in
-    on e (not-framed (kindAt (D e) (B e)) (S e) (B e) (sym (c .before .framed .ensures) ∙ not-true (c .before .framed .result) (c .if3 .taken)))
+    on e (untagged (kindAt (D e) (B e)) (S e) (B e) (sym (c .before .tagged .ensures) ∙ not-true (c .before .tagged .result) (c .if3 .taken)))
 
-entry-count-requires : tie.Need-entry-count-requires Inv-loop μ-loop Inv-scan μ-scan
-entry-count-requires c κs = whole (c .before .before .before .before .before)
-
-loop-holds : tie.Need-loop-holds Inv-loop μ-loop Inv-scan μ-scan
-unfolding entriesOf
-loop-holds c =
-    let e = c .before .before .before .before .before .before in (
-      omega (arith, c .entry-count .ensures, told (c .before) .few),
-      ap (λ (n : ℕ). every (unusedOrBelow (B e)) (words n (S e) 176)) (c .entry-count .ensures),
-    )
-
-read32-requires : tie.Need-read32-requires Inv-loop μ-loop Inv-scan μ-scan
-read32-requires c κs = omega (arith, c .before .loop .inv .0, whole (c .before .before .before .before .before .before .before .before))
-
-may-name-requires : tie.Need-may-name-requires Inv-loop μ-loop Inv-scan μ-scan
-may-name-requires c κs = tt
+framed-requires : tie.Need-framed-requires Inv-loop μ-loop Inv-scan μ-scan
+framed-requires c κs = whole (c .before .before .before .before .before)
 
 scan-less-3 : tie.Need-scan-less-3 Inv-loop μ-loop Inv-scan μ-scan
 scan-less-3 c = omega arith
 
 scan-again-3 : tie.Need-scan-again-3 Inv-loop μ-loop Inv-scan μ-scan
 scan-again-3 c =
-    let e = c .before .before .before .before .before .before .before .before .before .before .before in
+    let e = c .before .before .before .before .before .before .before in
+    on e (not-framed (kindAt (D e) (B e)) (S e) (B e) (sym (c .before .framed .ensures) ∙ not-true (c .before .framed .result) (c .if4 .taken)))
+
+entry-count-requires : tie.Need-entry-count-requires Inv-loop μ-loop Inv-scan μ-scan
+entry-count-requires c κs = whole (c .before .before .before .before .before .before .before)
+
+loop-holds : tie.Need-loop-holds Inv-loop μ-loop Inv-scan μ-scan
+unfolding entriesOf
+loop-holds c =
+    let e = c .before .before .before .before .before .before .before .before in (
+      omega (arith, c .entry-count .ensures, told (c .before) .few),
+      ap (λ (n : ℕ). every (unusedOrBelow (B e)) (words n (S e) 176)) (c .entry-count .ensures),
+    )
+
+read32-requires : tie.Need-read32-requires Inv-loop μ-loop Inv-scan μ-scan
+read32-requires c κs = omega (arith, c .before .loop .inv .0, whole (c .before .before .before .before .before .before .before .before .before .before))
+
+may-name-requires : tie.Need-may-name-requires Inv-loop μ-loop Inv-scan μ-scan
+may-name-requires c κs = tt
+
+scan-less-4 : tie.Need-scan-less-4 Inv-loop μ-loop Inv-scan μ-scan
+scan-less-4 c = omega arith
+
+scan-again-4 : tie.Need-scan-again-4 Inv-loop μ-loop Inv-scan μ-scan
+scan-again-4 c =
+    let e = c .before .before .before .before .before .before .before .before .before .before .before .before .before in
     let l = c .before .before .before .before .loop in
-    let wrong : unusedOrBelow (B e) (readLe 4 (S e) (l .entry)) ≡ false = sym (named (c .before)) ∙ not-true (c .before .may-name .result) (c .if4 .taken) in
+    let wrong : unusedOrBelow (B e) (readLe 4 (S e) (l .entry)) ≡ false = sym (named (c .before)) ∙ not-true (c .before .may-name .result) (c .if5 .taken) in
     on e (not-held (kindAt (D e) (B e)) (S e) (B e) (sym (l .inv .1) ∙ word-fails (unusedOrBelow (B e)) (l .left) (S e) (l .entry) (omega arith) wrong))
 
 add-entry : tie.Need-add-entry Inv-loop μ-loop Inv-scan μ-scan
@@ -160,19 +171,19 @@ loop-less c = omega arith
 
 loop-again : tie.Need-loop-again Inv-loop μ-loop Inv-scan μ-scan
 loop-again c =
-    let e = c .before .before .before .before .before .before .before .before .before .before .before in
+    let e = c .before .before .before .before .before .before .before .before .before .before .before .before .before in
     let l = c .before .before .before .before .loop in
-    let right : unusedOrBelow (B e) (readLe 4 (S e) (l .entry)) ≡ true = sym (named (c .before)) ∙ not-false (c .before .may-name .result) (c .if4 .left) in
+    let right : unusedOrBelow (B e) (readLe 4 (S e) (l .entry)) ≡ true = sym (named (c .before)) ∙ not-false (c .before .may-name .result) (c .if5 .left) in
     (omega (arith, l .inv .0), word-passes (unusedOrBelow (B e)) (l .left) (S e) (l .entry) (omega arith) right ∙ l .inv .1)
 
 sealed-requires : tie.Need-sealed-requires Inv-loop μ-loop Inv-scan μ-scan
-sealed-requires c κs = let e = c .before .before .before in omega (arith, whole (e .before .before .before .before .before), told e .few, told e .sized .summed)
+sealed-requires c κs = let e = c .before .before .before in omega (arith, whole (e .before .before .before .before .before .before .before), told e .few, told e .sized .summed)
 
-scan-less-4 : tie.Need-scan-less-4 Inv-loop μ-loop Inv-scan μ-scan
-scan-less-4 c = omega arith
+scan-less-5 : tie.Need-scan-less-5 Inv-loop μ-loop Inv-scan μ-scan
+scan-less-5 c = omega arith
 
-scan-again-4 : tie.Need-scan-again-4 Inv-loop μ-loop Inv-scan μ-scan
-scan-again-4 c = on (c .before .before .before .before .before .before .before .before .before .before) (sums (c .before .before) ∙ sym (c .before .sealed .ensures) ∙ c .if5 .left)
+scan-again-5 : tie.Need-scan-again-5 Inv-loop μ-loop Inv-scan μ-scan
+scan-again-5 c = on (c .before .before .before .before .before .before .before .before .before .before .before .before) (sums (c .before .before) ∙ sym (c .before .sealed .ensures) ∙ c .if6 .left)
 
 returns : tie.Need-returns Inv-loop μ-loop Inv-scan μ-scan
 returns c =
@@ -183,8 +194,8 @@ returns c =
 
 returns-2 : tie.Need-returns-2 Inv-loop μ-loop Inv-scan μ-scan
 returns-2 c =
-    let e = c .before .before .before .before .before .before .before .before .before .before in
-    let found : tableAt (D e) (B e) ≡ true = here e true (sums (c .before .before) ∙ sym (c .before .sealed .ensures) ∙ c .if5 .taken) in
+    let e = c .before .before .before .before .before .before .before .before .before .before .before .before in
+    let found : tableAt (D e) (B e) ≡ true = here e true (sums (c .before .before) ∙ sym (c .before .sealed .ensures) ∙ c .if6 .taken) in
     ap blockFound (sym (scan-ends (tableAt (D e)) (e .before .scan .b) (newestBelow (tableAt (D e)) (e .before .before .before .before .args .recorded)) (omega arith) found (e .before .scan .inv .1)))
 
 pub newest-spec : {M : Type 1} → statement M
@@ -206,21 +217,24 @@ newest-spec =
     sub-s
     part-s-start
     part-s-end
-    framed-requires
+    tagged-requires
     scan-less-2
     scan-again-2
+    framed-requires
+    scan-less-3
+    scan-again-3
     entry-count-requires
     loop-holds
     read32-requires
     may-name-requires
-    scan-less-3
-    scan-again-3
+    scan-less-4
+    scan-again-4
     add-entry
     sub-left
     loop-less
     loop-again
     sealed-requires
-    scan-less-4
-    scan-again-4
+    scan-less-5
+    scan-again-5
     returns
     returns-2)

@@ -1,0 +1,48 @@
+//! What an operator does about each refusal, in one sentence.
+
+use station::{Refusal, SECTOR};
+
+const MOUNT_ANEW: &str = "Mount the disc: its ledger file is damaged, and mount makes it anew.";
+const BLOCK_LENGTH: &str =
+    "Give a block of exactly 2048 bytes, or fill up a shorter one with --pad.";
+const FULL: &str = "Take another disc: this one is full, and its last finished save stays.";
+const FULL_FOR_WRITES: &str =
+    "Commit what is written and take another disc: a write leaves 8 sectors free.";
+
+/// The advice where the call makes no difference.
+pub fn of(refusal: Refusal) -> &'static str {
+    match refusal {
+        Refusal::DiscSize => "Give a disc file of 1 to 360,000 whole sectors.",
+        Refusal::LentLength => MOUNT_ANEW,
+        Refusal::DiscUnsound => {
+            "Take another copy of the disc file: no recorder leaves a disc like this one."
+        }
+        Refusal::LedgerUnfit => "Mount the disc first, or begin it if it has no save yet.",
+        Refusal::ReadOnly => "Mount the disc to stop looking back, and then record.",
+        Refusal::VatExists => "Mount the disc: it has a save already.",
+        Refusal::NoVat => "Begin the disc: it has no finished save.",
+        Refusal::ChainBroken => {
+            "Look back fewer steps: the saves before the broken one cannot be reached."
+        }
+        Refusal::ChainEnded => "Look back fewer steps: list shows how many saves there are.",
+        Refusal::NotInUse => "Choose a number that is in use: mount and look-back tell them.",
+        Refusal::Unreadable => {
+            "Look back to a save that has the number in another block, or drive the run again."
+        }
+        Refusal::AboveSize => "Write the size itself as the next new number, or one below it.",
+        Refusal::AboveLimit => "Write a number below 458 again, or take another disc.",
+        Refusal::NoRoom => FULL,
+        Refusal::WouldBeVat => {
+            "Change the block: as it is, the next mount would take it for a save."
+        }
+    }
+}
+
+/// The advice for a write, lent this block.
+pub fn of_write(refusal: Refusal, block: &[u8]) -> &'static str {
+    match refusal {
+        Refusal::LentLength if block.len() != SECTOR => BLOCK_LENGTH,
+        Refusal::NoRoom => FULL_FOR_WRITES,
+        _ => of(refusal),
+    }
+}

@@ -1,0 +1,160 @@
+//! A worked example that runs: document 01's disc of 31, then a power cut
+//! inside a commit, and the last finished save after it.
+
+use std::env;
+use std::ffi::OsString;
+use std::fs;
+use std::io::ErrorKind;
+use std::path::{Path, PathBuf};
+use std::process;
+
+use crate::arguments::Arguments;
+use crate::calls::Done;
+use crate::commands::{run, say, Streams};
+use crate::failure::Failure;
+
+/// The disc file's name, as it is shown.
+const DISC: &str = "run.disc";
+
+/// One line of the demo.
+enum Step {
+    Remark(&'static str),
+    /// The words behind `station`.
+    Plain(&'static str),
+    /// A line of text, written as this number.
+    Write(u32, &'static str),
+    /// What this number reads, without the padding.
+    Read(u32),
+}
+
+use Step::{Plain, Read, Remark, Write};
+
+static STEPS: [Step; 31] = [
+    Remark("A blank disc of 31 sectors; two runs, three saves."),
+    Plain("new run.disc 31"),
+    Plain("begin run.disc"),
+    Write(0, "run A"),
+    Plain("commit run.disc"),
+    Write(1, "run B"),
+    Plain("release run.disc 0"),
+    Plain("commit run.disc"),
+    Plain("close run.disc"),
+    Plain("commit run.disc"),
+    Plain("list run.disc"),
+    Remark("Another run; the power fails inside its save, after 3 of 8 sectors."),
+    Write(0, "run C"),
+    Plain("close run.disc"),
+    Plain("cut 3 commit run.disc"),
+    Remark("The ledger is lost: nothing is shown before a mount."),
+    Read(1),
+    Remark("The mount shows the last finished save. Run C was never saved."),
+    Plain("mount run.disc"),
+    Read(1),
+    Read(0),
+    Remark("One commit makes the disc clean, for readers that look less far back."),
+    Plain("commit run.disc"),
+    Plain("list run.disc"),
+    Remark("The first save is still there."),
+    Plain("look-back run.disc 3"),
+    Read(0),
+    Write(0, "run D"),
+    Remark("Looking back changes nothing; a mount ends it."),
+    Plain("mount run.disc"),
+    Read(1),
+];
+
+impl Step {
+    /// What an operator types.
+    fn typed(&self) -> String {
+        match self {
+            Remark(text) => format!("# {text}"),
+            Plain(words) => format!("$ station {words}"),
+            Write(v, text) => format!("$ printf '{text}\\n' | station write {DISC} {v} --pad"),
+            Read(v) => format!("$ station read {DISC} {v} | tr -d '\\0'"),
+        }
+    }
+
+    /// What the program is given for it, and on standard input.
+    fn words(&self, folder: &Path) -> (Vec<OsString>, String) {
+        let (words, input) = match self {
+            Remark(_) => (String::new(), String::new()),
+            Plain(words) => (words.to_string(), String::new()),
+            Write(v, text) => (format!("write {DISC} {v} --pad"), format!("{text}\n")),
+            Read(v) => (format!("read {DISC} {v}"), String::new()),
+        };
+        let in_folder = |word: &str| match word {
+            DISC => folder.join(DISC).into_os_string(),
+            _ => word.into(),
+        };
+        (words.split_whitespace().map(in_folder).collect(), input)
+    }
+
+    /// What the terminal then shows: the answer, or the words of a refusal.
+    fn shown(&self, folder: &Path) -> Result<Vec<u8>, Failure> {
+        let (words, input) = self.words(folder);
+        let mut shown = Vec::new();
+        if words.is_empty() {
+            return Ok(shown);
+        }
+        let mut streams = Streams {
+            input: &mut input.as_bytes(),
+            output: &mut shown,
+        };
+        match run(&words, &mut streams) {
+            Err(refused @ Failure::Refused(..)) => shown.extend(refused.to_string().bytes()),
+            outcome => outcome?,
+        }
+        if matches!(self, Read(_)) {
+            shown.retain(|byte| *byte != 0);
+        }
+        Ok(shown)
+    }
+}
+
+pub fn demo(given: &Arguments, streams: &mut Streams) -> Done {
+    let Some(folder) = given.value("--keep").map(Path::new) else {
+        let temporary = Temporary::new()?;
+        return play(&temporary.0, streams);
+    };
+    fs::create_dir_all(folder).map_err(|error| Failure::unwritable(folder, error))?;
+    play(folder, streams)?;
+    say(
+        streams,
+        format!("# The files are in {}.\n", folder.display()),
+    )
+}
+
+fn play(folder: &Path, streams: &mut Streams) -> Done {
+    for step in &STEPS {
+        say(streams, format!("{}\n", step.typed()))?;
+        say(streams, step.shown(folder)?)?;
+    }
+    Ok(())
+}
+
+/// A folder that is removed with all that it holds.
+struct Temporary(PathBuf);
+
+impl Temporary {
+    fn new() -> Result<Temporary, Failure> {
+        let mut number = process::id();
+        loop {
+            let path = env::temp_dir().join(format!("station-demo-{number}"));
+            match fs::create_dir(&path) {
+                Ok(()) => return Ok(Temporary(path)),
+                // Left by a demo that was killed.
+                Err(error) if error.kind() == ErrorKind::AlreadyExists => {
+                    number = number.wrapping_add(1);
+                }
+                Err(error) => return Err(Failure::unwritable(&path, error)),
+            }
+        }
+    }
+}
+
+impl Drop for Temporary {
+    fn drop(&mut self) {
+        // The demo was shown; what cannot be removed does no harm.
+        let _ = fs::remove_dir_all(&self.0);
+    }
+}

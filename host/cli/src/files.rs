@@ -1,0 +1,183 @@
+//! Files: where the ledger lies, one command at a time in a folder, and
+//! replacing a file in one step.
+
+use std::ffi::OsString;
+use std::fs::{self, File, OpenOptions, Permissions};
+use std::io::{self, ErrorKind, Read, Write};
+use std::os::unix::fs::{OpenOptionsExt, PermissionsExt};
+use std::path::{Path, PathBuf};
+use std::process;
+
+use crate::failure::Failure;
+
+/// A disc file and its ledger, by their real names: a link to a disc file stays
+/// a link, and the ledger is the same whichever name the operator types.
+pub struct Place {
+    pub disc: PathBuf,
+    pub ledger: PathBuf,
+}
+
+impl Place {
+    pub fn of(disc: &Path) -> Result<Place, Failure> {
+        let real = fs::canonicalize(disc).map_err(|error| Failure::unreadable(disc, error))?;
+        let ledger = ledger_beside(&real);
+        Ok(Place { disc: real, ledger })
+    }
+
+    /// Whether a file is one of the two, by whatever name.
+    pub fn has(&self, file: &Path) -> bool {
+        fs::canonicalize(file).is_ok_and(|real| real == self.disc || real == self.ledger)
+    }
+}
+
+/// The disc file's name and `.ledger`.
+pub fn ledger_beside(disc: &Path) -> PathBuf {
+    with_suffix(disc, ".ledger")
+}
+
+fn with_suffix(path: &Path, suffix: &str) -> PathBuf {
+    let mut name = OsString::from(path);
+    name.push(suffix);
+    name.into()
+}
+
+/// The folder that a file is in; it need not exist yet.
+pub fn folder_of(path: &Path) -> &Path {
+    match path.parent() {
+        Some(folder) if folder != Path::new("") => folder,
+        _ => Path::new("."),
+    }
+}
+
+/// Waits until no other command works in the folder, and keeps others out until
+/// the answer is dropped. Without this, two commands at once could leave the
+/// disc of one with the ledger of the other, and the two might even fit. The
+/// folder is locked and not the disc file, which every recording replaces.
+pub fn lock_folder(folder: &Path) -> Result<File, Failure> {
+    let file = File::open(folder).map_err(|error| Failure::unreadable(folder, error))?;
+    match file.lock() {
+        Ok(()) => Ok(file),
+        Err(error) => Err(Failure::unwritable(folder, format!("no lock: {error}"))),
+    }
+}
+
+/// At most so many bytes of a file or of another source.
+pub fn read_at_most(source: &mut dyn Read, bytes: usize) -> io::Result<Vec<u8>> {
+    let mut read = Vec::new();
+    source.take(bytes as u64).read_to_end(&mut read)?;
+    Ok(read)
+}
+
+/// A file in the making: whole, on the disk, and without its name yet. A file is
+/// so made or replaced in one step: whenever the program or the computer stops,
+/// there is the old file or the new one, whole.
+pub struct Part {
+    path: PathBuf,
+    part: PathBuf,
+}
+
+impl Part {
+    /// Makes the file that is to stand at the path, with the permissions of the
+    /// one that is there.
+    pub fn make(
+        path: &Path,
+        fill: impl FnOnce(&mut File) -> io::Result<()>,
+    ) -> Result<Part, Failure> {
+        let unwritable = |error: io::Error| Failure::unwritable(path, error);
+        let kept = permissions(path).map_err(unwritable)?;
+        let (part, mut file) = new_part(path, kept.as_ref()).map_err(unwritable)?;
+        let made = Part {
+            path: path.to_path_buf(),
+            part,
+        };
+        let filled = fill(&mut file)
+            .and_then(|()| kept.map_or(Ok(()), |kept| file.set_permissions(kept)))
+            .and_then(|()| file.sync_all());
+        filled.map_err(unwritable)?;
+        Ok(made)
+    }
+
+    /// Gives the file its name, in place of the one that has it.
+    pub fn put_in_place(self) -> Result<(), Failure> {
+        let named = fs::rename(&self.part, &self.path).and_then(|()| sync_folder(&self.path));
+        named.map_err(|error| Failure::unwritable(&self.path, error))
+    }
+}
+
+impl Drop for Part {
+    fn drop(&mut self) {
+        // Only a file that was not put in place is still there.
+        let _ = fs::remove_file(&self.part);
+    }
+}
+
+/// Makes or replaces one file in one step.
+pub fn replace(path: &Path, fill: impl FnOnce(&mut File) -> io::Result<()>) -> Result<(), Failure> {
+    Part::make(path, fill)?.put_in_place()
+}
+
+/// Puts bytes where an operator asked for them. A link stays a link, and what is
+/// no file, such as a pipe or a device, is written to and not replaced.
+pub fn put(path: &Path, bytes: &[u8]) -> Result<(), Failure> {
+    let unwritable = |error: io::Error| Failure::unwritable(path, error);
+    match fs::metadata(path) {
+        Ok(about) if about.is_file() => {
+            let real = fs::canonicalize(path).map_err(unwritable)?;
+            replace(&real, |file| file.write_all(bytes))
+        }
+        Ok(_) => {
+            let opened = OpenOptions::new().write(true).open(path);
+            let written = opened.and_then(|mut file| file.write_all(bytes));
+            written.map_err(unwritable)
+        }
+        Err(_) => replace(path, |file| file.write_all(bytes)),
+    }
+}
+
+/// A new empty file beside the one that it is to replace: a rename is one step
+/// only within a folder. From the start nobody may read it who may not read the
+/// other.
+fn new_part(path: &Path, kept: Option<&Permissions>) -> io::Result<(PathBuf, File)> {
+    let mut options = OpenOptions::new();
+    options.write(true).create_new(true);
+    if let Some(kept) = kept {
+        options.mode(kept.mode());
+    }
+    let mut number = process::id();
+    loop {
+        let part = with_suffix(path, &format!(".{number}.part"));
+        match options.open(&part) {
+            Ok(file) => return Ok((part, file)),
+            // Left by a program that was killed.
+            Err(error) if error.kind() == ErrorKind::AlreadyExists => {
+                number = number.wrapping_add(1);
+            }
+            Err(error) => return Err(error),
+        }
+    }
+}
+
+/// Of the file at the path, if there is one.
+fn permissions(path: &Path) -> io::Result<Option<Permissions>> {
+    match fs::metadata(path) {
+        Ok(about) => Ok(Some(about.permissions())),
+        Err(error) if error.kind() == ErrorKind::NotFound => Ok(None),
+        Err(error) => Err(error),
+    }
+}
+
+/// Removes a file that may be missing.
+pub fn remove(path: &Path) -> Result<(), Failure> {
+    match fs::remove_file(path) {
+        Err(error) if error.kind() == ErrorKind::NotFound => Ok(()),
+        done => done
+            .and_then(|()| sync_folder(path))
+            .map_err(|error| Failure::unwritable(path, error)),
+    }
+}
+
+/// The names in the folder are on the disk too, so that of two renames the
+/// first is never lost without the second.
+fn sync_folder(path: &Path) -> io::Result<()> {
+    File::open(folder_of(path))?.sync_all()
+}

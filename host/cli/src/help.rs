@@ -1,0 +1,129 @@
+//! The texts of `--help`.
+
+pub const PROGRAM: &str = "\
+station: a write-once disc kept in a file, with numbered blocks and saves
+
+Usage: station COMMAND DISC ...
+
+  new DISC SECTORS      make a blank disc file
+  begin DISC            start a disc that has no save
+  mount DISC            find the last finished save and go on from it
+  write DISC V          record a block as number V
+  release DISC V        number V is no longer in use
+  close DISC            close the packet
+  commit DISC           save: record the table
+  read DISC V           the block that number V names
+  look-back DISC K      show the save K before the newest, looking only
+  list DISC             every save, newest first
+  cut J COMMAND ...     what a power cut leaves of a write or commit
+  demo                  a worked example
+
+'station COMMAND --help' tells more. '--version' tells the version.
+
+DISC is a file; its ledger is kept beside it in DISC.ledger. Until a commit,
+only the ledger knows where a written block lies.
+
+Exit status: 0 done; 1 to 15 the refusal's number; 64 wrong command line; 65
+the file is no disc; 66 a file cannot be read; 73 a file cannot be written; 74
+the answer cannot be told.
+";
+
+pub const NEW: &str = "\
+Usage: station new DISC SECTORS
+
+Makes a blank disc file with 1 to 360000 sectors. Overwrites nothing. Begin the
+disc before the first write.
+";
+
+pub const BEGIN: &str = "\
+Usage: station begin DISC
+
+Starts a disc that has no save: size 0, no packet open. Refused with 6 if the
+disc has a save; mount it then.
+";
+
+pub const MOUNT: &str = "\
+Usage: station mount DISC
+
+Finds the last finished save and goes on from it; what was written after it and
+not saved is left out. Tells clean if the save is the last thing recorded, else
+dirty; the table's block; the size; and the numbers in use. Refused with 7 if
+the disc has no save.
+";
+
+pub const WRITE: &str = "\
+Usage: station write DISC V [--from FILE] [--pad]
+
+Records one block of 2048 bytes as number V, from FILE or from standard input,
+and tells where. V is a number below the size, or the size itself. The block is
+safe from a power cut only after a commit.
+
+  --from FILE   the block's bytes; - is standard input
+  --pad         fill up a shorter block with zeros
+";
+
+pub const RELEASE: &str = "\
+Usage: station release DISC V
+
+Number V is no longer in use. It may be written again. The space of its block
+does not come back.
+";
+
+pub const CLOSE: &str = "\
+Usage: station close DISC
+
+Closes the packet. Nothing is recorded. The next write or commit first records
+seven link sectors.
+";
+
+pub const COMMIT: &str = "\
+Usage: station commit DISC
+
+Saves: records the table sector, and tells its block. From then on a mount
+shows this save, whatever is cut later.
+";
+
+pub const READ: &str = "\
+Usage: station read DISC V [--to FILE]
+
+The 2048 bytes of number V, to FILE or to standard output. After a look-back
+they are those of the save that it shows.
+
+  --to FILE   where to put the bytes, in one step; - is standard output
+";
+
+pub const LOOK_BACK: &str = "\
+Usage: station look-back DISC K
+
+Shows the save K before the newest; K 0 is the newest. Then read shows that
+save's blocks, and nothing can be recorded until a mount.
+";
+
+pub const LIST: &str = "\
+Usage: station list DISC
+
+Every save, newest first: steps back, the table's block, the size, and how many
+numbers are in use. The last line is clean, dirty, or broken if the saves
+before cannot be reached (exit status 8). If a mount is refused, only 'refused'
+and the number. Changes nothing.
+";
+
+pub const CUT: &str = "\
+Usage: station cut J [--torn] write DISC V [--from FILE] [--pad]
+       station cut J [--torn] commit DISC
+
+What a power cut leaves of this write or commit: the first J of the sectors
+that it would record, and no ledger. Changes the disc file; try it on a copy. A
+command that would be refused is refused, and then nothing is changed.
+
+  --torn   leave the next sector unreadable instead of blank
+";
+
+pub const DEMO: &str = "\
+Usage: station demo [--keep FOLDER]
+
+Records a disc of 31 sectors, cuts the power inside a commit, and shows that the
+last finished save is there; each step as an operator types it, with its output.
+
+  --keep FOLDER   work in FOLDER and leave the files there
+";

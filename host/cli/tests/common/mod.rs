@@ -1,0 +1,219 @@
+//! The program, run in a temporary folder of its own, and its files.
+
+// Each test file uses its own part of these.
+#![allow(dead_code)]
+
+use std::collections::BTreeMap;
+use std::env;
+use std::fs;
+use std::io::{ErrorKind, Write};
+use std::path::{Path, PathBuf};
+use std::process::{self, Command, Stdio};
+use std::sync::atomic::{AtomicUsize, Ordering};
+
+use station::SECTOR;
+
+pub const STATION: &str = env!("CARGO_BIN_EXE_station");
+
+/// Document 01, "The listing program".
+pub const EXAMPLE_LISTING: &str = "   k   block  size  used
+   0      11     2     1
+   1       3     2     1
+   2       1     1     1
+clean
+";
+
+/// A temporary folder, removed with all that it holds.
+pub struct Folder(pub PathBuf);
+
+/// Tests of one run stand side by side, so each folder has its own number.
+static FOLDERS: AtomicUsize = AtomicUsize::new(0);
+
+/// What a command told.
+#[derive(Debug)]
+pub struct Told {
+    pub status: i32,
+    pub out: Vec<u8>,
+    pub err: String,
+}
+
+impl Folder {
+    pub fn new() -> Folder {
+        loop {
+            let number = FOLDERS.fetch_add(1, Ordering::Relaxed);
+            let name = format!("station-cli-{}-{number}", process::id());
+            let path = env::temp_dir().join(name);
+            match fs::create_dir(&path) {
+                Ok(()) => return Folder(path),
+                // Left by a run that was stopped and had the same process id.
+                Err(error) if error.kind() == ErrorKind::AlreadyExists => continue,
+                Err(error) => panic!("no temporary folder {path:?}: {error}"),
+            }
+        }
+    }
+
+    pub fn path(&self, name: &str) -> PathBuf {
+        self.0.join(name)
+    }
+
+    /// Runs the program with these words and this standard input.
+    pub fn run_with(&self, line: &str, input: &[u8]) -> Told {
+        let mut command = Command::new(STATION);
+        command.args(line.split_whitespace()).current_dir(&self.0);
+        finish(&mut command, input)
+    }
+
+    pub fn run(&self, line: &str) -> Told {
+        self.run_with(line, b"")
+    }
+
+    /// A command that must be done, and what it tells.
+    pub fn done_with(&self, line: &str, input: &[u8]) -> Vec<u8> {
+        let told = self.run_with(line, input);
+        assert_eq!((told.status, told.err.as_str()), (0, ""), "{line}");
+        told.out
+    }
+
+    pub fn done(&self, line: &str) -> String {
+        String::from_utf8(self.done_with(line, b"")).expect("text")
+    }
+
+    /// A text, padded, written as a number.
+    pub fn write(&self, v: u32, text: &str) -> String {
+        let line = format!("write run.disc {v} --pad");
+        String::from_utf8(self.done_with(&line, text.as_bytes())).expect("text")
+    }
+
+    /// A command that must fail with this status, tell nothing on standard
+    /// output and leave every file as it is; what it says.
+    pub fn fails_with(&self, line: &str, input: &[u8], status: i32) -> String {
+        let before = self.files();
+        let told = self.run_with(line, input);
+        assert_eq!(told.status, status, "{line}: {}", told.err);
+        assert_eq!(told.out, b"", "{line}");
+        assert!(self.files() == before, "{line} changed a file");
+        told.err
+    }
+
+    pub fn fails(&self, line: &str, status: i32) -> String {
+        self.fails_with(line, b"", status)
+    }
+
+    /// Runs a line as an operator types it; all that the terminal shows.
+    pub fn shell(&self, line: &str) -> String {
+        let program = Path::new(STATION).parent().expect("a folder");
+        let path = env::var("PATH").unwrap_or_default();
+        let mut command = Command::new("sh");
+        command.arg("-c").arg(format!("exec 2>&1; {line}"));
+        command.env("PATH", format!("{}:{path}", program.display()));
+        command.current_dir(&self.0);
+        let told = finish(&mut command, b"");
+        String::from_utf8(told.out).expect("text")
+    }
+
+    /// Every file in the folder with its bytes.
+    pub fn files(&self) -> BTreeMap<PathBuf, Vec<u8>> {
+        let entries = fs::read_dir(&self.0).expect("the folder");
+        let paths = entries.map(|entry| entry.expect("an entry").path());
+        let files = paths.filter(|path| path.is_file());
+        files
+            .map(|path| (path.clone(), fs::read(path).expect("a file")))
+            .collect()
+    }
+
+    pub fn names(&self) -> Vec<String> {
+        let name = |path: &PathBuf| path.file_name().expect("a name").to_string_lossy().into();
+        self.files().keys().map(name).collect()
+    }
+
+    pub fn bytes(&self, name: &str) -> Vec<u8> {
+        fs::read(self.path(name)).expect(name)
+    }
+
+    pub fn put(&self, name: &str, bytes: &[u8]) {
+        fs::write(self.path(name), bytes).expect(name);
+    }
+
+    /// Blank, and begun.
+    pub fn begun(sectors: usize) -> Folder {
+        let folder = Folder::new();
+        folder.done(&format!("new run.disc {sectors}"));
+        folder.done("begin run.disc");
+        folder
+    }
+
+    /// Document 01's example: "begin, write 0, commit, write 1, release 0,
+    /// commit, close packet, commit".
+    pub fn example() -> Folder {
+        let folder = Folder::begun(31);
+        assert_eq!(folder.write(0, "run A"), "block 0\n");
+        folder.done("commit run.disc");
+        assert_eq!(folder.write(1, "run B"), "block 2\n");
+        for line in ["release run.disc 0", "commit run.disc", "close run.disc"] {
+            folder.done(line);
+        }
+        folder.done("commit run.disc");
+        folder
+    }
+
+    /// One sector's bytes of `run.disc`.
+    pub fn sector(&self, block: usize) -> Vec<u8> {
+        let file = self.bytes("run.disc");
+        let sectors = self.kinds().len();
+        file[9 + sectors + 1 + block * SECTOR..][..SECTOR].to_vec()
+    }
+
+    /// The digits of `run.disc`.
+    pub fn kinds(&self) -> String {
+        let file = self.bytes("run.disc");
+        let line = file[9..].split(|byte| *byte == b'\n').next();
+        String::from_utf8(line.expect("a line").to_vec()).expect("digits")
+    }
+
+    /// Another digit for one sector of `run.disc`.
+    pub fn set_kind(&self, block: usize, digit: u8) {
+        let mut file = self.bytes("run.disc");
+        file[9 + block] = digit;
+        self.put("run.disc", &file);
+    }
+}
+
+impl Drop for Folder {
+    fn drop(&mut self) {
+        // A folder that cannot be removed is no failure of the program.
+        let _ = fs::remove_dir_all(&self.0);
+    }
+}
+
+/// Gives the input, and waits for the end.
+fn finish(command: &mut Command, input: &[u8]) -> Told {
+    command.stdin(Stdio::piped());
+    command.stdout(Stdio::piped()).stderr(Stdio::piped());
+    let mut child = command.spawn().expect("the program starts");
+    let mut stdin = child.stdin.take().expect("a pipe");
+    // A command that takes no input may be gone already.
+    let _ = stdin.write_all(input);
+    drop(stdin);
+    let output = child.wait_with_output().expect("the program ends");
+    Told {
+        status: output.status.code().expect("an exit status"),
+        out: output.stdout,
+        err: String::from_utf8(output.stderr).expect("text"),
+    }
+}
+
+/// A text as a block.
+pub fn padded(text: &str) -> Vec<u8> {
+    let mut block = text.as_bytes().to_vec();
+    block.resize(SECTOR, 0);
+    block
+}
+
+/// The disc file of these kinds and this image.
+pub fn disc_file(kinds: &[u8], image: &[u8]) -> Vec<u8> {
+    let mut file = format!("{:8}\n", kinds.len()).into_bytes();
+    file.extend(kinds.iter().map(|kind| kind + b'0'));
+    file.push(b'\n');
+    file.extend(image);
+    file
+}

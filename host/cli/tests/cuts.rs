@@ -1,0 +1,125 @@
+//! The simulated power cut.
+
+mod common;
+
+use common::{padded, Folder};
+use station::SECTOR;
+
+const OLD: &str = "table at block 11\nsize 2, 1 in use: 1\n";
+
+/// "Commit after close packet, cut after j of 8 sectors: 0 to 7 show the old
+/// save, 8 the new."
+#[test]
+fn a_commit_cut_after_each_sector() {
+    for kept in 0..=8 {
+        let folder = Folder::example();
+        folder.write(0, "run C");
+        folder.done("close run.disc");
+        let blank = folder.sector(20);
+        let told = folder.done(&format!("cut {kept} commit run.disc"));
+        let expected = format!("cut after {kept} of 8 sectors, ledger lost\n");
+        assert_eq!(told, expected);
+        assert_eq!(folder.names(), ["run.disc"]);
+        let links = "2".repeat(kept.min(7));
+        let kinds = format!("1111222222211{links}{}", if kept == 8 { "1" } else { "" });
+        assert_eq!(folder.kinds(), format!("{kinds:0<31}"));
+        assert_eq!(folder.sector(20) == blank, kept < 8);
+        folder.fails("commit run.disc", 4);
+        let new = "clean, table at block 20\nsize 2, 2 in use: 0 to 1\n".into();
+        let shown = if kept == 8 {
+            new
+        } else {
+            format!("dirty, {OLD}")
+        };
+        assert_eq!(folder.done("mount run.disc"), shown);
+        assert!(folder.done_with("read run.disc 1", b"") == padded("run B"));
+    }
+}
+
+#[test]
+fn the_next_sector_torn() {
+    for kept in 0..8 {
+        let folder = Folder::example();
+        folder.done("close run.disc");
+        let told = folder.done(&format!("cut {kept} --torn commit run.disc"));
+        let expected = format!("cut after {kept} of 8 sectors, the next one torn, ledger lost\n");
+        assert_eq!(told, expected);
+        let kinds = format!("111122222221{}3", "2".repeat(kept));
+        assert_eq!(folder.kinds(), format!("{kinds:0<31}"));
+        assert_eq!(folder.done("mount run.disc"), format!("dirty, {OLD}"));
+        folder.done("commit run.disc");
+        assert!(folder.done("list run.disc").ends_with("clean\n"));
+    }
+}
+
+/// Half a table: some of its bytes are there, and it is no save.
+#[test]
+fn a_torn_table() {
+    let folder = Folder::example();
+    folder.done("cut --torn 0 commit run.disc");
+    let torn = folder.sector(12);
+    assert!(torn[..SECTOR / 2].iter().any(|byte| *byte != 0));
+    assert_eq!(folder.done("mount run.disc"), format!("dirty, {OLD}"));
+}
+
+/// A write that is kept whole makes no save.
+#[test]
+fn a_write_cut_after_each_sector() {
+    for kept in 0..=8 {
+        let folder = Folder::example();
+        folder.done("close run.disc");
+        folder.put("block", &[7; SECTOR]);
+        let line = format!("cut {kept} write run.disc 0 --from block");
+        let told = folder.done(&line);
+        assert_eq!(
+            told,
+            format!("cut after {kept} of 8 sectors, ledger lost\n")
+        );
+        assert_eq!(folder.sector(19) == [7; SECTOR], kept == 8);
+        let state = if kept == 0 { "clean" } else { "dirty" };
+        assert_eq!(folder.done("mount run.disc"), format!("{state}, {OLD}"));
+        folder.fails("read run.disc 0", 10);
+    }
+}
+
+/// "Cut before the first table: mount 7; begin is done."
+#[test]
+fn before_the_first_save() {
+    let folder = Folder::begun(31);
+    folder.done_with("cut 0 --torn write run.disc 0 --pad", b"run A");
+    folder.fails("mount run.disc", 7);
+    assert_eq!(folder.done("begin run.disc"), "begun, size 0\n");
+    assert_eq!(folder.write(0, "run A"), "block 8\n");
+}
+
+/// A command that would be refused is refused, and too many sectors are wrong.
+#[test]
+fn what_cannot_be_cut() {
+    let folder = Folder::example();
+    folder.fails_with("cut 0 write run.disc 3", &[7; SECTOR], 12);
+    folder.fails("cut 0 write run.disc 0", 2);
+    let told = folder.fails("cut 2 commit run.disc", 64);
+    assert!(
+        told.contains("J is at most 1, the sectors that this commit records"),
+        "{told}"
+    );
+    let told = folder.fails("cut 1 --torn commit run.disc", 64);
+    assert!(told.contains("with --torn J is below 1"), "{told}");
+    let told = folder.fails("cut 0 mount run.disc", 64);
+    assert!(
+        told.contains("only write and commit can be cut, not mount"),
+        "{told}"
+    );
+    for line in [
+        "cut",
+        "cut 1",
+        "cut commit run.disc",
+        "cut 1 commit",
+        "cut 1 --torn=x commit a",
+    ] {
+        folder.fails(line, 64);
+    }
+    folder.fails("cut 1 commit run.disc --torn", 64);
+    folder.done("look-back run.disc 0");
+    folder.fails("cut 0 commit run.disc", 5);
+}

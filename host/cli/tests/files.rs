@@ -1,0 +1,205 @@
+//! The files: what is no disc is left alone, and replacing keeps what it should.
+
+mod common;
+
+use std::fs;
+use std::os::unix::fs::{symlink, PermissionsExt};
+use std::thread;
+
+use common::{disc_file, padded, Folder};
+use station::SECTOR;
+
+/// One line for each command that takes a disc.
+const LINES: [&str; 10] = [
+    "begin run.disc",
+    "mount run.disc",
+    "write run.disc 0 --pad",
+    "release run.disc 0",
+    "close run.disc",
+    "commit run.disc",
+    "read run.disc 0",
+    "look-back run.disc 0",
+    "cut 0 commit run.disc",
+    "cut 0 write run.disc 0 --pad",
+];
+
+/// A disc file with its first line changed to this text.
+fn headed(text: &str, sectors: usize) -> Vec<u8> {
+    let file = disc_file(&vec![0; sectors], &vec![0; sectors * SECTOR]);
+    [text.as_bytes(), &file[9..]].concat()
+}
+
+/// Files of another form, each with a word of the reason.
+fn no_discs() -> Vec<(Vec<u8>, &'static str)> {
+    let good = headed("       3\n", 3);
+    let (mut digit, mut line) = (good.clone(), good.clone());
+    digit[10] = b'4';
+    line[12] = b'0';
+    vec![
+        (vec![], "first line"),
+        (b"a letter".to_vec(), "first line"),
+        (b"       3".to_vec(), "first line"),
+        (headed("3       \n", 3), "first line"),
+        (headed("00000003\n", 3), "first line"),
+        (headed("       \t3\n", 3), "first line"),
+        (headed("      +3\n", 3), "first line"),
+        (headed("      3\n\n", 3), "first line"),
+        (headed("        \n", 0), "first line"),
+        (headed("       0\n", 0), "first line"),
+        (headed("  360001\n", 3), "first line"),
+        (headed("       4\n", 3), "bytes"),
+        (good[..good.len() - 1].to_vec(), "bytes"),
+        ([&good[..], b"\n"].concat(), "bytes"),
+        (digit, "second line"),
+        (line, "second line"),
+    ]
+}
+
+#[test]
+fn what_is_no_disc_is_refused_and_left_alone() {
+    let folder = Folder::new();
+    for (bytes, reason) in no_discs() {
+        folder.put("run.disc", &bytes);
+        for line in LINES {
+            let told = folder.fails(line, 65);
+            let start = "station: run.disc is no disc: ";
+            assert!(told.starts_with(start) && told.contains(reason), "{told}");
+        }
+        let told = folder.run("list run.disc");
+        assert_eq!((told.status, &told.out[..]), (65, &b"refused   1\n"[..]));
+        assert!(folder.bytes("run.disc") == bytes);
+        assert_eq!(folder.names(), ["run.disc"]);
+    }
+}
+
+#[test]
+fn files_that_are_missing_or_no_files() {
+    let folder = Folder::new();
+    for line in LINES.into_iter().chain(["list run.disc"]) {
+        let told = folder.fails(line, 66);
+        assert_eq!(told, "station: there is no file or folder run.disc\n");
+    }
+    fs::create_dir(folder.path("run.disc")).expect("a folder");
+    for line in LINES {
+        assert!(folder.fails(line, 65).contains("it is not a file"));
+    }
+    let folder = Folder::begun(31);
+    let told = folder.fails("write run.disc 0 --from nothing", 66);
+    assert_eq!(told, "station: there is no file or folder nothing\n");
+    assert_eq!(
+        folder
+            .fails("read run.disc 0 --to nowhere/shown", 10)
+            .lines()
+            .count(),
+        2
+    );
+    folder.write(0, "run A");
+    assert!(folder
+        .fails("read run.disc 0 --to nowhere/shown", 73)
+        .contains("nowhere/shown"));
+}
+
+#[test]
+fn files_that_may_not_be_read() {
+    let folder = Folder::begun(31);
+    let nobody = fs::Permissions::from_mode(0o000);
+    fs::set_permissions(folder.path("run.disc"), nobody).expect("permissions");
+    // The superuser may read every file, and then there is nothing to see.
+    if fs::File::open(folder.path("run.disc")).is_err() {
+        let told = folder.run("mount run.disc");
+        assert_eq!((told.status, &told.out[..]), (66, &b""[..]));
+        assert_eq!(told.err, "station: run.disc may not be read\n");
+    }
+}
+
+/// Narrower and wider ones than a new file would get.
+#[test]
+fn permissions_stay() {
+    for mode in [0o600, 0o666] {
+        let folder = Folder::begun(31);
+        let names = ["run.disc", "run.disc.ledger"];
+        for name in names {
+            let permissions = fs::Permissions::from_mode(mode);
+            fs::set_permissions(folder.path(name), permissions).expect("permissions");
+        }
+        folder.write(0, "run A");
+        folder.done("commit run.disc");
+        for name in names {
+            let about = fs::metadata(folder.path(name)).expect(name);
+            assert_eq!(about.permissions().mode() & 0o777, mode, "{name}");
+        }
+    }
+}
+
+#[test]
+fn a_protected_disc_is_read_and_not_recorded() {
+    let folder = Folder::example();
+    let protected = fs::Permissions::from_mode(0o444);
+    fs::set_permissions(folder.path("run.disc"), protected).expect("permissions");
+    for line in [
+        "commit run.disc",
+        "write run.disc 0 --pad",
+        "cut 1 commit run.disc",
+    ] {
+        assert!(folder.fails(line, 73).contains("write-protected"));
+    }
+    folder.done("mount run.disc");
+    folder.done("look-back run.disc 1");
+    folder.done("read run.disc 1");
+}
+
+#[test]
+fn a_link_stays_a_link_with_one_ledger() {
+    let folder = Folder::example();
+    fs::create_dir(folder.path("desk")).expect("a folder");
+    symlink("../run.disc", folder.path("desk/today")).expect("a link");
+    folder.done_with("write desk/today 0 --pad", b"run C");
+    assert!(folder.path("desk/today").is_symlink());
+    assert!(folder.done_with("read run.disc 0", b"") == padded("run C"));
+    assert!(!folder.path("desk/today.ledger").exists());
+}
+
+/// A name with which the ledger cannot be written, only the disc.
+#[test]
+fn nothing_changes_if_one_of_the_two_cannot_be_written() {
+    let folder = Folder::example();
+    let long = "x".repeat(242);
+    for end in ["", ".ledger"] {
+        let name = folder.path(&format!("{long}{end}"));
+        fs::rename(folder.path(&format!("run.disc{end}")), name).expect("another name");
+    }
+    for line in [format!("commit {long}"), format!("mount {long}")] {
+        assert!(folder
+            .fails(&line, 73)
+            .contains(".ledger cannot be written"));
+    }
+    folder.done(&format!("list {long}"));
+}
+
+/// Commands at the same time wait for each other.
+#[test]
+fn commands_at_once() {
+    let folder = Folder::begun(200);
+    let told: Vec<String> = thread::scope(|scope| {
+        let write = || folder.write(0, "run");
+        let all: Vec<_> = (0..12).map(|_| scope.spawn(write)).collect();
+        all.into_iter()
+            .map(|one| one.join().expect("done"))
+            .collect()
+    });
+    for block in 0..12 {
+        assert!(told.contains(&format!("block {block}\n")), "{told:?}");
+    }
+    assert_eq!(folder.names(), ["run.disc", "run.disc.ledger"]);
+}
+
+/// An answer that nobody can take.
+#[test]
+fn standard_output_fails() {
+    let folder = Folder::example();
+    let told = folder.shell("station mount run.disc > /dev/full; echo $?");
+    assert!(told.starts_with("station: no answer can be told"), "{told}");
+    assert!(told.ends_with("\n74\n"), "{told}");
+    assert_eq!(folder.shell("station read run.disc 1 | true"), "");
+    assert_eq!(folder.shell("station mount run.disc >&-; echo $?"), "0\n");
+}

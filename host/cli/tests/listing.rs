@@ -1,0 +1,101 @@
+//! The listing: document 01's lines exactly, and nothing changed by it.
+
+mod common;
+
+use common::{disc_file, Folder, EXAMPLE_LISTING};
+use station::{LEDGER, SECTOR};
+
+/// The listing and the exit status; no file may change.
+fn listed(folder: &Folder) -> (String, i32, String) {
+    let before = folder.files();
+    let told = folder.run("list run.disc");
+    assert!(folder.files() == before);
+    let text = String::from_utf8(told.out).expect("text");
+    (text, told.status, told.err)
+}
+
+fn lists(folder: &Folder, text: &str) {
+    assert_eq!(listed(folder), (text.into(), 0, String::new()));
+}
+
+#[test]
+fn document_01s_listing() {
+    let folder = Folder::example();
+    lists(&folder, EXAMPLE_LISTING);
+    // Whatever the ledger holds, or if there is none.
+    folder.put("run.disc.ledger", b"anything");
+    lists(&folder, EXAMPLE_LISTING);
+    std::fs::remove_file(folder.path("run.disc.ledger")).expect("the ledger");
+    lists(&folder, EXAMPLE_LISTING);
+}
+
+#[test]
+fn a_dirty_disc() {
+    let folder = Folder::example();
+    folder.write(0, "run C");
+    lists(&folder, &EXAMPLE_LISTING.replace("clean", "dirty"));
+}
+
+#[test]
+fn a_save_of_nothing() {
+    let folder = Folder::begun(8);
+    folder.done("commit run.disc");
+    lists(
+        &folder,
+        "   k   block  size  used\n   0       0     0     0\nclean\n",
+    );
+}
+
+#[test]
+fn a_refused_mount() {
+    let folder = Folder::begun(31);
+    let (text, status, told) = listed(&folder);
+    assert_eq!((text.as_str(), status), ("refused   7\n", 7));
+    assert!(told.starts_with("station: refusal 7: "), "{told}");
+    folder.set_kind(1, b'1');
+    let (text, status, _) = listed(&folder);
+    assert_eq!((text.as_str(), status), ("refused   3\n", 3));
+}
+
+#[test]
+fn a_broken_disc() {
+    let folder = Folder::example();
+    folder.set_kind(3, b'3');
+    let broken = "   k   block  size  used\n   0      11     2     1\nbroken\n";
+    let (text, status, told) = listed(&folder);
+    assert_eq!((text.as_str(), status), (broken, 8));
+    assert!(told.starts_with("station: refusal 8: "), "{told}");
+    // Broken, and dirty as well.
+    folder.write(0, "run C");
+    assert_eq!(listed(&folder).0, broken);
+}
+
+/// Each row of a long listing is what look back k shows.
+#[test]
+fn rows_are_those_of_look_back() {
+    let sectors = 700;
+    let (mut image, mut kinds) = (vec![0; sectors * SECTOR], vec![0; sectors]);
+    let mut ledger = [0; LEDGER];
+    station::begin(&image, &kinds, &mut ledger).expect("begin");
+    for v in 0..300 {
+        station::write(&mut image, &mut kinds, &mut ledger, v, &[7; SECTOR]).expect("write");
+        if v % 3 == 2 {
+            station::release(&image, &kinds, &mut ledger, v - 1).expect("release");
+        }
+        station::commit(&mut image, &mut kinds, &mut ledger).expect("commit");
+    }
+    let folder = Folder::new();
+    folder.put("run.disc", &disc_file(&kinds, &image));
+    let text = folder.done("list run.disc");
+    let lines: Vec<&str> = text.lines().collect();
+    assert_eq!(lines.len(), 302);
+    for k in 0..300 {
+        let block = station::look_back(&image, &kinds, &mut ledger, k).expect("look back");
+        let word = |place: usize| &ledger[place * 4..place * 4 + 4];
+        let size = u32::from_le_bytes(word(458).try_into().expect("four bytes"));
+        let used = (0..458).filter(|v| word(*v) != [0xFF; 4]).count();
+        let row = format!("{k:4}{block:8}{size:6}{used:6}");
+        assert_eq!(lines[k as usize + 1], row);
+    }
+    assert_eq!(lines[301], "clean");
+}

@@ -1,0 +1,187 @@
+//! Every refusal that the program can meet: its number as the exit status, its
+//! cause in document 01's words and one sentence of advice on standard error,
+//! and no file changed.
+//!
+//! 1 cannot be met: a disc file with no sectors, too many, or another length is
+//! no disc (exit status 65), and only the listing tells it as 1.
+
+mod common;
+
+use common::{disc_file, Folder};
+use station::{LEDGER, SECTOR};
+
+/// Runs the line, and checks all of the above; gives the advice.
+fn refused_with(folder: &Folder, line: &str, input: &[u8], number: i32) -> String {
+    let told = folder.fails_with(line, input, number);
+    let lines: Vec<&str> = told.lines().collect();
+    assert_eq!(lines.len(), 2, "{line}: {told}");
+    let start = format!("station: refusal {number}: ");
+    assert!(lines[0].starts_with(&start), "{line}: {told}");
+    assert!(lines[1].ends_with('.') && lines[1].matches(". ").count() == 0);
+    lines[1].into()
+}
+
+fn refused(folder: &Folder, line: &str, number: i32) -> String {
+    refused_with(folder, line, b"", number)
+}
+
+const BLOCK: [u8; SECTOR] = [7; SECTOR];
+
+#[test]
+fn number_2_a_block_or_ledger_of_another_length() {
+    let folder = Folder::begun(31);
+    for length in [0, 1, SECTOR - 1, SECTOR + 1, 3 * SECTOR] {
+        let advice = refused_with(&folder, "write run.disc 0", &vec![7; length], 2);
+        assert!(advice.contains("--pad"), "{advice}");
+    }
+    folder.done_with("write run.disc 0", &BLOCK);
+    let ledger = folder.bytes("run.disc.ledger");
+    for length in [0, LEDGER - 1] {
+        folder.put("run.disc.ledger", &ledger[..length]);
+        for line in ["release run.disc 0", "commit run.disc", "read run.disc 0"] {
+            assert!(refused(&folder, line, 2).contains("Mount the disc"));
+        }
+    }
+    folder.put("run.disc.ledger", &[ledger, vec![0; 9]].concat());
+    assert!(refused_with(&folder, "write run.disc 0", &BLOCK, 2).contains("Mount the disc"));
+}
+
+/// Mount, begin and look back do not read the ledger: a damaged one does not
+/// keep the operator from going on.
+#[test]
+fn a_damaged_ledger_is_made_anew() {
+    let folder = Folder::example();
+    for line in ["mount run.disc", "look-back run.disc 1"] {
+        folder.put("run.disc.ledger", b"half a led");
+        folder.done(line);
+        folder.done("read run.disc 1");
+    }
+}
+
+#[test]
+fn number_3_a_recorded_sector_after_a_blank_one() {
+    let folder = Folder::example();
+    folder.set_kind(20, b'1');
+    for line in ["begin", "mount", "close", "commit"] {
+        refused(&folder, &format!("{line} run.disc"), 3);
+    }
+    for line in ["release", "read", "look-back"] {
+        refused(&folder, &format!("{line} run.disc 0"), 3);
+    }
+    refused_with(&folder, "write run.disc 0", &BLOCK, 3);
+}
+
+#[test]
+fn number_4_a_ledger_that_is_missing_or_of_another_disc() {
+    let folder = Folder::example();
+    folder.done("new other.disc 31");
+    folder.put("other.disc.ledger", &folder.bytes("run.disc.ledger"));
+    folder.done("new third.disc 31");
+    for disc in ["other.disc", "third.disc"] {
+        let advice = refused(&folder, &format!("commit {disc}"), 4);
+        assert!(advice.starts_with("Mount the disc first"), "{advice}");
+        refused(&folder, &format!("close {disc}"), 4);
+        refused(&folder, &format!("release {disc} 1"), 4);
+        refused(&folder, &format!("read {disc} 1"), 4);
+        refused_with(&folder, &format!("write {disc} 0"), &BLOCK, 4);
+    }
+}
+
+#[test]
+fn number_5_recording_while_looking_only() {
+    let folder = Folder::example();
+    folder.done("look-back run.disc 0");
+    for line in ["close run.disc", "commit run.disc", "release run.disc 1"] {
+        assert!(refused(&folder, line, 5).contains("Mount the disc"));
+    }
+    refused_with(&folder, "write run.disc 0", &BLOCK, 5);
+}
+
+#[test]
+fn numbers_6_and_7_begin_and_mount_at_the_wrong_time() {
+    let folder = Folder::example();
+    refused(&folder, "begin run.disc", 6);
+    let folder = Folder::begun(31);
+    refused(&folder, "mount run.disc", 7);
+    refused(&folder, "look-back run.disc 0", 7);
+}
+
+#[test]
+fn numbers_8_and_9_looking_too_far_back() {
+    let folder = Folder::example();
+    refused(&folder, "look-back run.disc 3", 9);
+    refused(&folder, "look-back run.disc 4294967295", 9);
+    folder.set_kind(3, b'3');
+    refused(&folder, "look-back run.disc 1", 8);
+    refused(&folder, "look-back run.disc 7", 8);
+    folder.done("look-back run.disc 0");
+}
+
+#[test]
+fn number_10_a_number_not_in_use() {
+    let folder = Folder::example();
+    for v in ["0", "2", "458", "4294967295"] {
+        refused(&folder, &format!("read run.disc {v}"), 10);
+        refused(&folder, &format!("release run.disc {v}"), 10);
+    }
+}
+
+#[test]
+fn number_11_an_unreadable_block() {
+    let folder = Folder::example();
+    folder.set_kind(2, b'3');
+    refused(&folder, "read run.disc 1", 11);
+    folder.set_kind(2, b'2');
+    refused(&folder, "read run.disc 1", 11);
+}
+
+#[test]
+fn number_12_a_number_above_the_size() {
+    let folder = Folder::example();
+    refused_with(&folder, "write run.disc 3", &BLOCK, 12);
+    refused_with(&folder, "write run.disc 500", &BLOCK, 12);
+    refused_with(&folder, "write run.disc 4294967295", &BLOCK, 12);
+}
+
+/// "Write of 458 at size 458 with space: 13."
+#[test]
+fn number_13_a_number_beyond_the_limit() {
+    let folder = Folder::new();
+    let (mut image, mut kinds) = (vec![0; 600 * SECTOR], vec![0; 600]);
+    let mut ledger = [0; LEDGER];
+    station::begin(&image, &kinds, &mut ledger).expect("begin");
+    for v in 0..458 {
+        station::write(&mut image, &mut kinds, &mut ledger, v, &BLOCK).expect("write");
+    }
+    folder.put("run.disc", &disc_file(&kinds, &image));
+    folder.put("run.disc.ledger", &ledger);
+    refused_with(&folder, "write run.disc 458", &BLOCK, 13);
+    folder.done("commit run.disc");
+    let told = folder.done("mount run.disc");
+    assert!(told.ends_with("size 458, 458 in use: 0 to 457\n"), "{told}");
+}
+
+/// "Disc of 9: first write done, second 14", and a commit uses what was kept.
+#[test]
+fn number_14_no_room() {
+    let folder = Folder::begun(9);
+    folder.done_with("write run.disc 0", &BLOCK);
+    let advice = refused_with(&folder, "write run.disc 1", &BLOCK, 14);
+    assert!(advice.starts_with("Commit what is written"), "{advice}");
+    folder.done("close run.disc");
+    assert_eq!(folder.done("commit run.disc"), "saved, table at block 8\n");
+    assert!(refused(&folder, "commit run.disc", 14).starts_with("Take another disc"));
+}
+
+/// A table sector of block 0, written as a block at 0, and at 1.
+#[test]
+fn number_15_a_block_that_would_be_a_save() {
+    let folder = Folder::begun(31);
+    folder.done("commit run.disc");
+    let table = folder.sector(0);
+    folder.done("new other.disc 31");
+    folder.done("begin other.disc");
+    refused_with(&folder, "write other.disc 0", &table, 15);
+    folder.done_with("write other.disc 0", &BLOCK);
+    folder.done_with("write other.disc 1", &table);
+}

@@ -1,0 +1,143 @@
+//! The command line: help, options, operands and numbers.
+
+mod common;
+
+use std::ffi::OsStr;
+use std::os::unix::ffi::OsStrExt;
+use std::process::Command;
+
+use common::{Folder, STATION};
+
+const COMMANDS: [&str; 12] = [
+    "new",
+    "begin",
+    "mount",
+    "write",
+    "release",
+    "close",
+    "commit",
+    "read",
+    "look-back",
+    "list",
+    "cut",
+    "demo",
+];
+
+#[test]
+fn help_of_the_program_and_of_each_command() {
+    let folder = Folder::new();
+    let program = folder.done("--help");
+    assert_eq!(folder.done("-h"), program);
+    for command in COMMANDS {
+        assert!(program.contains(&format!("\n  {command} ")), "{command}");
+        let help = folder.done(&format!("{command} --help"));
+        assert!(help.starts_with(&format!("Usage: station {command} ")));
+        assert_eq!(folder.done(&format!("{command} -h")), help);
+        assert!(help.lines().all(|line| line.len() <= 80), "{command}");
+    }
+    assert!(folder
+        .done("cut 3 commit --help")
+        .starts_with("Usage: station commit "));
+    assert!(folder.names().is_empty());
+}
+
+#[test]
+fn version() {
+    let version = format!("station {}\n", env!("CARGO_PKG_VERSION"));
+    assert_eq!(Folder::new().done("--version"), version);
+}
+
+/// The words typed, the fault that is told, and the command whose help is
+/// hinted at.
+const WRONG: &str = "\
+| a command is missing |
+save run.disc | there is no command save |
+--quiet mount run.disc | there is no option --quiet |
+mount --quick run.disc | mount has no option --quick | mount
+commit run.disc -f | commit has no option -f | commit
+read run.disc -1 | read has no option -1 | read
+write run.disc 0 --to x | write has no option --to | write
+write run.disc 0 --pad=9 | --pad takes no value | write
+write run.disc 0 --from | --from needs a name behind it | write
+write run.disc 0 --pad --pad | --pad is given twice | write
+--version --quick | --version stands alone |
+--help mount | --help stands alone |
+mount | mount needs DISC | mount
+write run.disc | write needs V | write
+look-back run.disc | look-back needs K | look-back
+new run.disc | new needs SECTORS | new
+cut 1 commit | commit needs DISC | commit
+mount run.disc 3 | mount has no use for 3 | mount
+demo run.disc | demo has no use for run.disc | demo
+demo --keep | --keep needs a name behind it | demo";
+
+#[test]
+fn wrong_command_lines() {
+    let folder = Folder::example();
+    for row in WRONG.lines() {
+        let [line, fault, command] = row.split('|').collect::<Vec<_>>()[..] else {
+            panic!("not three parts: {row}");
+        };
+        let hint = format!("station {} --help", command.trim()).replace("  ", " ");
+        let told = format!("station: {}\nTry '{hint}'.\n", fault.trim());
+        assert_eq!(folder.fails(line, 64), told, "{row}");
+    }
+}
+
+#[test]
+fn numbers_are_checked() {
+    let folder = Folder::example();
+    for number in [
+        "x",
+        "1x",
+        "+1",
+        "1.0",
+        "4294967296",
+        "99999999999999999999",
+        "١",
+    ] {
+        for line in ["write", "release", "read", "look-back"] {
+            let told = folder.fails(&format!("{line} run.disc {number}"), 64);
+            assert!(told.contains("a number from 0 to 4294967295"), "{told}");
+        }
+        folder.fails(&format!("new other.disc {number}"), 64);
+        folder.fails(&format!("cut {number} commit run.disc"), 64);
+    }
+    for sectors in ["0", "360001"] {
+        let told = folder.fails(&format!("new other.disc {sectors}"), 64);
+        assert!(told.contains("1 to 360000 sectors"), "{told}");
+    }
+    let empty = Command::new(STATION)
+        .args(["read", "run.disc", ""])
+        .status();
+    assert_eq!(empty.expect("the program runs").code(), Some(64));
+}
+
+#[test]
+fn two_dashes_end_the_options() {
+    let folder = Folder::new();
+    folder.done("new -- -run.disc 31");
+    folder.done("begin -- -run.disc");
+    folder.done_with("write --pad -- -run.disc 0", b"run A");
+    folder.done("cut 0 -- commit -- -run.disc");
+    assert_eq!(folder.names(), ["-run.disc"]);
+    folder.fails("mount -run.disc", 64);
+    folder.fails("mount -- -h", 66);
+}
+
+/// Names of files need not be text.
+#[test]
+fn names_of_any_bytes() {
+    let folder = Folder::new();
+    let name = OsStr::from_bytes(b"run\xFF.disc");
+    for words in [&["new", "9"][..], &["begin"], &["commit"], &["list"]] {
+        let mut command = Command::new(STATION);
+        command.current_dir(&folder.0).arg(words[0]).arg(name);
+        let output = command
+            .args(&words[1..])
+            .output()
+            .expect("the program runs");
+        assert!(output.status.success(), "{output:?}");
+    }
+    assert!(folder.path("").join(name).is_file());
+}
