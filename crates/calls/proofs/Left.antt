@@ -2,8 +2,7 @@
 -- Assumes nothing.
 use Prim.Native.Nat.{ℕ, zero, suc, _+_, _*_, _≤_}
 use native.Mathlib.Omega.{arith}
-use mathlib.Core.Path.{_≡_, refl, sym, ap, ap₂, _∙_}
-use mathlib.Core.Bool.{Bool}
+use mathlib.Core.Path.{_≡_, refl, sym, ap, _∙_}
 use mathlib.Core.List.{List, [], _∷_, _++_, append-nil}
 use mathlib.Core.Option.{Option, some}
 use lib.Dec.{eqb}
@@ -20,7 +19,7 @@ use Rattle.volume.specs.declared.Volume.{Volume}
 use Rattle.volume.specs.Volume.{idle, readOnly, unpack, pack, mapOf, begun, filled, wrote, released, closed, committed}
 use Rattle.recorder.specs.Calls.{Call, begin, mount, write, release, closePacket, commit, read, lookBack, blockOf}
 use Rattle.recorder.specs.Refusals.{links, target, walked, outcome}
-use Rattle.recorder.specs.Effects.{Effect, effect, blockReached, cleanNumber, After, left, settled, after}
+use Rattle.recorder.specs.Effects.{effect, blockReached, cleanNumber, After, left, settled, after}
 use Rattle.recorder.proofs.Done.{write-done, commit-done}
 
 -- equal parts leave the same

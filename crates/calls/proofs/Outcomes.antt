@@ -1,6 +1,6 @@
 -- The outcome of each call, test by test: what stops it, and what is left when the tests before are passed.
 -- Assumes nothing.
-use Prim.Native.Nat.{ℕ, zero, suc, _+_, _≤_, _<_}
+use Prim.Native.Nat.{ℕ, _+_, _≤_, _<_}
 use native.Mathlib.Omega.{arith}
 use mathlib.Core.Path.{_≡_, refl, sym, ap, _∙_}
 use mathlib.Core.Bool.{Bool, true, false, _&&_, not, and-true}
@@ -11,10 +11,9 @@ use lib.ListN.{getD}
 use borrow.Author.Tests.{eq-eqb, ne-eqb, le-ltb, lt-ltb, le-leb, lt-leb}
 use Rattle.vat.specs.Table.{limit, unused, isTable}
 use Rattle.disc.specs.declared.Walk.the-variants.{Reached, Broken, Ended}
-use Rattle.disc.specs.Disc.{Disc, mostSectors, recorded, blanks, kindAt}
+use Rattle.disc.specs.Disc.{Disc, mostSectors, blanks, kindAt}
 use Rattle.disc.specs.Tables.{blockFound, newestBelow, newest}
 use Rattle.disc.proofs.Found.{newest-below}
-use Rattle.volume.specs.declared.Volume.{Volume}
 use Rattle.volume.specs.Volume.{readOnly, unpack, fits}
 use Rattle.recorder.specs.Calls.{begin, mount, write, release, closePacket, commit, read, lookBack}
 use Rattle.recorder.specs.Refusals.{Test, test, first, links, target, reserve, basic, ledgerLent, blockLent, unfit, forbidden, notInUse, isSome, walked, isBroken, isEnded, tests, outcome}

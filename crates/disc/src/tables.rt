@@ -7,7 +7,6 @@ ghost use mathlib.Core.Path.{_≡_};
 ghost use mathlib.Core.Bool.{true};
 ghost use Prim.Native.Nat.{_≤_, _<_};
 ghost use lib.ListN.{length};
-ghost use Rattle.vat.specs.Table.{unused};
 ghost use Rattle.disc.specs.Disc.{lent, sized};
 ghost use Rattle.disc.specs.Tables.{tableAt, previousAt, blockFound, newestBelow, walk};
 

@@ -125,7 +125,6 @@ pub record Fits (d : Disc) (v : Volume) : Type 0 where
   pub entries-below : every (unusedOrBelow (v .recorded)) (mapOf v) ≡ true
   pub same-recorded : v .recorded ≡ recorded d
   pub last-known : (eqb (v .last) unused || tableAt d (v .last)) ≡ true
-  pub mode-known : v .mode ≤ readOnly
 
 fitting : (d : Disc) (v : Volume) → fits d v ≡ true → Fits d v
 unfolding fits
@@ -146,7 +145,6 @@ fitting d v e =
       entries-below = and-left c (f && (g && (h && i))) e₂;
       same-recorded = eqb-true (v .recorded) (recorded d) (and-left f (g && (h && i)) e₃);
       last-known = and-left g (h && i) e₄;
-      mode-known = leb-true (v .mode) readOnly (and-left h i (and-right g (h && i) e₄));
     }
 
 -- 4 and 5 do not apply
@@ -178,7 +176,6 @@ workingTests d l lengths = basic d lengths ++ (unfit d l ∷ forbidden l ∷ [])
 pub record Admitted (d : Disc) (l : List ℕ) (whole : Bool) : Type 0 where
   pub sound-disc : Sound d
   pub ledger-long : length l ≡ ledgerLength
-  pub block-whole : whole ≡ true
   pub fit : Fits d (unpack l)
 
 pub ledger-lent : (l : List ℕ) (whole : Bool) → (ledgerLent l && whole) ≡ true → length l ≡ ledgerLength
@@ -191,7 +188,6 @@ admitted d l whole rest e =
     record {
       sound-disc = b .sound-disc;
       ledger-long = ledger-lent l whole (b .lent);
-      block-whole = and-right (ledgerLent l) whole (b .lent);
       fit = fitting d (unpack l) (not-false (fits d (unpack l)) (passed 3 four rest (b .rest-passed)));
     }
 

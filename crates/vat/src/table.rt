@@ -5,7 +5,7 @@ ghost use lib.Dec.{eqb};
 ghost use lib.ListN.{length};
 ghost use Rattle.le.specs.Bytes.{every};
 ghost use Rattle.le.specs.Field.{readLe, holds, words};
-ghost use Rattle.vat.specs.Table.{sectorLength, limit, tableAt, plainRows, lengthRows, unusedOrBelow, entryCount, entryOf, previousOf, framed, isTable};
+ghost use Rattle.vat.specs.Table.{sectorLength, limit, plainRows, lengthRows, unusedOrBelow, entryCount, entryOf, previousOf, framed, isTable};
 
 pub const SECTOR: usize = 2048;
 

@@ -5,7 +5,7 @@ use native.Mathlib.Nat.{add-zero, zero-add, suc-add}
 use native.Mathlib.Numerals.{add-one}
 use native.Mathlib.Omega.{arith}
 use mathlib.Core.Path.{_≡_, refl, sym, ap, ap₂, _∙_}
-use mathlib.Core.Bool.{Bool, true, false, _&&_, _||_, not}
+use mathlib.Core.Bool.{Bool, false, _&&_, _||_, not}
 use mathlib.Core.List.{List, [], _∷_, _++_}
 use lib.Dec.{eqb, ltb, leb}
 use lib.ListN.{length, getD, take, drop, set, replicate}
@@ -15,7 +15,7 @@ use Rattle.le.specs.Bytes.{every}
 use Rattle.le.specs.Field.{readLe, words}
 use Rattle.le.proofs.Runs.{words-none, words-step, length-words}
 use Rattle.vat.specs.Table.{limit, unused, unusedOrBelow}
-use Rattle.disc.specs.Disc.{Disc, recorded, kindAt}
+use Rattle.disc.specs.Disc.{Disc, recorded}
 use Rattle.disc.specs.Tables.{tableAt}
 use Rattle.disc.proofs.Order.{and-false}
 use Rattle.volume.specs.declared.Volume.{Volume}

@@ -1,13 +1,12 @@
 -- `station::station_close_packet` meets its contract.
 -- Assumes nothing.
-use Prim.Native.Nat.{ℕ, _+_, _*_, _≤_, _<_}
-use native.Mathlib.Omega.{arith}
-use mathlib.Core.Path.{_≡_, sym, ap, ap₂, _∙_, subst}
+use Prim.Native.Nat.{ℕ}
+use mathlib.Core.Path.{_≡_, sym, ap, _∙_}
 use mathlib.Core.List.{List, []}
-use Rattle.disc.specs.Disc.{Disc, lent, recorded}
-use Rattle.volume.specs.Volume.{unpack, pack}
+use Rattle.disc.specs.Disc.{Disc, lent}
+use Rattle.volume.specs.Volume.{pack}
 use Rattle.recorder.specs.Refusals.{outcome}
-use Rattle.recorder.specs.Effects.{After, left}
+use Rattle.recorder.specs.Effects.{left}
 use Rattle.volume.specs.Volume.{closed}
 use Rattle.recorder.specs.Calls.{closePacket}
 use Rattle.recorder.proofs.Done.{ledger-accepted}

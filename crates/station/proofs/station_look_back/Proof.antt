@@ -1,18 +1,16 @@
 -- `station::station_look_back` meets its contract.
 -- Assumes nothing.
-use Prim.Native.Nat.{ℕ, _+_, _*_, _≤_, _<_}
-use native.Mathlib.Omega.{arith}
-use mathlib.Core.Path.{_≡_, sym, ap, ap₂, _∙_, subst}
+use Prim.Native.Nat.{ℕ, _*_}
+use mathlib.Core.Path.{_≡_, sym, ap, _∙_}
 use mathlib.Core.List.{List, []}
-use lib.ListN.{length}
 use Rattle.disc.specs.Disc.{Disc, lent, recorded}
-use Rattle.volume.specs.Volume.{ledgerLength, unpack, pack}
+use Rattle.volume.specs.Volume.{pack}
 use Rattle.recorder.specs.Refusals.{outcome}
-use Rattle.recorder.specs.Effects.{After, left}
+use Rattle.recorder.specs.Effects.{left}
 use lib.ListN.{take, drop}
 use Rattle.vat.specs.Table.{sectorLength, entriesOf}
 use Rattle.disc.specs.Disc.{sectorAt}
-use Rattle.disc.specs.Tables.{tableAt, mapAt}
+use Rattle.disc.specs.Tables.{mapAt}
 use Rattle.volume.specs.Volume.{filled}
 use Rattle.disc.specs.declared.Walk.the-variants.{Reached}
 use Rattle.recorder.specs.Refusals.{walked}

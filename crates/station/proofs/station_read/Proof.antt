@@ -1,18 +1,17 @@
 -- `station::station_read` meets its contract.
 -- Assumes nothing.
-use Prim.Native.Nat.{ℕ, _+_, _*_, _≤_, _<_}
+use Prim.Native.Nat.{ℕ, _<_}
 use native.Mathlib.Omega.{arith}
-use mathlib.Core.Path.{_≡_, sym, ap, ap₂, _∙_, subst}
-use mathlib.Core.List.{List, []}
+use mathlib.Core.Path.{_≡_, sym, ap, _∙_}
+use mathlib.Core.List.{List}
 use lib.ListN.{length}
 use Rattle.disc.specs.Disc.{Disc, lent, recorded}
-use Rattle.volume.specs.Volume.{ledgerLength, unpack, pack}
+use Rattle.volume.specs.Volume.{unpack}
 use Rattle.recorder.specs.Refusals.{outcome}
-use Rattle.recorder.specs.Effects.{After, left}
-use lib.ListN.{getD, take, drop, length-drop, drop-of-length-le}
-use lib.Seq.{sets, sets-eq, length-take-le}
-use mathlib.Core.List.{_++_, append-nil}
-use Rattle.vat.specs.Table.{sectorLength, limit, unused}
+use Rattle.recorder.specs.Effects.{left}
+use lib.ListN.{getD}
+use lib.Seq.{sets}
+use Rattle.vat.specs.Table.{sectorLength, unused}
 use Rattle.disc.specs.Disc.{sectorAt}
 use Rattle.disc.proofs.Recording.{sized-tells, sound-sized, leading-le}
 use Rattle.disc.proofs.Found.{part-sector, sector-end, sector-long}

@@ -1,15 +1,14 @@
 -- `station::station_release` meets its contract.
 -- Assumes nothing.
-use Prim.Native.Nat.{ℕ, _+_, _*_, _≤_, _<_}
+use Prim.Native.Nat.{ℕ}
 use native.Mathlib.Omega.{arith}
-use mathlib.Core.Path.{_≡_, sym, ap, ap₂, _∙_, subst}
+use mathlib.Core.Path.{_≡_, sym, ap, _∙_}
 use mathlib.Core.List.{List, []}
 use lib.ListN.{length}
-use Rattle.disc.specs.Disc.{Disc, lent, recorded}
-use Rattle.volume.specs.Volume.{ledgerLength, unpack, pack}
+use Rattle.disc.specs.Disc.{Disc, lent}
+use Rattle.volume.specs.Volume.{ledgerLength, pack}
 use Rattle.recorder.specs.Refusals.{outcome}
-use Rattle.recorder.specs.Effects.{After, left}
-use Rattle.vat.specs.Table.{limit}
+use Rattle.recorder.specs.Effects.{left}
 use Rattle.volume.specs.Volume.{released}
 use Rattle.recorder.specs.Calls.{release}
 use Rattle.recorder.proofs.Done.{ledger-accepted, release-done}

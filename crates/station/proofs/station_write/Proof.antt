@@ -1,20 +1,19 @@
 -- `station::station_write` meets its contract.
 -- Assumes nothing.
-use Prim.Native.Nat.{ℕ, _+_, _*_, _≤_, _<_}
+use Prim.Native.Nat.{ℕ, _*_, _≤_, _<_}
 use native.Mathlib.Omega.{arith}
 use mathlib.Core.Path.{_≡_, sym, ap, ap₂, _∙_, subst}
-use mathlib.Core.List.{List, []}
+use mathlib.Core.List.{List}
 use lib.ListN.{length}
 use Rattle.disc.specs.Disc.{Disc, lent, recorded}
 use Rattle.volume.specs.Volume.{ledgerLength, unpack, pack}
 use Rattle.recorder.specs.Refusals.{outcome}
-use Rattle.recorder.specs.Effects.{After, left}
-use lib.ListN.{set, replicate}
-use Rattle.vat.specs.Table.{sectorLength, limit, unused}
-use Rattle.disc.specs.Disc.{link, stored, puts}
+use Rattle.recorder.specs.Effects.{left}
+use lib.ListN.{set}
+use Rattle.vat.specs.Table.{sectorLength, limit}
+use Rattle.disc.specs.Disc.{stored}
 use Rattle.disc.proofs.Recording.{length-links, leading-le}
 use Rattle.volume.specs.declared.Volume.{Volume}
-use Rattle.volume.specs.Volume.{mapOf}
 use Rattle.recorder.specs.Refusals.{links, target}
 use Rattle.volume.specs.Volume.{wrote}
 use Rattle.recorder.specs.Calls.{write}

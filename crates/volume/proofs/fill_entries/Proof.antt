@@ -1,11 +1,11 @@
 -- `volume::fill_entries` meets its contract: the entries so far are the table's, and the others unused.
 -- Assumes nothing.
-use Prim.Native.Nat.{ℕ, _+_, _-_, _*_, _≤_}
+use Prim.Native.Nat.{ℕ, _+_, _-_, _≤_}
 use native.Mathlib.Omega.{arith}
 use mathlib.Core.Path.{_≡_, refl, sym, ap, ap₂, _∙_}
 use mathlib.Core.List.{List, _++_}
 use lib.ListN.{length, set, replicate, length-set}
-use Rattle.le.specs.Field.{readLe, words}
+use Rattle.le.specs.Field.{words}
 use Rattle.le.proofs.Runs.{words-none}
 use Rattle.vat.specs.Table.{unused, tableAt}
 use Rattle.volume.proofs.Fit.{fill-turn}

@@ -1,20 +1,9 @@
 -- `calls::admit::close_packet` meets its contract: it has the tests of every call that may record, and no others.
 -- Assumes nothing.
-use Prim.Native.Nat.{ℕ, _+_, _-_, _≤_, _<_}
-use native.Mathlib.Omega.{arith}
-use mathlib.Core.Path.{_≡_, refl, sym, ap, ap₂, _∙_, subst}
-use mathlib.Core.Bool.{Bool, true, false, _&&_}
-use mathlib.Core.List.{List, [], _∷_}
-use lib.Dec.{eqb, ltb}
-use lib.ListN.{length, getD}
-use borrow.Author.Tests.{le-ltb, lt-ltb}
-use Rattle.vat.specs.Table.{sectorLength, limit, unused, isTable}
-use Rattle.disc.specs.Disc.{Disc, lent, recorded, blanks, kindAt}
-use Rattle.disc.proofs.Recording.{leading-le, sound-sized}
-use Rattle.volume.specs.declared.Volume.{Volume}
-use Rattle.volume.specs.Volume.{unpack}
-use Rattle.recorder.specs.Calls.{write, commit, mount}
-use Rattle.recorder.specs.Refusals.{first, test, linkCount, links, target, reserve, ledgerLent, notInUse, outcome}
+use Prim.Native.Nat.{ℕ, _-_}
+use mathlib.Core.Path.{_∙_}
+use mathlib.Core.List.{List}
+use Rattle.disc.specs.Disc.{Disc, lent}
 use Rattle.calls.proofs.Outcomes.{close-outcome}
 use borrow.Author.Needs.{needs}
 use Rattle.calls.proofs.admit.close_packet.Statement.{statement}

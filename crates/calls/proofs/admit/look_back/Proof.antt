@@ -1,23 +1,15 @@
 -- `calls::admit::look_back` meets its contract: mount's tests stop it first, and then the walk.
 -- Assumes nothing.
-use Prim.Native.Nat.{ℕ, _+_, _-_, _≤_, _<_}
+use Prim.Native.Nat.{ℕ, _-_}
 use native.Mathlib.Omega.{arith}
-use mathlib.Core.Path.{_≡_, refl, sym, ap, ap₂, _∙_, subst}
-use mathlib.Core.Bool.{Bool, true, false, _&&_}
-use mathlib.Core.List.{List, [], _∷_}
-use lib.Dec.{eqb, ltb}
-use lib.ListN.{length, getD}
-use borrow.Author.Tests.{le-ltb, lt-ltb}
-use Rattle.vat.specs.Table.{sectorLength, limit, unused, isTable}
-use Rattle.disc.specs.Disc.{Disc, lent, recorded, blanks, kindAt}
-use Rattle.disc.proofs.Recording.{leading-le, sound-sized}
-use Rattle.volume.specs.declared.Volume.{Volume}
-use Rattle.volume.specs.Volume.{unpack}
-use Rattle.recorder.specs.Calls.{write, commit, mount}
-use Rattle.recorder.specs.Refusals.{first, test, linkCount, links, target, reserve, ledgerLent, notInUse, outcome}
+use mathlib.Core.Path.{_≡_, sym, ap, _∙_}
+use mathlib.Core.List.{List}
+use Rattle.disc.specs.Disc.{Disc, lent, recorded}
+use Rattle.disc.proofs.Recording.{sound-sized}
+use Rattle.recorder.specs.Calls.{mount}
+use Rattle.recorder.specs.Refusals.{outcome}
 use mathlib.Core.Option.{some}
-use Rattle.disc.specs.declared.Walk.{Walk}
-use Rattle.disc.specs.declared.Walk.the-variants.{Reached, Broken, Ended}
+use Rattle.disc.specs.declared.Walk.the-variants.{Reached}
 use Rattle.disc.specs.Tables.{tableAt, previousAt, newest, walk}
 use Rattle.disc.proofs.Found.{newest-table, walk-table}
 use Rattle.recorder.specs.Refusals.{walkFrom, walked}

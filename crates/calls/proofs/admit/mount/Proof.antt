@@ -1,13 +1,10 @@
 -- `calls::admit::mount` meets its contract: 1, 2 and 3 stop it first, and then the want of a table.
 -- Assumes nothing.
-use Prim.Native.Nat.{ℕ, _+_, _≤_, _<_}
+use Prim.Native.Nat.{ℕ, _≤_}
 use native.Mathlib.Omega.{arith}
-use mathlib.Core.Path.{_≡_, refl, sym, ap, _∙_, subst}
-use mathlib.Core.Bool.{Bool, true, false, _&&_}
+use mathlib.Core.Path.{_≡_, sym, ap, _∙_}
 use mathlib.Core.List.{List, []}
 use mathlib.Core.Option.{some}
-use lib.ListN.{length}
-use Rattle.vat.specs.Table.{unused}
 use Rattle.disc.specs.Disc.{Disc, lent, mostSectors, recorded}
 use Rattle.disc.specs.Tables.{tableAt, blockFound, newestBelow, newest}
 use Rattle.disc.proofs.Recording.{sound-sized, leading-le}

@@ -1,20 +1,17 @@
 -- `calls::admit::read` meets its contract: 1 to 4 stop it first, then a number that is not in use, then a sector that cannot be read.
 -- Assumes nothing.
-use Prim.Native.Nat.{ℕ, _+_, _-_, _≤_, _<_}
+use Prim.Native.Nat.{ℕ, _-_, _<_}
 use native.Mathlib.Omega.{arith}
-use mathlib.Core.Path.{_≡_, refl, sym, ap, ap₂, _∙_, subst}
-use mathlib.Core.Bool.{Bool, true, false, _&&_}
-use mathlib.Core.List.{List, [], _∷_}
-use lib.Dec.{eqb, ltb}
+use mathlib.Core.Path.{_≡_, sym, ap, _∙_}
+use mathlib.Core.Bool.{Bool, false, _&&_}
+use mathlib.Core.List.{List}
+use lib.Dec.{eqb}
 use lib.ListN.{length, getD}
-use borrow.Author.Tests.{le-ltb, lt-ltb}
-use Rattle.vat.specs.Table.{sectorLength, limit, unused, isTable}
-use Rattle.disc.specs.Disc.{Disc, lent, recorded, blanks, kindAt}
-use Rattle.disc.proofs.Recording.{leading-le, sound-sized}
-use Rattle.volume.specs.declared.Volume.{Volume}
+use Rattle.vat.specs.Table.{sectorLength, unused}
+use Rattle.disc.specs.Disc.{Disc, lent, recorded, kindAt}
+use Rattle.disc.proofs.Recording.{leading-le}
 use Rattle.volume.specs.Volume.{unpack}
-use Rattle.recorder.specs.Calls.{write, commit, mount}
-use Rattle.recorder.specs.Refusals.{first, test, linkCount, links, target, reserve, ledgerLent, notInUse, outcome}
+use Rattle.recorder.specs.Refusals.{first, ledgerLent, notInUse}
 use Rattle.recorder.proofs.Done.{fittingTests, Admitted, fitting-admits, entry-recorded}
 use Rattle.calls.proofs.Outcomes.{read-stopped, read-10, read-11, read-0}
 use borrow.Author.Needs.{needs}

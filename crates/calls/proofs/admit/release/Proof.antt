@@ -1,20 +1,12 @@
 -- `calls::admit::release` meets its contract: 1 to 5 stop it first, and then a number that is not in use.
 -- Assumes nothing.
-use Prim.Native.Nat.{ℕ, _+_, _-_, _≤_, _<_}
-use native.Mathlib.Omega.{arith}
-use mathlib.Core.Path.{_≡_, refl, sym, ap, ap₂, _∙_, subst}
-use mathlib.Core.Bool.{Bool, true, false, _&&_}
-use mathlib.Core.List.{List, [], _∷_}
-use lib.Dec.{eqb, ltb}
-use lib.ListN.{length, getD}
-use borrow.Author.Tests.{le-ltb, lt-ltb}
-use Rattle.vat.specs.Table.{sectorLength, limit, unused, isTable}
-use Rattle.disc.specs.Disc.{Disc, lent, recorded, blanks, kindAt}
-use Rattle.disc.proofs.Recording.{leading-le, sound-sized}
-use Rattle.volume.specs.declared.Volume.{Volume}
+use Prim.Native.Nat.{ℕ, _-_}
+use mathlib.Core.Path.{_≡_, sym, _∙_}
+use mathlib.Core.Bool.{true, false, _&&_}
+use mathlib.Core.List.{List, []}
+use Rattle.disc.specs.Disc.{Disc, lent}
 use Rattle.volume.specs.Volume.{unpack}
-use Rattle.recorder.specs.Calls.{write, commit, mount}
-use Rattle.recorder.specs.Refusals.{first, test, linkCount, links, target, reserve, ledgerLent, notInUse, outcome}
+use Rattle.recorder.specs.Refusals.{first, ledgerLent, notInUse}
 use Rattle.recorder.proofs.Done.{stop, skip, none-left, workingTests, Admitted, working-admits}
 use Rattle.calls.proofs.Outcomes.{release-stopped, release-tested}
 use borrow.Author.Needs.{needs}

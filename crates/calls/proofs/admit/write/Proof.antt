@@ -1,20 +1,18 @@
 -- `calls::admit::write` meets its contract: 1 to 5 stop it first, then the number, the room, and the lent block.
 -- Assumes nothing.
-use Prim.Native.Nat.{ℕ, _+_, _-_, _≤_, _<_}
+use Prim.Native.Nat.{ℕ, _+_, _-_, _≤_}
 use native.Mathlib.Omega.{arith}
-use mathlib.Core.Path.{_≡_, refl, sym, ap, ap₂, _∙_, subst}
+use mathlib.Core.Path.{_≡_, sym, ap₂, _∙_}
 use mathlib.Core.Bool.{Bool, true, false, _&&_}
 use mathlib.Core.List.{List, [], _∷_}
-use lib.Dec.{eqb, ltb}
-use lib.ListN.{length, getD}
-use borrow.Author.Tests.{le-ltb, lt-ltb}
-use Rattle.vat.specs.Table.{sectorLength, limit, unused, isTable}
-use Rattle.disc.specs.Disc.{Disc, lent, recorded, blanks, kindAt}
-use Rattle.disc.proofs.Recording.{leading-le, sound-sized}
-use Rattle.volume.specs.declared.Volume.{Volume}
+use lib.Dec.{eqb}
+use lib.ListN.{length}
+use Rattle.vat.specs.Table.{sectorLength, isTable}
+use Rattle.disc.specs.Disc.{Disc, lent, recorded}
+use Rattle.disc.proofs.Recording.{leading-le}
 use Rattle.volume.specs.Volume.{unpack}
-use Rattle.recorder.specs.Calls.{write, commit, mount}
-use Rattle.recorder.specs.Refusals.{first, test, linkCount, links, target, reserve, ledgerLent, notInUse, outcome}
+use Rattle.recorder.specs.Calls.{write}
+use Rattle.recorder.specs.Refusals.{first, test, links, target, ledgerLent, outcome}
 use Rattle.recorder.proofs.Done.{stop, skip, none-left, workingTests, Admitted, working-admits, links-few}
 use Rattle.calls.proofs.Outcomes.{write-stopped, write-12, write-13, write-14, write-tested}
 use borrow.Author.Needs.{needs}

@@ -1,17 +1,15 @@
 -- `calls::basic::fitting` meets its contract: 1, 2 and 3 stop it first, and then the state fits or does not.
 -- Assumes nothing.
-use Prim.Native.Nat.{ℕ, _+_, _≤_, _<_}
-use native.Mathlib.Omega.{arith}
-use mathlib.Core.Path.{_≡_, refl, sym, ap, _∙_, subst}
+use Prim.Native.Nat.{ℕ}
+use mathlib.Core.Path.{_≡_, sym, _∙_}
 use mathlib.Core.Bool.{Bool, true, false, _&&_}
 use mathlib.Core.List.{List, []}
 use borrow.Author.Tests.{not-true, not-false}
-use lib.ListN.{length}
 use Rattle.disc.specs.Disc.{Disc, lent}
 use Rattle.disc.proofs.Recording.{sound-sized}
-use Rattle.volume.specs.Volume.{ledgerLength, unpack, fits}
+use Rattle.volume.specs.Volume.{unpack, fits}
 use Rattle.recorder.specs.Refusals.{first, basic, ledgerLent}
-use Rattle.recorder.proofs.Done.{Basic, basic-passed, fittingTests, ledger-lent}
+use Rattle.recorder.proofs.Done.{Basic, basic-passed, ledger-lent}
 use Rattle.calls.proofs.Outcomes.{fitting-stopped, fitting-4, fitting-0}
 use borrow.Author.Needs.{needs}
 use Rattle.calls.proofs.basic.fitting.Statement.{statement}

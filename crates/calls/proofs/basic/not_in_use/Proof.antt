@@ -1,10 +1,9 @@
 -- `calls::basic::not_in_use` meets its contract: beyond size no number is in use, and below it the entry tells.
 -- Assumes nothing.
-use Prim.Native.Nat.{ℕ, _≤_}
+use Prim.Native.Nat.{ℕ}
 use native.Mathlib.Omega.{arith}
-use mathlib.Core.Path.{_≡_, sym, ap, _∙_, subst}
-use mathlib.Core.Bool.{true, false}
-use lib.Dec.{eqb, leb}
+use mathlib.Core.Path.{ap}
+use lib.Dec.{eqb}
 use borrow.Author.Tests.{le-leb, lt-leb}
 use Rattle.vat.specs.Table.{unused}
 use Rattle.volume.specs.declared.Volume.{Volume}

@@ -1,13 +1,11 @@
 -- `calls::basic::sound` meets its contract: each return has the test that led to it.
 -- Assumes nothing.
-use Prim.Native.Nat.{ℕ, _≤_}
+use Prim.Native.Nat.{ℕ}
 use native.Mathlib.Omega.{arith}
 use mathlib.Core.Path.{_≡_, sym, _∙_}
 use mathlib.Core.Bool.{true, false}
-use mathlib.Core.List.{List}
-use lib.ListN.{length}
 use borrow.Author.Tests.{not-true, not-false}
-use Rattle.disc.specs.Disc.{Disc, lent, sized, inOrder, leading}
+use Rattle.disc.specs.Disc.{Disc, lent, sized, inOrder}
 use Rattle.disc.proofs.Recording.{sized-tells, leading-le}
 use Rattle.recorder.proofs.Done.{refusal-1, refusal-2, refusal-3, no-refusal}
 use borrow.Author.Needs.{needs}

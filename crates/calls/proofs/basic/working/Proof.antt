@@ -1,13 +1,10 @@
 -- `calls::basic::working` meets its contract: 1 to 4 stop it first, and then the mode.
 -- Assumes nothing.
-use Prim.Native.Nat.{ℕ, _+_, _≤_, _<_}
-use native.Mathlib.Omega.{arith}
-use mathlib.Core.Path.{_≡_, refl, sym, ap, _∙_, subst}
-use mathlib.Core.Bool.{Bool, true, false, _&&_}
+use Prim.Native.Nat.{ℕ}
+use mathlib.Core.Path.{_≡_, sym, _∙_}
+use mathlib.Core.Bool.{Bool, _&&_}
 use mathlib.Core.List.{List}
-use lib.ListN.{length}
 use Rattle.disc.specs.Disc.{Disc, lent}
-use Rattle.volume.specs.Volume.{unpack}
 use Rattle.recorder.specs.Refusals.{first, ledgerLent}
 use Rattle.recorder.proofs.Done.{fittingTests, fitting-admits}
 use Rattle.calls.proofs.Outcomes.{working-stopped, working-5, working-0}

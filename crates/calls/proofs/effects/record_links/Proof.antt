@@ -1,7 +1,7 @@
 -- `calls::effects::record_links` meets its contract: the links of the state, behind what is recorded.
 -- Assumes nothing.
 use Prim.Native.Nat.{ℕ, _+_}
-use mathlib.Core.Path.{_≡_, ap₂, _∙_}
+use mathlib.Core.Path.{ap₂, _∙_}
 use mathlib.Core.List.{List, []}
 use lib.ListN.{replicate}
 use Rattle.disc.specs.Disc.{lent, link, puts}

@@ -2,14 +2,13 @@
 -- Assumes nothing.
 use Prim.Native.Nat.{ℕ, _+_, _-_, _*_, _≤_, _<_}
 use native.Mathlib.Omega.{arith}
-use mathlib.Core.Path.{_≡_, refl, sym, ap, ap₂, _∙_}
+use mathlib.Core.Path.{_≡_, refl, ap, ap₂, _∙_}
 use mathlib.Core.List.{List, _++_}
 use lib.ListN.{length, take, drop}
 use lib.Seq.{length-take-le}
 use Rattle.vat.specs.Table.{sectorLength, limit}
 use Rattle.vat.specs.Sector.{sector}
 use Rattle.vat.proofs.Theorems.{length-sector}
-use Rattle.disc.specs.Disc.{stored}
 use Rattle.disc.proofs.Recording.{stored-part}
 use Rattle.volume.specs.declared.Volume.{Volume}
 use Rattle.volume.specs.Volume.{mapOf}

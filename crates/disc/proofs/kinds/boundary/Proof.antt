@@ -1,11 +1,11 @@
 -- `disc::kinds::boundary` meets its contract: where the kinds are in order, the first blank sector stays between the two ends.
 -- Assumes nothing.
-use Prim.Native.Nat.{ℕ, _-_, _≤_, _<_}
+use Prim.Native.Nat.{ℕ, _-_, _≤_}
 use native.Mathlib.Omega.{arith}
-use mathlib.Core.Path.{_≡_, refl, sym, ap, _∙_}
+use mathlib.Core.Path.{_≡_}
 use mathlib.Core.Bool.{true}
 use mathlib.Core.List.{List}
-use lib.ListN.{length, getD}
+use lib.ListN.{length}
 use borrow.Author.Needs.{needs}
 use Rattle.disc.specs.Disc.{leading, inOrder}
 use Rattle.disc.proofs.Recording.{leading-le}

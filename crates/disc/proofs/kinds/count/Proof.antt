@@ -3,13 +3,12 @@
 use Prim.Native.Nat.{ℕ, _-_, _≤_}
 use native.Mathlib.Omega.{arith}
 use mathlib.Core.Path.{_≡_, sym, ap, ap₂, _∙_}
-use mathlib.Core.Bool.{Bool, true, _&&_}
+use mathlib.Core.Bool.{_&&_}
 use mathlib.Core.List.{List}
 use lib.Dec.{eqb}
-use lib.ListN.{length, take, drop, length-drop}
+use lib.ListN.{length, drop, length-drop}
 use lib.Seq.{take-all}
 use Rattle.le.specs.Bytes.{every}
-use Rattle.disc.specs.Disc.{inOrder}
 use Rattle.disc.proofs.Recording.{blankFrom}
 use Rattle.disc.proofs.Order.{recordedTo, sides-tell}
 use borrow.Author.Needs.{needs}

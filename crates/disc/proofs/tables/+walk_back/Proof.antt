@@ -3,7 +3,6 @@
 use Prim.Native.Nat.{ℕ, _+_, _-_, _/_, _<_}
 use native.Mathlib.Omega.{arith}
 use mathlib.Core.Path.{_≡_, sym, ap, _∙_}
-use mathlib.Core.List.{List}
 use borrow.Author.Needs.{needs}
 use Rattle.disc.specs.declared.Walk.the-variants.{Reached, Broken, Ended}
 use Rattle.disc.specs.Disc.{Disc, lent}

@@ -7,7 +7,7 @@ use mathlib.Core.Bool.{true, false}
 use mathlib.Core.List.{List}
 use lib.ListN.{length}
 use borrow.Author.Tests.{not-true, not-false}
-use Rattle.vat.specs.Table.{sectorLength, limit, unused, entryCount, previousOf}
+use Rattle.vat.specs.Table.{limit, entryCount, previousOf}
 use Rattle.vat.proofs.Theorems.{Recognised, recognised}
 use Rattle.disc.specs.declared.Walk.the-variants.{Reached}
 use Rattle.disc.specs.Disc.{Disc, lent, kindAt, sectorAt}

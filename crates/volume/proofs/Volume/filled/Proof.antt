@@ -1,7 +1,7 @@
 -- `volume::Volume::filled` meets its contract: the table's entries, as many as it has.
 -- Assumes nothing.
 use Prim.Native.Nat.{ℕ}
-use mathlib.Core.Path.{_≡_, sym, ap, _∙_}
+use mathlib.Core.Path.{sym, ap, _∙_}
 use mathlib.Core.List.{List}
 use Rattle.le.specs.Field.{words}
 use Rattle.vat.specs.Table.{tableAt, entriesOf}

@@ -2,7 +2,7 @@
 -- Assumes nothing.
 use Prim.Native.Nat.{ℕ, _*_}
 use native.Mathlib.Nat.{zero-add}
-use mathlib.Core.Path.{_≡_, sym, ap, _∙_}
+use mathlib.Core.Path.{sym, ap, _∙_}
 use Rattle.le.specs.Field.{readLe}
 use Rattle.le.proofs.Runs.{getD-words}
 use Rattle.vat.specs.Table.{limit, unused}

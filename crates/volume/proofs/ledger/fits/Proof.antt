@@ -3,10 +3,10 @@
 use Prim.Native.Nat.{ℕ, _-_, _*_, _≤_, _<_}
 use native.Mathlib.Omega.{arith}
 use mathlib.Core.Path.{_≡_, sym, ap, ap₂, _∙_, subst}
-use mathlib.Core.Bool.{Bool, _&&_, _||_}
+use mathlib.Core.Bool.{_&&_, _||_}
 use mathlib.Core.List.{List}
 use lib.Dec.{eqb}
-use lib.ListN.{length, drop}
+use lib.ListN.{drop}
 use Rattle.le.specs.Bytes.{every}
 use Rattle.le.specs.Field.{words}
 use Rattle.vat.specs.Table.{limit, unused, unusedOrBelow}
@@ -14,7 +14,7 @@ use Rattle.disc.specs.Disc.{Disc, lent, recorded}
 use Rattle.disc.specs.Tables.{tableAt}
 use Rattle.disc.proofs.Recording.{leading-le}
 use Rattle.volume.specs.declared.Volume.{Volume}
-use Rattle.volume.specs.Volume.{unpack, mapOf, fits}
+use Rattle.volume.specs.Volume.{unpack, mapOf}
 use Rattle.volume.proofs.Fit.{entries-below, entries-beyond, modeFits, too-many, other-count, fits-parts}
 use borrow.Author.Needs.{needs}
 use Rattle.volume.proofs.ledger.fits.Statement.{statement}
