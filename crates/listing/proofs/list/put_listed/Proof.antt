@@ -1,0 +1,86 @@
+-- `listing::list::put_listed` meets its contract: a refused mount is told, or the heading and the rows are put.
+-- Assumes nothing.
+use Prim.Native.Nat.{ℕ, _+_, _/_, _%_}
+use mathlib.Core.Path.{_≡_, sym, ap, _∙_}
+use mathlib.Core.List.{List, _++_}
+use lib.Dec.{eqb}
+use lib.ListN.{length}
+use lib.Seq.{sets}
+use Rattle.disc.specs.Disc.{Disc, lent}
+use Rattle.recorder.specs.Calls.{mount}
+use Rattle.recorder.specs.Effects.{After, after}
+use Rattle.listing.specs.Text.{heading, refusedLine}
+use Rattle.listing.specs.Listing.{outcomeIn, secondIn, spare, rowsFrom, mostListed, listed}
+use Rattle.listing.proofs.Rows.{listed-refused, listed-rows, heading-put, heading-length}
+use borrow.Author.Needs.{needs}
+use Rattle.listing.proofs.list.put_listed.Statement.{statement}
+use Rattle.listing.proofs.list.put_listed.Tie as tie
+
+answered : (c : tie.After-station-mount) → c .station-mount .result ≡ after (lent (c .before .before .before .before .before .args .image .now) (c .before .before .before .before .before .args .kinds .now)) spare mount .answer
+unfolding spare
+answered c = ap {A = After} (λ x. x .answer) (c .station-mount .ensures)
+
+slice-aggregate-station-mount : tie.Need-slice-aggregate-station-mount
+slice-aggregate-station-mount c = search needs
+
+station-mount-requires : tie.Need-station-mount-requires
+station-mount-requires c κs = search needs
+
+cast-put-refused : tie.Need-cast-put-refused
+cast-put-refused c = search needs
+
+put-refused-requires : tie.Need-put-refused-requires
+put-refused-requires c κs = search needs
+
+same-length : tie.Need-same-length
+same-length c = search needs
+
+returns : tie.Need-returns
+returns c =
+    let a = c .before .before .before .before .before .before .before .before .before .before .before .args in
+    let d : Disc = lent (a .image .now) (a .kinds .now) in
+    let line : refusedLine (c .before .before .before .before .before .before .station-mount .result / 4294967296) ≡ listed d =
+    ap (λ (x : ℕ). refusedLine (outcomeIn x)) (answered (c .before .before .before .before .before .before)) ∙ listed-refused d (λ e. c .before .before .before .before .if1 .taken (ap outcomeIn (answered (c .before .before .before .before .before .before)) ∙ e)) in
+    (c .before .before .put-refused .ensures .0 ∙ ap (sets (a .out .now) 0) line, c .before .before .put-refused .ensures .1 ∙ ap length line)
+
+slice-aggregate-put-text : tie.Need-slice-aggregate-put-text
+slice-aggregate-put-text c = search needs
+
+put-text-requires : tie.Need-put-text-requires
+put-text-requires c κs = search needs
+
+put-rows-requires : tie.Need-put-rows-requires
+put-rows-requires c κs = search needs
+
+same-length-2 : tie.Need-same-length-2
+same-length-2 c = search needs
+
+returns-2 : tie.Need-returns-2
+unfolding heading
+returns-2 c =
+    let a = c .before .before .before .before .before .before .before .before .before .before .before .before .before .before .before .before .args in
+    let d : Disc = lent (a .image .now) (a .kinds .now) in
+    let out : List ℕ = a .out .now in
+    let rows : List ℕ = rowsFrom d (eqb (c .before .before .before .before .before .before .before .before .before .before .before .station-mount .result % 4294967296) 1) (mostListed + 1) 0 in
+    let all : heading ++ rows ≡ listed d =
+    ap (λ (x : ℕ). heading ++ rowsFrom d (eqb (secondIn x) 1) (mostListed + 1) 0) (answered (c .before .before .before .before .before .before .before .before .before .before .before)) ∙ listed-rows d (ap outcomeIn (sym (answered (c .before .before .before .before .before .before .before .before .before .before .before))) ∙ c .before .before .before .before .before .before .before .before .before .if1 .left) in
+    let titled : c .before .before .before .before .before .before .put-text .last .0 ≡ sets out 0 heading = c .before .before .before .before .before .before .put-text .ensures in (
+      c .before .before .put-rows .ensures .0 ∙ ap (λ (x : List ℕ). sets x 25 rows) titled ∙ heading-put out rows ∙ ap (sets out 0) all,
+      c .before .before .put-rows .ensures .1 ∙ heading-length rows ∙ ap length all,
+    )
+
+pub put-listed-spec : {M : Type 1} → statement M
+put-listed-spec =
+    tie.close
+    (tie.spec
+    slice-aggregate-station-mount
+    station-mount-requires
+    cast-put-refused
+    put-refused-requires
+    same-length
+    returns
+    slice-aggregate-put-text
+    put-text-requires
+    put-rows-requires
+    same-length-2
+    returns-2)

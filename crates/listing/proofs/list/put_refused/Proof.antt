@@ -1,0 +1,46 @@
+-- `listing::list::put_refused` meets its contract: the word, a column and a newline.
+-- Assumes nothing.
+use Prim.Native.Nat.{ℕ}
+use mathlib.Core.Path.{_≡_, sym, _∙_}
+use mathlib.Core.List.{List, [], _∷_}
+use lib.Seq.{sets}
+use Rattle.le.specs.Field.{le}
+use Rattle.listing.specs.Text.{column}
+use Rattle.listing.proofs.Lines.{refused-put, length-refused}
+use borrow.Author.Needs.{needs}
+use Rattle.listing.proofs.list.put_refused.Statement.{statement}
+use Rattle.listing.proofs.list.put_refused.Tie as tie
+
+slice-aggregate-put-text : tie.Need-slice-aggregate-put-text
+slice-aggregate-put-text c = search needs
+
+put-text-requires : tie.Need-put-text-requires
+put-text-requires c κs = search needs
+
+put-column-requires : tie.Need-put-column-requires
+put-column-requires c κs = search needs
+
+put8-requires : tie.Need-put8-requires
+put8-requires c κs = search needs
+
+same-length : tie.Need-same-length
+same-length c = search needs
+
+returns : tie.Need-returns
+returns c =
+    let a = c .before .before .before .before .before .before .before .before .before .before .before .before .before .before .args in
+    let out : List ℕ = a .out .now in
+    let put : c .before .before .put8 .last .0
+    ≡ sets (sets (sets out 0 (114 ∷ 101 ∷ 102 ∷ 117 ∷ 115 ∷ 101 ∷ 100 ∷ [])) 7 (column 3 (a .outcome))) 11 (le 1 10) = cc in
+    (put ∙ refused-put out (a .outcome), sym (length-refused (a .outcome)))
+
+pub put-refused-spec : {M : Type 1} → statement M
+put-refused-spec =
+    tie.close
+    (tie.spec
+    slice-aggregate-put-text
+    put-text-requires
+    put-column-requires
+    put8-requires
+    same-length
+    returns)
