@@ -18,7 +18,7 @@ const BROKEN: [u8; 7] = *b"broken\n";
 
 const REFUSED: [u8; 7] = *b"refused";
 
-// A line at a place; the answer is the place behind it.
+// The line of a refusal, which is the whole answer; how long it is.
 fn put_refused(out: &mut [u8], outcome: u32) -> usize
     requires { ⌜ 12 ≤ length (now out) ⌝ }
     ensures { λ r. ⌜ (now (out .exit) ≡ sets (now (out .entry)) 0 (refusedLine outcome)) × (r ≡ length (refusedLine outcome)) ⌝ }
@@ -30,6 +30,7 @@ fn put_refused(out: &mut [u8], outcome: u32) -> usize
     12
 }
 
+// The last line at a place; the answer is the place behind it.
 fn put_last(out: &mut [u8], at: usize, broken: bool, clean: bool) -> usize
     requires { ⌜ at + 7 ≤ length (now out) ⌝ }
     ensures { λ r. ⌜ (now (out .exit) ≡ sets (now (out .entry)) at (lastLine broken clean)) × (r ≡ at + length (lastLine broken clean)) ⌝ }
