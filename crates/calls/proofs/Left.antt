@@ -1,13 +1,11 @@
 -- What a call leaves, from its outcome: every byte as it was, or what its definition says, part by part.
 -- Assumes nothing.
-use Prim.Native.Nat.{ℕ, zero, suc, _+_, _*_, _≤_}
-use native.Mathlib.Omega.{arith}
+use Prim.Native.Nat.{ℕ, zero, suc, _+_, _*_}
 use mathlib.Core.Path.{_≡_, refl, sym, ap, _∙_}
-use mathlib.Core.List.{List, [], _∷_, _++_, append-nil}
+use mathlib.Core.List.{List, [], _∷_, _++_}
 use mathlib.Core.Option.{Option, some}
 use lib.Dec.{eqb}
-use lib.ListN.{length, getD, set, replicate, length-replicate, drop-of-length-le}
-use lib.Seq.{sets, sets-eq}
+use lib.ListN.{length, getD, set, replicate, length-replicate}
 use Rattle.vat.specs.Table.{sectorLength, unused}
 use Rattle.vat.specs.Sector.{sector}
 use Rattle.disc.specs.declared.Walk.{Walk}
@@ -25,12 +23,6 @@ use Rattle.recorder.proofs.Done.{write-done, commit-done}
 -- equal parts leave the same
 pub same-left : {a a′ : ℕ} {i i′ k k′ l l′ b : List ℕ} → a ≡ a′ → i ≡ i′ → k ≡ k′ → l ≡ l′ → left a i k l b ≡ left a′ i′ k′ l′ b
 same-left p q r s = cc
-
--- a whole block that is overwritten
-pub sets-whole : (s block : List ℕ) → length s ≡ length block → sets block 0 s ≡ s
-sets-whole s block h =
-    let all : length block ≤ 0 + length s = omega arith in
-    sets-eq s block 0 (omega arith) ∙ ap (λ (r : List ℕ). s ++ r) (drop-of-length-le block all) ∙ append-nil s
 
 module _ (d : Disc) (l : List ℕ) where
   -- a refusal

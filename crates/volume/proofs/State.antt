@@ -251,7 +251,8 @@ words-snoc (suc n) s at =
 
 -- ---- the state, put part by part
 
-sets-all : (vs l : List ℕ) → length vs ≡ length l → sets l 0 vs ≡ vs
+-- a whole buffer that is overwritten
+pub sets-all : (vs l : List ℕ) → length vs ≡ length l → sets l 0 vs ≡ vs
 sets-all vs l h =
     let all : length l ≤ 0 + length vs = omega arith in
     sets-eq vs l 0 (omega arith) ∙ ap (λ (r : List ℕ). vs ++ r) (drop-of-length-le l all) ∙ append-nil vs

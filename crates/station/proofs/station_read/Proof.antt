@@ -7,6 +7,7 @@ use mathlib.Core.List.{List}
 use lib.ListN.{length}
 use Rattle.disc.specs.Disc.{Disc, lent, recorded}
 use Rattle.volume.specs.Volume.{unpack}
+use Rattle.volume.proofs.State.{sets-all}
 use Rattle.recorder.specs.Refusals.{outcome}
 use Rattle.recorder.specs.Effects.{left}
 use lib.ListN.{getD}
@@ -17,7 +18,7 @@ use Rattle.disc.proofs.Recording.{sized-tells, sound-sized, leading-le}
 use Rattle.disc.proofs.Found.{part-sector, sector-end, sector-long}
 use Rattle.recorder.specs.Calls.{read}
 use Rattle.recorder.proofs.Done.{ledger-accepted, ReadDone, read-done, entry-recorded}
-use Rattle.calls.proofs.Left.{sets-whole, refused-left, read-left}
+use Rattle.calls.proofs.Left.{refused-left, read-left}
 use borrow.Author.Needs.{needs}
 use Rattle.station.proofs.station_read.Statement.{statement}
 use Rattle.station.proofs.station_read.Tie as tie
@@ -104,7 +105,7 @@ returns-2 c =
     let e = at .before in
     let s = e .before .before .before .before .before .before .before in
     let b : ℕ = at .entry .result in
-    let copied = c .before .before .put-text .ensures ∙ ap (sets (K s) 0) (part-sector (D s) b) ∙ sets-whole (sectorAt (D s) b) (K s) (long at ∙ sym (told e .block-long))
+    let copied = c .before .before .put-text .ensures ∙ ap (sets (K s) 0) (part-sector (D s) b) ∙ sets-all (sectorAt (D s) b) (K s) (long at ∙ sym (told e .block-long))
     ∙ ap (sectorAt (D s)) (at .entry .ensures) in
     ap (λ (x : List ℕ). left 0 (D s .image) (D s .kinds) (L s) x) copied ∙ read-left (D s) (L s) (s .args .v) (K s) (done e)
 

@@ -6,7 +6,7 @@ use mathlib.Core.Path.{_≡_, refl, sym, ap, _∙_}
 use mathlib.Core.List.{List}
 use lib.ListN.{length, set, drop, length-set, drop-of-length-le}
 use lib.Seq.{sets}
-use Rattle.calls.proofs.Left.{sets-whole}
+use Rattle.volume.proofs.State.{sets-all}
 use Rattle.listing.specs.Listing.{kindsOf}
 use Rattle.listing.proofs.Input.{length-kinds, kind-put}
 use Rattle.listing.proofs.form.fill_kinds.Statement.{statement}
@@ -54,7 +54,7 @@ returns c =
     let l = c .before .loop in
     let a = c .before .before .before .before .args in
     let digits : List ℕ = a .digits .now in
-    rw (drop-of-length-le digits (c .loop-test .left)) at (l .inv .2) ∙ sets-whole (kindsOf digits) (a .kinds .now) (length-kinds digits ∙ sym (c .before .before .before .before .pre))
+    rw (drop-of-length-le digits (c .loop-test .left)) at (l .inv .2) ∙ sets-all (kindsOf digits) (a .kinds .now) (length-kinds digits ∙ sym (c .before .before .before .before .pre))
 
 pub fill-kinds-spec : {M : Type 1} → statement M
 fill-kinds-spec =
