@@ -14,7 +14,7 @@ use borrow.Author.Tests.{eq-eqb, ne-eqb, eqb-true, ltb-true, ltb-false, leb-true
 use Rattle.le.specs.Bytes.{every}
 use Rattle.vat.specs.Table.{sectorLength}
 use Rattle.vat.proofs.Frame.{and-left, and-right}
-use Rattle.disc.specs.Disc.{Disc, lent, mostSectors, sized, counted, leading, recorded, inOrder, formed, kindAt, sectorAt, Sector, link, plain, torn, stored, put, puts}
+use Rattle.disc.specs.Disc.{Disc, lent, mostSectors, sized, counted, leading, recorded, inOrder, kindAt, sectorAt, Sector, link, plain, torn, stored, put, puts}
 
 -- ---- the kinds
 
@@ -117,7 +117,7 @@ pub record Sound (d : Disc) : Type 0 where
   pub known : every (λ k. leb k 3) (d .kinds) ≡ true
   pub blank : blankFrom (d .kinds) (recorded d) ≡ true
 
-pub sound : (d : Disc) → sized d ≡ true → formed d ≡ true → Sound d
+pub sound : (d : Disc) → sized d ≡ true → inOrder (d .kinds) ≡ true → Sound d
 unfolding inOrder
 sound d s f =
     let z : Sized d = sized-tells d s in
@@ -134,9 +134,9 @@ unfolding sized
 sound-sized d s =
     rw (lt-ltb 0 (length (d .kinds)) (s .some-sectors), le-leb (length (d .kinds)) mostSectors (s .few), eq-eqb (length (d .image)) (sectorLength * length (d .kinds)) (s .whole))
 
-pub sound-formed : (d : Disc) → Sound d → formed d ≡ true
+pub sound-order : (d : Disc) → Sound d → inOrder (d .kinds) ≡ true
 unfolding inOrder
-sound-formed d s = rw (s .known, s .blank)
+sound-order d s = rw (s .known, s .blank)
 
 every-set : (f : ℕ → Bool) (xs : List ℕ) (n x : ℕ) → every f xs ≡ true → f x ≡ true → every f (set xs n x) ≡ true
 unfolding every

@@ -41,9 +41,6 @@ recorded d = leading (d .kinds)
 unfoldable pub inOrder : List ℕ → Bool
 inOrder ks = every (λ k. leb k 3) ks && every (λ k. eqb k 0) (drop (leading ks) ks)
 
-abbrev pub formed : Disc → Bool
-formed d = inOrder (d .kinds)
-
 abbrev pub blanks : Disc → ℕ
 blanks d = length (d .kinds) - recorded d
 

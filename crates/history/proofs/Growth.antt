@@ -16,37 +16,30 @@ use borrow.Author.Tests.{eq-eqb, ltb-true, eqb-true, lt-ltb, le-ltb}
 use Rattle.le.specs.Bytes.{every}
 use Rattle.vat.specs.Table.{sectorLength, unused, unusedOrBelow, entriesOf, previousOf, isTable}
 use Rattle.vat.proofs.Frame.{and-left, and-right}
-use Rattle.vat.proofs.Theorems.{recognised, of-kind-1}
+use Rattle.vat.proofs.Theorems.{Named, named, recognised, of-kind-1}
 use Rattle.disc.specs.Disc.{Disc, recorded, kindAt, sectorAt, readable, content, Sector, link, plain, torn, put, puts}
 use Rattle.disc.specs.Tables.{tableAt, mapAt, previousAt}
 use Rattle.disc.proofs.Recording.{Sound, Whole, Recorded, put-recorded, plain-here, puts-append}
 use Rattle.history.specs.Events.{Torn, tornAt, cutDisc}
-use Rattle.history.proofs.Log.{Format, Below, AllBelow, NamesBelow, View, Extends, Plain, Saved, extends-on, plain-same, plain-on}
+use Rattle.history.proofs.Log.{Format, AllBelow, NamesBelow, View, Extends, Plain, Saved, extends-on, plain-same, plain-on}
 
 abbrev pub F : Format
 F = record { Disc = Disc; recorded = recorded; table = tableAt; mapAt = mapAt; previousAt = previousAt; content = content }
 
 -- a test of every number, one by one
-below-of : (b x : ℕ) → unusedOrBelow b x ≡ true → Below b x
-below-of b x e = go (ltb x b) refl e
-  where
-    go : (t : Bool) → ltb x b ≡ t → (t || eqb x unused) ≡ true → Below b x
-    go true below e = inr (ltb-true x b below)
-    go false above e = inl (eqb-true x unused e)
-
 pub all-below-of : (b : ℕ) (xs : List ℕ) → every (unusedOrBelow b) xs ≡ true → AllBelow b xs
 unfolding every
 all-below-of b [] e = tt
 all-below-of b (x ∷ xs) e =
-    (below-of b x (and-left (unusedOrBelow b x) (every (unusedOrBelow b) xs) e), all-below-of b xs (and-right (unusedOrBelow b x) (every (unusedOrBelow b) xs) e))
+    (named b x (and-left (unusedOrBelow b x) (every (unusedOrBelow b) xs) e), all-below-of b xs (and-right (unusedOrBelow b x) (every (unusedOrBelow b) xs) e))
 
-pub below-to : (b x : ℕ) → Below b x → unusedOrBelow b x ≡ true
-below-to b x (inl e) = rw (eq-eqb x unused e) (or-last (ltb x b))
+pub below-to : (b x : ℕ) → Named b x → unusedOrBelow b x ≡ true
+below-to b x (inr e) = rw (eq-eqb x unused e) (or-last (ltb x b))
   where
     or-last : (t : Bool) → (t || true) ≡ true
     or-last true = refl
     or-last false = refl
-below-to b x (inr h) = rw (lt-ltb x b h)
+below-to b x (inl h) = rw (lt-ltb x b h)
 
 pub all-below-to : (b : ℕ) (xs : List ℕ) → AllBelow b xs → every (unusedOrBelow b) xs ≡ true
 unfolding every

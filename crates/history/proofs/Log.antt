@@ -1,7 +1,7 @@
 -- A write-once log of tables, over any format: what a step of a call does to the disc and the working state, and that each step keeps the history
 -- true. A format owes its operations, one law, and for each call the step that it takes.
---     kept          every step keeps the invariant
---     mount-page    the newest table shows the newest page
+--     kept          every step keeps the invariant, whose first part is that the newest table shows the newest page
+--     newest-saved  a table recorded last is the newest
 --     walk-page     the walk back k tables reaches the page k before the newest
 -- Assumes nothing.
 use Prim.Native.Nat.{ℕ, zero, suc, _+_, _-_, _≤_, _<_}
@@ -16,6 +16,7 @@ use lib.Dec.{eqb, ltb}
 use lib.ListN.{length, getD, set}
 use borrow.Author.Tests.{eq-eqb, ne-eqb, ltb-true, ltb-false}
 use Rattle.vat.specs.Table.{unused}
+use Rattle.vat.proofs.Theorems.{Named}
 use Rattle.volume.proofs.State.{grownMap}
 use Rattle.disc.specs.declared.Walk.the-variants.{Reached}
 use Rattle.disc.specs.Tables.{found, newestBelow, walk}
@@ -32,21 +33,18 @@ pub record Format : Type 1 where
   pub previousAt : Disc → ℕ → ℕ
   pub content : Disc → ℕ → Option (List ℕ)
 
--- a block number that may be named while r sectors are recorded
-abbrev pub Below : ℕ → ℕ → Type 0
-Below r x = (x ≡ unused) ⊎ (x < r)
-
+-- block numbers that may be named while r sectors are recorded
 abbrev pub AllBelow : ℕ → List ℕ → Type 0
 AllBelow r [] = Unit
-AllBelow r (x ∷ xs) = Below r x × AllBelow r xs
+AllBelow r (x ∷ xs) = Named r x × AllBelow r xs
 
 -- the one law of the format: a table names lower blocks alone
 abbrev pub NamesBelow : Format → Type 0
 NamesBelow F = (d : F .Disc) (b : ℕ) → F .table d b ≡ true → AllBelow b (F .mapAt d b)
 
-below-more : (r r′ : ℕ) (x : ℕ) → r ≤ r′ → Below r x → Below r′ x
-below-more r r′ x h (inl e) = inl e
-below-more r r′ x h (inr l) = inr (omega arith)
+below-more : (r r′ : ℕ) (x : ℕ) → r ≤ r′ → Named r x → Named r′ x
+below-more r r′ x h (inl l) = inl (omega arith)
+below-more r r′ x h (inr e) = inr e
 
 pub all-below-more : (r r′ : ℕ) (xs : List ℕ) → r ≤ r′ → AllBelow r xs → AllBelow r′ xs
 all-below-more r r′ [] h a = tt
@@ -160,7 +158,7 @@ module _ (F : Format) where
     mounted : {d : F .Disc} {v : Option View} (second b : ℕ) → newestOf d ≡ some b
         → Step (at d v) (answered Told.mount 0 second) (at d (some (working (F .mapAt d b) b)))
     looked : {d : F .Disc} {v : Option View} (k second : ℕ) (w : View) → w .looking ≡ true → Step (at d v) (answered (Told.lookBack k) 0 second) (at d (some w))
-    wrote : {d d′ : F .Disc} (xs : List ℕ) (last n b : ℕ) (block : List ℕ) → Plain d d′ → n ≤ length xs → F .recorded d ≤ b → b < F .recorded d′
+    wrote : {d d′ : F .Disc} (xs : List ℕ) (last n b : ℕ) (block : List ℕ) → Plain d d′ → b < F .recorded d′
         → (b ≡ unused → ⊥) → F .content d′ b ≡ some block
         → Step (at d (some (working xs last))) (answered (Told.write n block) 0 b) (at d′ (some (working (grownMap (eqb n (length xs)) xs n b) last)))
     released : {d : F .Disc} (xs : List ℕ) (last n second : ℕ) → Step (at d (some (working xs last))) (answered (Told.release n) 0 second) (at d (some (working (set xs n unused) last)))
@@ -218,9 +216,9 @@ module _ (F : Format) where
   page-set d (y ∷ ys) (suc n) x = ap {B = Snapshot} (λ l. shownOf d y ∷ l) (page-set d ys n x)
 
   module _ {d d′ : F .Disc} (e : Extends d d′) where
-    shown-kept : (x : ℕ) → Below (F .recorded d) x → shownOf d′ x ≡ shownOf d x
-    shown-kept x (inl u) = rw (eq-eqb x unused u)
-    shown-kept x (inr l) = ap (λ (c : Option (List ℕ)). shownIf (eqb x unused) x c) (e .contents x l)
+    shown-kept : (x : ℕ) → Named (F .recorded d) x → shownOf d′ x ≡ shownOf d x
+    shown-kept x (inr u) = rw (eq-eqb x unused u)
+    shown-kept x (inl l) = ap (λ (c : Option (List ℕ)). shownIf (eqb x unused) x c) (e .contents x l)
 
     page-kept : (xs : List ℕ) → AllBelow (F .recorded d) xs → pageFrom d′ xs ≡ pageFrom d xs
     page-kept [] a = refl
@@ -294,11 +292,11 @@ module _ (F : Format) where
             let inside : old < F .recorded d = head-link old q qs (n .2) .inside in
             (link, (λ u. let z : old ≡ unused = sym named ∙ u in omega (arith, s .small, s .behind)), subst (λ (x : ℕ). Chain d′ x q qs) (sym named) (chain-kept (s .extends) old q qs (n .2)))
 
-    all-below-append : (r : ℕ) (xs : List ℕ) (b : ℕ) → AllBelow r xs → Below r b → AllBelow r (xs ++ (b ∷ []))
+    all-below-append : (r : ℕ) (xs : List ℕ) (b : ℕ) → AllBelow r xs → Named r b → AllBelow r (xs ++ (b ∷ []))
     all-below-append r [] b a h = (h, tt)
     all-below-append r (x ∷ xs) b a h = (a .0, all-below-append r xs b (a .1) h)
 
-    all-below-set : (r : ℕ) (xs : List ℕ) (n b : ℕ) → AllBelow r xs → Below r b → AllBelow r (set xs n b)
+    all-below-set : (r : ℕ) (xs : List ℕ) (n b : ℕ) → AllBelow r xs → Named r b → AllBelow r (set xs n b)
     all-below-set r [] n b a h = tt
     all-below-set r (x ∷ xs) zero b a h = (h, a .1)
     all-below-set r (x ∷ xs) (suc n) b a h = (a .0, all-below-set r xs n b (a .1) h)
@@ -313,7 +311,7 @@ module _ (F : Format) where
         let entry : shownOf d′ b ≡ shows b (some block) = rw (ne-eqb b unused u, c) in
         ap (λ (p : Snapshot). set p n (shows b (some block))) (sym (page-kept e xs a)) ∙ sym (page-set d′ xs n b ∙ ap (set (pageFrom d′ xs) n) entry)
 
-    grown-below : (t : Bool) (r : ℕ) (xs : List ℕ) (n b : ℕ) → AllBelow r xs → Below r b → AllBelow r (grownMap t xs n b)
+    grown-below : (t : Bool) (r : ℕ) (xs : List ℕ) (n b : ℕ) → AllBelow r xs → Named r b → AllBelow r (grownMap t xs n b)
     grown-below true r xs n b a h = all-below-append r xs b a h
     grown-below false r xs n b a h = all-below-set r xs n b a h
 
@@ -348,7 +346,7 @@ module _ (F : Format) where
               };
         }
     kept h (looked {d} k second w looks) i = record { pages = i .pages; draft = rw looks refl }
-    kept h (wrote {d} {d′} xs last n b block p small behind inside used reads) i =
+    kept h (wrote {d} {d′} xs last n b block p inside used reads) i =
         let g : Drafted d xs last (h .draft) = i .draft in
         let page : Snapshot = pageFrom d xs in
         let entry : Entry = shows b (some block) in
@@ -360,7 +358,7 @@ module _ (F : Format) where
                     ap (onDraft (λ q. placed (eqb n (length q)) q n entry)) (g .shown)
                     ∙ ap some (ap (λ (k : ℕ). placed (eqb n k) page n entry) (length-page d xs) ∙ page-written (eqb n (length xs)) (p .extends) xs n b block (g .named) used reads);
                 named =
-                    grown-below (eqb n (length xs)) (F .recorded d′) xs n b (all-below-more (F .recorded d) (F .recorded d′) xs (p .extends .more) (g .named)) (inr inside);
+                    grown-below (eqb n (length xs)) (F .recorded d′) xs n b (all-below-more (F .recorded d) (F .recorded d′) xs (p .extends .more) (g .named)) (inl inside);
                 newest = g .newest ∙ ap orUnused (sym (newest-plain p));
               };
         }
@@ -371,7 +369,7 @@ module _ (F : Format) where
           draft =
               record {
                 shown = ap (onDraft (λ q. set q n unusedEntry)) (g .shown) ∙ ap some (sym (page-set d xs n unused));
-                named = all-below-set (F .recorded d) xs n unused (g .named) (inl refl);
+                named = all-below-set (F .recorded d) xs n unused (g .named) (inr refl);
                 newest = g .newest;
               };
         }

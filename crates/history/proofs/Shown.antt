@@ -17,7 +17,7 @@ use Rattle.disc.specs.Tables.{tableAt, mapAt}
 use Rattle.disc.proofs.Recording.{Sound}
 use Rattle.disc.proofs.Found.{table-recorded}
 use Rattle.volume.specs.declared.Volume.{Volume}
-use Rattle.volume.specs.Volume.{ledgerLength, packetOpen, readOnly, unpack, pack, mapOf, fits, filled}
+use Rattle.volume.specs.Volume.{ledgerLength, packetOpen, readOnly, unpack, pack, mapOf, isUnused, fits, filled}
 use Rattle.volume.proofs.State.{Proper, unpack-pack, length-pack, map-filled}
 use Rattle.recorder.specs.Calls.{read}
 use Rattle.recorder.specs.Refusals.{Test, test, first, blockLent, unfit, notInUse, tests, outcome}
@@ -56,7 +56,7 @@ used-below [] n u = absurd (u refl)
 used-below (x ∷ xs) zero u = omega arith
 used-below (x ∷ xs) (suc n) u = let h : n < length xs = used-below xs n u in omega arith
 
-all-unused : (k : ℕ) → every (unusedOrBelow 0) (replicate k unused) ≡ true
+all-unused : (k : ℕ) → every isUnused (replicate k unused) ≡ true
 unfolding every
 all-unused zero = refl
 all-unused (suc k) = all-unused k
@@ -116,8 +116,8 @@ filled-fits d ok b mode m e =
     let r : ℕ = recorded d in
     let inside : b < r = table-recorded d ok b e in
     let few : leb (length xs) limit ≡ true = le-leb (length xs) limit (omega (arith, t .counted, t .few)) in
-    let behind : every (unusedOrBelow 0) (drop (length xs) (xs ++ replicate (limit - length xs) unused)) ≡ true =
-    ap (every (unusedOrBelow 0)) (drop-at xs (replicate (limit - length xs) unused) (length xs) refl) ∙ all-unused (limit - length xs) in
+    let behind : every isUnused (drop (length xs) (xs ++ replicate (limit - length xs) unused)) ≡ true =
+    ap (every isUnused) (drop-at xs (replicate (limit - length xs) unused) (length xs) refl) ∙ all-unused (limit - length xs) in
     let named : every (unusedOrBelow r) (mapOf (filled xs b r mode)) ≡ true =
     ap (every (unusedOrBelow r)) (map-filled xs b r mode) ∙ all-below-to r xs (all-below-more b r xs (omega arith) (names-below d b e)) in
     rw (few, behind, named, eq-eqb r r refl, e, or-true (eqb b unused), m .0, m .1)

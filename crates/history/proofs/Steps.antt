@@ -14,7 +14,7 @@ use borrow.Author.Tests.{eqb-true, eqb-false}
 use Rattle.le.proofs.Runs.{Words}
 use Rattle.vat.specs.Table.{sectorLength, unused, unusedOrBelow, isTable}
 use Rattle.vat.specs.Sector.{sector}
-use Rattle.vat.proofs.Theorems.{recognised, Tells, tells, ReadsBack, reads-back}
+use Rattle.vat.proofs.Theorems.{Named, recognised, Tells, tells, ReadsBack, reads-back}
 use Rattle.disc.specs.Disc.{Disc, recorded, blanks, kindAt, sectorAt, content, Sector, puts}
 use Rattle.disc.specs.declared.Walk.the-variants.{Reached}
 use Rattle.disc.specs.Tables.{tableAt, mapAt, previousAt, newest, blockFound}
@@ -28,7 +28,7 @@ use Rattle.recorder.specs.Refusals.{links, target, walkFrom, walked, outcome}
 use Rattle.recorder.specs.Effects.{effect, blockReached, after, secondNumber, sectorsIf, sectorsOf}
 use Rattle.recorder.proofs.Done.{Fits, WriteDone, CommitDone, begin-done, mount-done, write-done, release-done, close-done, commit-done, look-back-done}
 use Rattle.history.specs.History.{History, Told, Fed, answered, cut, cutCommit, feed}
-use Rattle.history.specs.Events.{World, Event, calls, cuts, lent, Follows, Torn, Allowed, cutDisc, next, told, kept, cutShort, fed}
+use Rattle.history.specs.Events.{World, Event, calls, cuts, ledgerHeld, Follows, Torn, Allowed, cutDisc, next, told, kept, cutShort, fed}
 use Rattle.history.proofs.Log.{AllBelow, all-below-more, View, State, Step, Saved, plain-same, at, working}
 use Rattle.history.proofs.Growth.{F, names-below, below-to, all-below-of, all-below-to, Grown, puts-plain, whole-take, no-tables-take, behindLinks, length-behind, behind-whole, behind-no-tables, behind-content, behind-sound, behind-counted, behind-saved, Left, cut-left, cut-links-left, cut-all, cut-none}
 
@@ -74,9 +74,9 @@ words-below : (b : ℕ) (xs : List ℕ) → b < 4294967296 → AllBelow b xs →
 words-below b [] h a = tt
 words-below b (x ∷ xs) h a = (go (a .0), words-below b xs h (a .1))
   where
-    go : (x ≡ unused) ⊎ (x < b) → x < 4294967296
-    go (inl e) = omega arith
-    go (inr l) = omega arith
+    go : Named b x → x < 4294967296
+    go (inl l) = omega arith
+    go (inr e) = omega arith
 
 few-recorded : (d : Disc) → Sound d → recorded d < 4294967296
 few-recorded d ok = omega (arith, leading-le (d .kinds), ok .few)
@@ -93,23 +93,23 @@ proper-table d ok b mode hm e =
 -- ---- a call that is done or refused
 
 -- what the two look like, once the outcome is known
-refused-next : (w : World) (c : Call) (junk : List ℕ) (n : ℕ) → outcome (w .disc) (lent (w .ledger) junk) c ≡ suc n → next w (calls c junk) ≡ w
+refused-next : (w : World) (c : Call) (junk : List ℕ) (n : ℕ) → outcome (w .disc) (ledgerHeld (w .ledger) junk) c ≡ suc n → next w (calls c junk) ≡ w
 unfolding next after
 refused-next w c junk n e = rw e
 
-refused-fed : (w : World) (c : Call) (junk : List ℕ) (n : ℕ) → outcome (w .disc) (lent (w .ledger) junk) c ≡ suc n → fed w (calls c junk) ≡ answered (told c) (suc n) 0
+refused-fed : (w : World) (c : Call) (junk : List ℕ) (n : ℕ) → outcome (w .disc) (ledgerHeld (w .ledger) junk) c ≡ suc n → fed w (calls c junk) ≡ answered (told c) (suc n) 0
 unfolding fed secondNumber
 refused-fed w c junk n e = rw e
 
 abbrev doneWorld : World → List ℕ → Call → World
 doneWorld w l c = record { disc = puts (w .disc) (recorded (w .disc)) (effect (w .disc) l c .sectors); ledger = some (effect (w .disc) l c .ledger) }
 
-done-next : (w : World) (c : Call) (junk : List ℕ) → outcome (w .disc) (lent (w .ledger) junk) c ≡ 0 → next w (calls c junk) ≡ doneWorld w (lent (w .ledger) junk) c
+done-next : (w : World) (c : Call) (junk : List ℕ) → outcome (w .disc) (ledgerHeld (w .ledger) junk) c ≡ 0 → next w (calls c junk) ≡ doneWorld w (ledgerHeld (w .ledger) junk) c
 unfolding next after
 done-next w c junk e = rw e
 
-done-fed : (w : World) (c : Call) (junk : List ℕ) → outcome (w .disc) (lent (w .ledger) junk) c ≡ 0
-    → fed w (calls c junk) ≡ answered (told c) 0 (effect (w .disc) (lent (w .ledger) junk) c .second)
+done-fed : (w : World) (c : Call) (junk : List ℕ) → outcome (w .disc) (ledgerHeld (w .ledger) junk) c ≡ 0
+    → fed w (calls c junk) ≡ answered (told c) 0 (effect (w .disc) (ledgerHeld (w .ledger) junk) c .second)
 unfolding fed secondNumber
 done-fed w c junk e = rw e
 
@@ -277,7 +277,7 @@ module _ (d : Disc) (l : List ℕ) (sound : Sound d) (good : Proper (unpack l)) 
         good = record { sound-disc = g .still-sound; ledger-good = packed-good (wrote n (target v) v) ok };
         step =
             subst₂ (λ (a b : View). Step F (at F d (some a)) (answered (Told.write n block) 0 (target v)) (at F d′ (some b))) (sym before) (sym after-view)
-            (Step.wrote (mapOf v) (v .last) n (target v) block (g .plainly) (omega (arith, f .no-gap, length-map v (enough (f .fit)))) (omega arith)
+            (Step.wrote (mapOf v) (v .last) n (target v) block (g .plainly)
             (omega (arith, behind-counted d sound m block (f .block-long) fits)) (λ z. omega arith)
             (ap (content d′) here ∙ behind-content d sound m block (f .block-long) fits));
       }
@@ -287,8 +287,8 @@ module _ (d : Disc) (l : List ℕ) (sound : Sound d) (good : Proper (unpack l)) 
   last-below f b h = go (eqb (unpack l .last) unused) refl (f .last-known)
     where
       go : (t : Bool) → eqb (unpack l .last) unused ≡ t → (t || tableAt d (unpack l .last)) ≡ true → unusedOrBelow b (unpack l .last) ≡ true
-      go true z e = below-to b (unpack l .last) (inl (eqb-true (unpack l .last) unused z))
-      go false z e = below-to b (unpack l .last) (inr (omega (arith, table-recorded d sound (unpack l .last) e)))
+      go true z e = below-to b (unpack l .last) (inr (eqb-true (unpack l .last) unused z))
+      go false z e = below-to b (unpack l .last) (inl (omega (arith, table-recorded d sound (unpack l .last) e)))
 
   unfoldable pub tableSector : List ℕ
   tableSector = sector (mapOf (unpack l)) (unpack l .last) (target (unpack l))
@@ -343,12 +343,12 @@ module _ (d : Disc) (l : List ℕ) (sound : Sound d) (good : Proper (unpack l)) 
       }
 
 done-step : (d : Disc) (o : Option (List ℕ)) (c : Call) (junk : List ℕ) → Good (record { disc = d; ledger = o }) → Follows (record { disc = d; ledger = o }) c junk
-    → outcome d (lent o junk) c ≡ 0
-    → GoodStep (record { disc = d; ledger = o }) (answered (told c) 0 (effect d (lent o junk) c .second)) (doneWorld (record { disc = d; ledger = o }) (lent o junk) c)
+    → outcome d (ledgerHeld o junk) c ≡ 0
+    → GoodStep (record { disc = d; ledger = o }) (answered (told c) 0 (effect d (ledgerHeld o junk) c .second)) (doneWorld (record { disc = d; ledger = o }) (ledgerHeld o junk) c)
 unfolding effect puts tableSector
-done-step d o begin junk g f e = begin-step (record { disc = d; ledger = o }) (lent o junk) g e
-done-step d o mount junk g f e = mount-step (record { disc = d; ledger = o }) (lent o junk) g e
-done-step d o (lookBack k) junk g f e = look-back-step (record { disc = d; ledger = o }) (lent o junk) k g e
+done-step d o begin junk g f e = begin-step (record { disc = d; ledger = o }) (ledgerHeld o junk) g e
+done-step d o mount junk g f e = mount-step (record { disc = d; ledger = o }) (ledgerHeld o junk) g e
+done-step d o (lookBack k) junk g f e = look-back-step (record { disc = d; ledger = o }) (ledgerHeld o junk) k g e
 done-step d none (write n block) junk g f e = absurd (f refl e)
 done-step d none (release n) junk g f e = absurd (f refl e)
 done-step d none closePacket junk g f e = absurd (f refl e)
@@ -361,9 +361,9 @@ done-step d (some l) commit junk g f e = commit-step d l (g .sound-disc) (g .led
 done-step d (some l) (read n block) junk g f e = read-step d l (g .sound-disc) (g .ledger-good) n 0
 
 call-step : (w : World) (c : Call) (junk : List ℕ) → Good w → Follows w c junk → GoodStep w (fed w (calls c junk)) (next w (calls c junk))
-call-step w c junk g f = go (outcome (w .disc) (lent (w .ledger) junk) c) refl
+call-step w c junk g f = go (outcome (w .disc) (ledgerHeld (w .ledger) junk) c) refl
   where
-    go : (n : ℕ) → outcome (w .disc) (lent (w .ledger) junk) c ≡ n → GoodStep w (fed w (calls c junk)) (next w (calls c junk))
+    go : (n : ℕ) → outcome (w .disc) (ledgerHeld (w .ledger) junk) c ≡ n → GoodStep w (fed w (calls c junk)) (next w (calls c junk))
     go zero e = subst₂ (λ (x : Fed) (y : World). GoodStep w x y) (sym (done-fed w c junk e)) (sym (done-next w c junk e)) (done-step (w .disc) (w .ledger) c junk g f e)
     go (suc n) e = subst₂ (λ (x : Fed) (y : World). GoodStep w x y) (sym (refused-fed w c junk n e)) (sym (refused-next w c junk n e)) (refused-step w c n 0 g)
 
@@ -409,10 +409,10 @@ unfolding effect
 write-records d l n block = refl
 
 cut-write-left : (d : Disc) (o : Option (List ℕ)) (n : ℕ) (block junk : List ℕ) (j : ℕ) (tear : Option (List ℕ)) → Good (record { disc = d; ledger = o })
-    → Follows (record { disc = d; ledger = o }) (write n block) junk → j ≤ length (sectorsOf d (lent o junk) (write n block)) → Torn tear
-    → (m : ℕ) → outcome d (lent o junk) (write n block) ≡ m → Left d (cutDisc d (sectorsOf d (lent o junk) (write n block)) j tear)
+    → Follows (record { disc = d; ledger = o }) (write n block) junk → j ≤ length (sectorsOf d (ledgerHeld o junk) (write n block)) → Torn tear
+    → (m : ℕ) → outcome d (ledgerHeld o junk) (write n block) ≡ m → Left d (cutDisc d (sectorsOf d (ledgerHeld o junk) (write n block)) j tear)
 cut-write-left d o n block junk j tear g f h t (suc m) e =
-    nothing-left d (g .sound-disc) (sectorsOf d (lent o junk) (write n block)) j tear (refused-records-none d (lent o junk) (write n block) m e) h
+    nothing-left d (g .sound-disc) (sectorsOf d (ledgerHeld o junk) (write n block)) j tear (refused-records-none d (ledgerHeld o junk) (write n block) m e) h
 cut-write-left d none n block junk j tear g f h t zero e = absurd (f refl e)
 cut-write-left d (some l) n block junk j tear g f h t zero e =
     let w : WriteDone d l n block = write-done d l n block e in
@@ -433,11 +433,11 @@ not-all : (j n m : ℕ) → j ≤ n → (j ≡ n → ⊥) → n ≡ m + 1 → j 
 not-all j n m h ne e = let less : j < n = lt-of-le-ne h ne in omega arith
 
 cut-commit-step : (d : Disc) (o : Option (List ℕ)) (junk : List ℕ) (j : ℕ) (tear : Option (List ℕ)) → Good (record { disc = d; ledger = o })
-    → Follows (record { disc = d; ledger = o }) commit junk → j ≤ length (sectorsOf d (lent o junk) commit) → Torn tear
-    → (m : ℕ) → outcome d (lent o junk) commit ≡ m
-    → GoodStep (record { disc = d; ledger = o }) (cutCommit (kept d (lent o junk) commit j)) (cutWorld (cutDisc d (sectorsOf d (lent o junk) commit) j tear))
+    → Follows (record { disc = d; ledger = o }) commit junk → j ≤ length (sectorsOf d (ledgerHeld o junk) commit) → Torn tear
+    → (m : ℕ) → outcome d (ledgerHeld o junk) commit ≡ m
+    → GoodStep (record { disc = d; ledger = o }) (cutCommit (kept d (ledgerHeld o junk) commit j)) (cutWorld (cutDisc d (sectorsOf d (ledgerHeld o junk) commit) j tear))
 cut-commit-step d o junk j tear g f h t (suc m) e =
-    let l : List ℕ = lent o junk in
+    let l : List ℕ = ledgerHeld o junk in
     let unsaved : kept d l commit j ≡ false = ap (λ (x : ℕ). eqb x 0 && eqb j (length (sectorsOf d l commit))) e ∙ ap (λ (x : Bool). x && eqb j (length (sectorsOf d l commit))) (eqb·suc-zero m) in
     subst (λ (x : Bool). GoodStep (record { disc = d; ledger = o }) (cutCommit x) (cutWorld (cutDisc d (sectorsOf d l commit) j tear))) (sym unsaved)
     (lost-step (record { disc = d; ledger = o }) (cutCommit false) (cutDisc d (sectorsOf d l commit) j tear) unsaved-clears
@@ -505,25 +505,25 @@ records-nothing d l (read n block) i = records-none (outcome d l (read n block))
 records-nothing d l (lookBack k) i = records-none (outcome d l (lookBack k))
 
 idle-cut : (d : Disc) (o : Option (List ℕ)) (c : Call) (junk : List ℕ) (j : ℕ) (tear : Option (List ℕ)) → Good (record { disc = d; ledger = o })
-    → j ≤ length (sectorsOf d (lent o junk) c) → sectorsOf d (lent o junk) c ≡ []
-    → GoodStep (record { disc = d; ledger = o }) (cut (told c)) (cutWorld (cutDisc d (sectorsOf d (lent o junk) c) j tear))
+    → j ≤ length (sectorsOf d (ledgerHeld o junk) c) → sectorsOf d (ledgerHeld o junk) c ≡ []
+    → GoodStep (record { disc = d; ledger = o }) (cut (told c)) (cutWorld (cutDisc d (sectorsOf d (ledgerHeld o junk) c) j tear))
 idle-cut d o c junk j tear g h none-recorded =
-    lost-step (record { disc = d; ledger = o }) (cut (told c)) (cutDisc d (sectorsOf d (lent o junk) c) j tear) (cut-clears (told c))
-    (nothing-left d (g .sound-disc) (sectorsOf d (lent o junk) c) j tear none-recorded h)
+    lost-step (record { disc = d; ledger = o }) (cut (told c)) (cutDisc d (sectorsOf d (ledgerHeld o junk) c) j tear) (cut-clears (told c))
+    (nothing-left d (g .sound-disc) (sectorsOf d (ledgerHeld o junk) c) j tear none-recorded h)
 
 cut-step : (d : Disc) (o : Option (List ℕ)) (c : Call) (junk : List ℕ) (j : ℕ) (tear : Option (List ℕ)) → Good (record { disc = d; ledger = o })
-    → Follows (record { disc = d; ledger = o }) c junk → j ≤ length (sectorsOf d (lent o junk) c) → Torn tear
-    → GoodStep (record { disc = d; ledger = o }) (cutShort d (lent o junk) c j) (cutWorld (cutDisc d (sectorsOf d (lent o junk) c) j tear))
-cut-step d o begin junk j tear g f h t = idle-cut d o begin junk j tear g h (records-nothing d (lent o junk) begin tt)
-cut-step d o mount junk j tear g f h t = idle-cut d o mount junk j tear g h (records-nothing d (lent o junk) mount tt)
+    → Follows (record { disc = d; ledger = o }) c junk → j ≤ length (sectorsOf d (ledgerHeld o junk) c) → Torn tear
+    → GoodStep (record { disc = d; ledger = o }) (cutShort d (ledgerHeld o junk) c j) (cutWorld (cutDisc d (sectorsOf d (ledgerHeld o junk) c) j tear))
+cut-step d o begin junk j tear g f h t = idle-cut d o begin junk j tear g h (records-nothing d (ledgerHeld o junk) begin tt)
+cut-step d o mount junk j tear g f h t = idle-cut d o mount junk j tear g h (records-nothing d (ledgerHeld o junk) mount tt)
 cut-step d o (write n block) junk j tear g f h t =
-    lost-step (record { disc = d; ledger = o }) (cut (Told.write n block)) (cutDisc d (sectorsOf d (lent o junk) (write n block)) j tear) (cut-clears (Told.write n block))
-    (cut-write-left d o n block junk j tear g f h t (outcome d (lent o junk) (write n block)) refl)
-cut-step d o (release n) junk j tear g f h t = idle-cut d o (release n) junk j tear g h (records-nothing d (lent o junk) (release n) tt)
-cut-step d o closePacket junk j tear g f h t = idle-cut d o closePacket junk j tear g h (records-nothing d (lent o junk) closePacket tt)
-cut-step d o commit junk j tear g f h t = cut-commit-step d o junk j tear g f h t (outcome d (lent o junk) commit) refl
-cut-step d o (read n block) junk j tear g f h t = idle-cut d o (read n block) junk j tear g h (records-nothing d (lent o junk) (read n block) tt)
-cut-step d o (lookBack k) junk j tear g f h t = idle-cut d o (lookBack k) junk j tear g h (records-nothing d (lent o junk) (lookBack k) tt)
+    lost-step (record { disc = d; ledger = o }) (cut (Told.write n block)) (cutDisc d (sectorsOf d (ledgerHeld o junk) (write n block)) j tear) (cut-clears (Told.write n block))
+    (cut-write-left d o n block junk j tear g f h t (outcome d (ledgerHeld o junk) (write n block)) refl)
+cut-step d o (release n) junk j tear g f h t = idle-cut d o (release n) junk j tear g h (records-nothing d (ledgerHeld o junk) (release n) tt)
+cut-step d o closePacket junk j tear g f h t = idle-cut d o closePacket junk j tear g h (records-nothing d (ledgerHeld o junk) closePacket tt)
+cut-step d o commit junk j tear g f h t = cut-commit-step d o junk j tear g f h t (outcome d (ledgerHeld o junk) commit) refl
+cut-step d o (read n block) junk j tear g f h t = idle-cut d o (read n block) junk j tear g h (records-nothing d (ledgerHeld o junk) (read n block) tt)
+cut-step d o (lookBack k) junk j tear g f h t = idle-cut d o (lookBack k) junk j tear g h (records-nothing d (ledgerHeld o junk) (lookBack k) tt)
 
 -- every event is a step
 pub event-step : (w : World) (e : Event) → Good w → Allowed w e → GoodStep w (fed w e) (next w e)

@@ -25,9 +25,9 @@ pub data Event : Type 0 where
   calls : Call → List ℕ → Event
   cuts : Call → List ℕ → ℕ → Option (List ℕ) → Event
 
-abbrev pub lent : Option (List ℕ) → List ℕ → List ℕ
-lent none junk = junk
-lent (some l) junk = l
+abbrev pub ledgerHeld : Option (List ℕ) → List ℕ → List ℕ
+ledgerHeld none junk = junk
+ledgerHeld (some l) junk = l
 
 -- "until a begin, mount or look back is done, only these three and refused calls follow."
 abbrev pub Restores : Call → Type 0
@@ -50,7 +50,7 @@ Torn (some bytes) = length bytes ≡ sectorLength
 
 abbrev pub Allowed : World → Event → Type 0
 Allowed w (calls c junk) = Follows w c junk
-Allowed w (cuts c junk j tear) = Follows w c junk × (j ≤ length (sectorsOf (w .disc) (lent (w .ledger) junk) c)) × Torn tear
+Allowed w (cuts c junk j tear) = Follows w c junk × (j ≤ length (sectorsOf (w .disc) (ledgerHeld (w .ledger) junk) c)) × Torn tear
 
 abbrev pub tornAt : Bool → Option (List ℕ) → ℕ → Disc → Disc
 tornAt true (some bytes) b d = put d b (torn bytes)
@@ -67,13 +67,13 @@ ledgerAfter (suc n) before left = before
 
 unfoldable pub next : World → Event → World
 next w (calls c junk) =
-    let l : List ℕ = lent (w .ledger) junk in
+    let l : List ℕ = ledgerHeld (w .ledger) junk in
     record {
       disc = after (w .disc) l c .disc;
       ledger = ledgerAfter (outcome (w .disc) l c) (w .ledger) (after (w .disc) l c .ledger);
     }
 next w (cuts c junk j tear) =
-    record { disc = cutDisc (w .disc) (sectorsOf (w .disc) (lent (w .ledger) junk) c) j tear; ledger = none }
+    record { disc = cutDisc (w .disc) (sectorsOf (w .disc) (ledgerHeld (w .ledger) junk) c) j tear; ledger = none }
 
 -- What the history is told of a call.
 abbrev pub told : Call → Told
@@ -102,9 +102,9 @@ cutShort d l (lookBack k) j = cut (Told.lookBack k)
 
 unfoldable pub fed : World → Event → Fed
 fed w (calls c junk) =
-    let l : List ℕ = lent (w .ledger) junk in
+    let l : List ℕ = ledgerHeld (w .ledger) junk in
     answered (told c) (outcome (w .disc) l c) (secondNumber (w .disc) l c)
-fed w (cuts c junk j tear) = cutShort (w .disc) (lent (w .ledger) junk) c j
+fed w (cuts c junk j tear) = cutShort (w .disc) (ledgerHeld (w .ledger) junk) c j
 
 -- A list of events: each is allowed where the ones before have led, the world goes on, and the history is fed.
 unfoldable pub AllAllowed : World → List Event → Type 0

@@ -11,7 +11,7 @@ use lib.Seq.{sets, set-comm, drop-cons}
 use Rattle.le.specs.Field.{le}
 use Rattle.le.proofs.Bytes.{sets-append}
 use Rattle.vat.specs.Table.{unused}
-use Rattle.listing.specs.Text.{digit, digitOrBlank, ahead, column, row, refusedLine, counting, used}
+use Rattle.listing.specs.Text.{digit, digitOrBlank, ahead, column, rowLine, refusedLine, counting, used}
 
 -- ---- columns
 
@@ -76,8 +76,8 @@ four s a b c d e at p q r t =
 
 pub row-put : (xs : List ℕ) (at k block size count : ℕ)
     → sets (sets (sets (sets (sets xs at (column 3 k)) (at + 4) (column 7 block)) (at + 12) (column 5 size)) (at + 18) (column 5 count)) (at + 24) (le 1 10)
-    ≡ sets xs at (row k block size count)
-unfolding row le
+    ≡ sets xs at (rowLine k block size count)
+unfolding rowLine le
 row-put xs at k block size count =
     four xs (column 3 k) (column 7 block) (column 5 size) (column 5 count) (10 ∷ []) at (length-column 3 k) (length-column 7 block) (length-column 5 size) (length-column 5 count)
 

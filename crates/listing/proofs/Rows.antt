@@ -15,12 +15,12 @@ use Rattle.disc.specs.Disc.{Disc}
 use Rattle.volume.specs.Volume.{unpack}
 use Rattle.recorder.specs.Calls.{mount, lookBack}
 use Rattle.recorder.specs.Effects.{After, after}
-use Rattle.listing.specs.Text.{column, row, heading, cleanLine, dirtyLine, brokenLine, refusedLine, used}
+use Rattle.listing.specs.Text.{column, rowLine, heading, cleanLine, dirtyLine, brokenLine, refusedLine, used}
 use Rattle.listing.specs.Listing.{outcomeIn, secondIn, spare, lastLine, rowOf, rowOr, rowsFrom, mostListed, listedIf, listed}
 use Rattle.listing.proofs.Lines.{length-column, length-refused}
 
-pub length-row : (k block size count : ℕ) → length (row k block size count) ≡ 25
-unfolding row
+pub length-row : (k block size count : ℕ) → length (rowLine k block size count) ≡ 25
+unfolding rowLine
 length-row k block size count =
     let a : List ℕ = column 3 k in
     let b : List ℕ = column 7 block in
@@ -29,7 +29,7 @@ length-row k block size count =
     let e : List ℕ = 10 ∷ [] in
     rw (length-append a (b ++ (c ++ (d ++ e))), length-append b (c ++ (d ++ e)), length-append c (d ++ e), length-append d e, length-column 3 k, length-column 7 block, length-column 5 size, length-column 5 count)
 
-pub row-of : (k : ℕ) (a : After) → row k (secondIn (a .answer)) (unpack (a .ledger) .size) (used (unpack (a .ledger) .entries)) ≡ rowOf k a
+pub row-of : (k : ℕ) (a : After) → rowLine k (secondIn (a .answer)) (unpack (a .ledger) .size) (used (unpack (a .ledger) .entries)) ≡ rowOf k a
 unfolding rowOf
 row-of k a = refl
 

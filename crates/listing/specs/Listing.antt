@@ -11,7 +11,7 @@ use Rattle.volume.specs.declared.Volume.{Volume}
 use Rattle.volume.specs.Volume.{ledgerLength, unpack}
 use Rattle.recorder.specs.Calls.{mount, lookBack}
 use Rattle.recorder.specs.Effects.{After, after}
-use Rattle.listing.specs.Text.{column, newline, heading, row, cleanLine, dirtyLine, brokenLine, refusedLine, used}
+use Rattle.listing.specs.Text.{column, newline, heading, rowLine, cleanLine, dirtyLine, brokenLine, refusedLine, used}
 
 -- "the sector count, right-justified in 8 columns; newline"
 unfoldable pub firstLine : ℕ → List ℕ
@@ -66,7 +66,7 @@ lastLine false false = dirtyLine
 
 -- The row of look back k, from what that call leaves.
 unfoldable pub rowOf : ℕ → After → List ℕ
-rowOf k a = let v : Volume = unpack (a .ledger) in row k (secondIn (a .answer)) (v .size) (used (v .entries))
+rowOf k a = let v : Volume = unpack (a .ledger) in rowLine k (secondIn (a .answer)) (v .size) (used (v .entries))
 
 abbrev pub rowOr : Bool → List ℕ → List ℕ → List ℕ → List ℕ
 rowOr true one further last = one ++ further

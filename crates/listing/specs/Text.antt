@@ -32,8 +32,8 @@ heading =
     32 ∷ 32 ∷ 32 ∷ 107 ∷ 32 ∷ 32 ∷ 32 ∷ 98 ∷ 108 ∷ 111 ∷ 99 ∷ 107 ∷ 32 ∷ 32 ∷ 115 ∷ 105 ∷ 122 ∷ 101 ∷ 32 ∷ 32 ∷ 117 ∷ 115 ∷ 101 ∷ 100 ∷ newline ∷ []
 
 -- "k in 4, block in 8, size in 6, entries in use in 6".
-unfoldable pub row : ℕ → ℕ → ℕ → ℕ → List ℕ
-row k block size used = column 3 k ++ (column 7 block ++ (column 5 size ++ (column 5 used ++ (newline ∷ []))))
+unfoldable pub rowLine : ℕ → ℕ → ℕ → ℕ → List ℕ
+rowLine k block size used = column 3 k ++ (column 7 block ++ (column 5 size ++ (column 5 used ++ (newline ∷ []))))
 
 -- "last line `clean` or `dirty`, or `broken` after a refusal 8"
 unfoldable pub cleanLine : List ℕ

@@ -7,7 +7,7 @@ ghost use lib.ListN.{length};
 ghost use Rattle.vat.specs.Table.{unused};
 ghost use lib.Seq.{sets};
 ghost use Rattle.volume.specs.Volume.{ledgerLength, unpack};
-ghost use Rattle.listing.specs.Text.{digit, digitOrBlank, column, row, counting, used};
+ghost use Rattle.listing.specs.Text.{digit, digitOrBlank, column, rowLine, counting, used};
 
 // How long a row is, with its newline, and so is the heading.
 pub const ROW: usize = 25;
@@ -45,7 +45,7 @@ pub fn put_column(out: &mut [u8], at: usize, w: usize, n: u32)
 
 pub fn put_row(out: &mut [u8], at: usize, k: u32, block: u32, size: u32, used: u32)
     requires { ⌜ at + 25 ≤ length (now out) ⌝ }
-    ensures { λ _. ⌜ now (out .exit) ≡ sets (now (out .entry)) at (row k block size used) ⌝ }
+    ensures { λ _. ⌜ now (out .exit) ≡ sets (now (out .entry)) at (rowLine k block size used) ⌝ }
 {
     put_column(out, at, 3, k);
     put_column(out, at + 4, 7, block);

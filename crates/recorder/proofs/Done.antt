@@ -14,14 +14,14 @@ use Rattle.le.specs.Bytes.{every}
 use Rattle.vat.specs.Table.{sectorLength, limit, unused, unusedOrBelow, entryCount, isTable}
 use Rattle.vat.proofs.Frame.{and-left, and-right}
 use Rattle.vat.proofs.Theorems.{recognised}
-use Rattle.disc.specs.Disc.{Disc, sized, formed, recorded, blanks, kindAt, sectorAt}
+use Rattle.disc.specs.Disc.{Disc, sized, inOrder, recorded, blanks, kindAt, sectorAt}
 use Rattle.disc.specs.declared.Walk.{Walk}
 use Rattle.disc.specs.declared.Walk.the-variants.{Reached, Broken, Ended}
 use Rattle.disc.specs.Tables.{tableAt, newest}
-use Rattle.disc.proofs.Recording.{sized-tells, Sound, sound, sound-sized, sound-formed}
+use Rattle.disc.proofs.Recording.{sized-tells, Sound, sound, sound-sized, sound-order}
 use Rattle.disc.proofs.Found.{sector-end, table-within}
 use Rattle.volume.specs.declared.Volume.{Volume}
-use Rattle.volume.specs.Volume.{ledgerLength, idle, packetOpen, readOnly, mapOf, unpack, fits}
+use Rattle.volume.specs.Volume.{ledgerLength, idle, packetOpen, readOnly, mapOf, unpack, isUnused, fits}
 use Rattle.recorder.specs.Calls.{Call, begin, mount, write, release, closePacket, commit, read, lookBack}
 use Rattle.recorder.specs.Refusals.{Test, test, orElse, first, linkCount, linksIf, links, target, reserve, basic, ledgerLent, blockLent, unfit, forbidden, notInUse, isSome, walked, isBroken, isEnded, tests, outcome}
 
@@ -85,11 +85,11 @@ module _ (d : Disc) (lengths : Bool) where
   unfolding first
   refusal-2 s e = rw (s, e)
 
-  pub refusal-3 : sized d ≡ true → lengths ≡ true → formed d ≡ false → first (basic d lengths) ≡ 3
+  pub refusal-3 : sized d ≡ true → lengths ≡ true → inOrder (d .kinds) ≡ false → first (basic d lengths) ≡ 3
   unfolding first
   refusal-3 s l e = rw (s, l, e)
 
-  pub no-refusal : sized d ≡ true → lengths ≡ true → formed d ≡ true → first (basic d lengths) ≡ 0
+  pub no-refusal : sized d ≡ true → lengths ≡ true → inOrder (d .kinds) ≡ true → first (basic d lengths) ≡ 0
   unfolding first
   no-refusal s l e = rw (s, l, e)
 
@@ -102,21 +102,21 @@ pub record Basic (d : Disc) (lengths : Bool) (rest : List Test) : Type 0 where
 pub basic-passed : (d : Disc) (lengths : Bool) (rest : List Test) → first (basic d lengths ++ rest) ≡ 0 → Basic d lengths rest
 basic-passed d lengths rest e =
     let one : Bool = not (sized d) in
-    let three : Bool = not (formed d) in
+    let three : Bool = not (inOrder (d .kinds)) in
     let e₂ : first (test 2 (not lengths) ∷ test 3 three ∷ rest) ≡ 0 = later 0 one (test 2 (not lengths) ∷ test 3 three ∷ rest) e in
     let e₃ : first (test 3 three ∷ rest) ≡ 0 = later 1 (not lengths) (test 3 three ∷ rest) e₂ in
     record {
-      sound-disc = sound d (not-false (sized d) (passed 0 one (test 2 (not lengths) ∷ test 3 three ∷ rest) e)) (not-false (formed d) (passed 2 three rest e₃));
+      sound-disc = sound d (not-false (sized d) (passed 0 one (test 2 (not lengths) ∷ test 3 three ∷ rest) e)) (not-false (inOrder (d .kinds)) (passed 2 three rest e₃));
       lent = not-false lengths (passed 1 (not lengths) (test 3 three ∷ rest) e₂);
       rest-passed = later 2 three rest e₃;
     }
 
 pub skip-basic : (d : Disc) (lengths : Bool) (rest : List Test) → Sound d → lengths ≡ true → first (basic d lengths ++ rest) ≡ first rest
 skip-basic d lengths rest s h =
-    let three : Test = test 3 (not (formed d)) in
+    let three : Test = test 3 (not (inOrder (d .kinds))) in
     skip 1 (not (sized d)) (test 2 (not lengths) ∷ three ∷ rest) (ap not (sound-sized d s))
     ∙ skip 2 (not lengths) (three ∷ rest) (ap not h)
-    ∙ skip 3 (not (formed d)) rest (ap not (sound-formed d s))
+    ∙ skip 3 (not (inOrder (d .kinds))) rest (ap not (sound-order d s))
 
 -- ---- the state fits
 
@@ -130,7 +130,7 @@ fitting : (d : Disc) (v : Volume) → fits d v ≡ true → Fits d v
 unfolding fits
 fitting d v e =
     let a : Bool = leb (v .size) limit in
-    let b : Bool = every (unusedOrBelow 0) (drop (v .size) (v .entries)) in
+    let b : Bool = every isUnused (drop (v .size) (v .entries)) in
     let c : Bool = every (unusedOrBelow (v .recorded)) (mapOf v) in
     let f : Bool = eqb (v .recorded) (recorded d) in
     let g : Bool = eqb (v .last) unused || tableAt d (v .last) in

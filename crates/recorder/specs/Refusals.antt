@@ -7,7 +7,7 @@ use mathlib.Core.Option.{Option, none, some}
 use lib.Dec.{eqb, ltb, leb}
 use lib.ListN.{length, getD}
 use Rattle.vat.specs.Table.{sectorLength, limit, unused, isTable}
-use Rattle.disc.specs.Disc.{Disc, sized, formed, blanks, kindAt}
+use Rattle.disc.specs.Disc.{Disc, sized, inOrder, blanks, kindAt}
 use Rattle.disc.specs.declared.Walk.{Walk}
 use Rattle.disc.specs.declared.Walk.the-variants.{Reached, Broken, Ended}
 use Rattle.disc.specs.Tables.{tableAt, previousAt, newest, walk}
@@ -51,7 +51,7 @@ reserve = 8
 
 -- 1, 2, 3: the disc's size, the lent lengths, the kinds.
 abbrev pub basic : Disc → Bool → List Test
-basic d lengths = test 1 (not (sized d)) ∷ test 2 (not lengths) ∷ test 3 (not (formed d)) ∷ []
+basic d lengths = test 1 (not (sized d)) ∷ test 2 (not lengths) ∷ test 3 (not (inOrder (d .kinds))) ∷ []
 
 abbrev pub ledgerLent : List ℕ → Bool
 ledgerLent l = eqb (length l) ledgerLength

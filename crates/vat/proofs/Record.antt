@@ -12,7 +12,7 @@ use Rattle.le.proofs.Bytes.{sets-append}
 use Rattle.le.proofs.Fields.{length-le}
 use Rattle.le.proofs.Rows.{lay-append, holds-lay, holds-append}
 use Rattle.le.proofs.Runs.{length-leWords}
-use Rattle.vat.specs.Table.{sectorLength, limit, tableAt, regidAt, plainRows, lengthRows, tableName}
+use Rattle.vat.specs.Table.{sectorLength, limit, tableStart, regidAt, plainRows, lengthRows, tableName}
 use Rattle.vat.specs.Sector.{tableRegid, tableBytes, ownRows, stationAt, stationName, body}
 use Rattle.vat.proofs.Frame.{and-left, and-right, Lengths, lengths}
 
@@ -34,21 +34,21 @@ regid-length = refl
 
 -- the table, put part by part
 pub table-put : (s map : List ℕ) (previous r : ℕ) → r ≡ regidAt (length map)
-    → sets (sets (sets (sets (sets s tableAt (leWords map)) r (le 1 0)) (r + 1) tableName) (r + 24) (le 8 0x0150)) (r + 32) (le 4 previous)
-    ≡ sets s tableAt (tableBytes map previous)
+    → sets (sets (sets (sets (sets s tableStart (leWords map)) r (le 1 0)) (r + 1) tableName) (r + 24) (le 8 0x0150)) (r + 32) (le 4 previous)
+    ≡ sets s tableStart (tableBytes map previous)
 unfolding tableBytes
 table-put s map previous r e =
-    let t : List ℕ = sets s tableAt (leWords map) in
+    let t : List ℕ = sets s tableStart (leWords map) in
     let name-end : r + 1 + length tableName ≡ r + 24 = omega (arith, name-length) in
     let regid : sets t r tableRegid ≡ sets (sets (sets t r (le 1 0)) (r + 1) tableName) (r + 24) (le 8 0x0150) =
     ap (sets t r) regid-parts
     ∙ sets-append (le 1 0) (tableName ++ le 8 0x0150) t r
     ∙ rw (length-le 1 0) (sets-append tableName (le 8 0x0150) (sets t r (le 1 0)) (r + 1))
     ∙ ap (λ (k : ℕ). sets (sets (sets t r (le 1 0)) (r + 1) tableName) k (le 8 0x0150)) name-end in
-    let behind : tableAt + length (leWords map) ≡ r = omega (arith, length-leWords map) in
+    let behind : tableStart + length (leWords map) ≡ r = omega (arith, length-leWords map) in
     sym
     (rw (
-      sets-append (leWords map) (tableRegid ++ le 4 previous) s tableAt,
+      sets-append (leWords map) (tableRegid ++ le 4 previous) s tableStart,
       behind,
       sets-append tableRegid (le 4 previous) t r,
       regid-length,
@@ -74,6 +74,6 @@ header-laid b n s = rw (lay-append (plainRows b) (lengthRows n ++ ownRows) s, la
 pub length-body : (map : List ℕ) (previous : ℕ) → length (body map previous) ≡ sectorLength
 unfolding body
 length-body map previous =
-    length-sets (sets (replicate sectorLength 0) tableAt (tableBytes map previous)) stationAt stationName
-    ∙ length-sets (replicate sectorLength 0) tableAt (tableBytes map previous)
+    length-sets (sets (replicate sectorLength 0) tableStart (tableBytes map previous)) stationAt stationName
+    ∙ length-sets (replicate sectorLength 0) tableStart (tableBytes map previous)
     ∙ length-replicate {A = ℕ} sectorLength 0

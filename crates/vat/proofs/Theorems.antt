@@ -22,7 +22,7 @@ use Rattle.le.proofs.Fields.{length-le, read-le}
 use Rattle.le.proofs.Rows.{length-lay, holds-spared, holds-append, drop-lay}
 use Rattle.le.proofs.Runs.{length-leWords, drop-on, text-held, Words, words-read, length-words}
 use Rattle.tag.specs.Tag.{sealed}
-use Rattle.vat.specs.Table.{sectorLength, limit, unused, tableAt, tableLength, regidAt, plainRows, lengthRows, embedded, tableName, unusedOrBelow, entryCount, entriesOf, previousOf, framed, isTable}
+use Rattle.vat.specs.Table.{sectorLength, limit, unused, tableStart, tableLength, regidAt, plainRows, lengthRows, embedded, tableName, unusedOrBelow, entryCount, entriesOf, previousOf, framed, isTable}
 use Rattle.vat.specs.Sector.{tableRegid, tableBytes, ownRows, stationName, stationAt, body, sector}
 use Rattle.vat.proofs.Frame.{and-left, and-right, lengths, Framed, framed-tells}
 use Rattle.vat.proofs.Record.{header, header-held, length-body}
@@ -77,7 +77,7 @@ of-kind-1 kind s b h = not-true (isTable kind s b) (λ e. h (recognised kind s b
 abbrev pub Named : ℕ → ℕ → Type 0
 Named b x = (x < b) ⊎ (x ≡ unused)
 
-named : (b x : ℕ) → unusedOrBelow b x ≡ true → Named b x
+pub named : (b x : ℕ) → unusedOrBelow b x ≡ true → Named b x
 named b x e = go (ltb x b) refl e
   where
     go : (t : Bool) → ltb x b ≡ t → (t || eqb x unused) ≡ true → Named b x
@@ -102,9 +102,9 @@ tells kind s b e =
     let r : Recognised kind s b = recognised kind s b e in
     let n : ℕ = entryCount s in
     record {
-      counted = length-words n s tableAt;
+      counted = length-words n s tableStart;
       few = r .frame .few;
-      entry = λ i h. each-named b (entriesOf s) (r .entries) i (rw (length-words n s tableAt) h);
+      entry = λ i h. each-named b (entriesOf s) (r .entries) i (rw (length-words n s tableStart) h);
       previous = named b (previousOf s) (r .frame .backward);
     }
 
@@ -167,18 +167,18 @@ module _ (map : List ℕ) (previous b : ℕ) (few : length map ≤ limit) (small
   sums-held = sealed-seal laid (omega (arith, length-laid))
 
   -- header and sums end before the table
-  table-stands : drop tableAt (sector map previous b) ≡ tableBytes map previous ++ drop (tableAt + tableLength (length map)) (replicate sectorLength 0)
+  table-stands : drop tableStart (sector map previous b) ≡ tableBytes map previous ++ drop (tableStart + tableLength (length map)) (replicate sectorLength 0)
   unfolding laid plainRows lengthRows ownRows body stationName
   table-stands =
       let zeros : List ℕ = replicate sectorLength 0 in
       let table : List ℕ = tableBytes map previous in
-      let inside : tableAt + length table ≤ length zeros = omega (arith, length-table map previous, length-replicate {A = ℕ} sectorLength 0) in
-      ap (drop tableAt) sector-lays
-      ∙ drop-lay (sealRows laid) laid tableAt tt
-      ∙ drop-lay (header b (length map)) (body map previous) tableAt tt
-      ∙ drop-sets-after stationName (sets zeros tableAt table) stationAt tableAt (lit≤ tt)
-      ∙ drop-sets table zeros tableAt inside
-      ∙ ap (λ (k : ℕ). table ++ drop (tableAt + k) zeros) (length-table map previous)
+      let inside : tableStart + length table ≤ length zeros = omega (arith, length-table map previous, length-replicate {A = ℕ} sectorLength 0) in
+      ap (drop tableStart) sector-lays
+      ∙ drop-lay (sealRows laid) laid tableStart tt
+      ∙ drop-lay (header b (length map)) (body map previous) tableStart tt
+      ∙ drop-sets-after stationName (sets zeros tableStart table) stationAt tableStart (lit≤ tt)
+      ∙ drop-sets table zeros tableStart inside
+      ∙ ap (λ (k : ℕ). table ++ drop (tableStart + k) zeros) (length-table map previous)
 
   -- the header's parts, one by one
   plain-held : holds (sector map previous b) (plainRows b) ≡ true
@@ -210,18 +210,18 @@ module _ (map : List ℕ) (previous b : ℕ) (few : length map ≤ limit) (small
   counted = omega (arith, lengths (sector map previous b) (length map) lengths-held .descriptors)
 
   -- the parts of the table, each where it stands
-  regid-stands : drop (regidAt (length map)) (sector map previous b) ≡ tableRegid ++ (le 4 previous ++ drop (tableAt + tableLength (length map)) (replicate sectorLength 0))
+  regid-stands : drop (regidAt (length map)) (sector map previous b) ≡ tableRegid ++ (le 4 previous ++ drop (tableStart + tableLength (length map)) (replicate sectorLength 0))
   unfolding tableBytes
   regid-stands =
-      let zeros : List ℕ = drop (tableAt + tableLength (length map)) (replicate sectorLength 0) in
-      drop-on (sector map previous b) (leWords map) (tableRegid ++ (le 4 previous ++ zeros)) tableAt (4 * length map)
+      let zeros : List ℕ = drop (tableStart + tableLength (length map)) (replicate sectorLength 0) in
+      drop-on (sector map previous b) (leWords map) (tableRegid ++ (le 4 previous ++ zeros)) tableStart (4 * length map)
       (table-stands ∙ append-assoc (leWords map) (tableRegid ++ le 4 previous) zeros ∙ ap (λ (l : List ℕ). leWords map ++ l) (append-assoc tableRegid (le 4 previous) zeros))
       (length-leWords map)
 
   named-held : holdsText (sector map previous b) (regidAt (length map) + 1) tableName ≡ true
   unfolding tableRegid
   named-held =
-      let zeros : List ℕ = drop (tableAt + tableLength (length map)) (replicate sectorLength 0) in
+      let zeros : List ℕ = drop (tableStart + tableLength (length map)) (replicate sectorLength 0) in
       let suffix : List ℕ = 0x50 ∷ 0x01 ∷ 0 ∷ 0 ∷ 0 ∷ 0 ∷ 0 ∷ 0 ∷ [] in
       let behind : List ℕ = suffix ++ (le 4 previous ++ zeros) in
       text-held tableName (sector map previous b) behind (regidAt (length map) + 1)
@@ -232,15 +232,15 @@ module _ (map : List ℕ) (previous b : ℕ) (few : length map ≤ limit) (small
     listed : entriesOf (sector map previous b) ≡ map
     unfolding entriesOf tableBytes
     listed =
-        let zeros : List ℕ = drop (tableAt + tableLength (length map)) (replicate sectorLength 0) in
-        ap (λ (k : ℕ). words k (sector map previous b) tableAt) counted
-        ∙ words-read map (sector map previous b) ((tableRegid ++ le 4 previous) ++ zeros) tableAt
+        let zeros : List ℕ = drop (tableStart + tableLength (length map)) (replicate sectorLength 0) in
+        ap (λ (k : ℕ). words k (sector map previous b) tableStart) counted
+        ∙ words-read map (sector map previous b) ((tableRegid ++ le 4 previous) ++ zeros) tableStart
         (table-stands ∙ append-assoc (leWords map) (tableRegid ++ le 4 previous) zeros) (all-fit b map small entries-below)
 
     linked : previousOf (sector map previous b) ≡ previous
     unfolding previousOf tableRegid tableName
     linked =
-        let zeros : List ℕ = drop (tableAt + tableLength (length map)) (replicate sectorLength 0) in
+        let zeros : List ℕ = drop (tableStart + tableLength (length map)) (replicate sectorLength 0) in
         ap (λ (k : ℕ). readLe 4 (sector map previous b) (regidAt k + 32)) counted
         ∙ read-le 4 previous (sector map previous b) zeros (regidAt (length map) + 32)
         (drop-on (sector map previous b) tableRegid (le 4 previous ++ zeros) (regidAt (length map)) 32 regid-stands refl)

@@ -5,7 +5,7 @@ use lib.ListN.{length, replicate}
 use lib.Seq.{sets}
 use Rattle.le.specs.Field.{Row, row, le, leWords, lay}
 use Rattle.tag.specs.Tag.{seal}
-use Rattle.vat.specs.Table.{sectorLength, unused, tableAt, plainRows, lengthRows, tableName}
+use Rattle.vat.specs.Table.{sectorLength, unused, tableStart, plainRows, lengthRows, tableName}
 
 -- "table regid flags 0, suffix hex 50 01 and six zeros".
 unfoldable pub tableRegid : List ℕ
@@ -34,7 +34,7 @@ stationName = 42 ∷ 66 ∷ 101 ∷ 110 ∷ 99 ∷ 104 ∷ 32 ∷ 83 ∷ 116 ∷
 
 -- The table and the name over zeros: "Everything else is zero, up to byte 2047."
 unfoldable pub body : List ℕ → ℕ → List ℕ
-body map previous = sets (sets (replicate sectorLength 0) tableAt (tableBytes map previous)) stationAt stationName
+body map previous = sets (sets (replicate sectorLength 0) tableStart (tableBytes map previous)) stationAt stationName
 
 -- The sector for a map, a previous table and the block b that it is recorded at.
 unfoldable pub sector : List ℕ → ℕ → ℕ → List ℕ

@@ -22,15 +22,15 @@ abbrev pub unused : ℕ
 unused = 0xFFFFFFFF
 
 -- Byte 176: the table.
-abbrev pub tableAt : ℕ
-tableAt = 176
+abbrev pub tableStart : ℕ
+tableStart = 176
 
 -- "Table: entries of 32 bits, a 32-byte regid, the previous table's block (32 bits)." "The table length is 4 × N + 36 exactly."
 abbrev pub tableLength : ℕ → ℕ
 tableLength n = 4 * n + 36
 
 abbrev pub regidAt : ℕ → ℕ
-regidAt n = tableAt + 4 * n
+regidAt n = tableStart + 4 * n
 
 -- Rows whose number the format or the block b settles.
 unfoldable pub plainRows : ℕ → List Row
@@ -68,10 +68,10 @@ entryCount s = (readLe 4 s 172 - 36) / 4
 
 -- Entry i of the table, all of its entries, and the previous table's block.
 abbrev pub entryOf : List ℕ → ℕ → ℕ
-entryOf s i = readLe 4 s (tableAt + 4 * i)
+entryOf s i = readLe 4 s (tableStart + 4 * i)
 
 unfoldable pub entriesOf : List ℕ → List ℕ
-entriesOf s = words (entryCount s) s tableAt
+entriesOf s = words (entryCount s) s tableStart
 
 unfoldable pub previousOf : List ℕ → ℕ
 previousOf s = readLe 4 s (regidAt (entryCount s) + 32)

@@ -8,7 +8,7 @@ ghost use Prim.Native.Nat.{_≤_};
 ghost use lib.ListN.{length};
 ghost use lib.Seq.{sets};
 ghost use Rattle.le.specs.Field.{lay};
-ghost use Rattle.vat.specs.Table.{sectorLength, limit, tableAt, plainRows, lengthRows};
+ghost use Rattle.vat.specs.Table.{sectorLength, limit, tableStart, plainRows, lengthRows};
 ghost use Rattle.vat.specs.Sector.{tableBytes, ownRows, sector};
 
 const STATION_NAME: [u8; 14] = *b"*Bench Station";
@@ -51,7 +51,7 @@ fn put_own(s: &mut [u8])
 // The entries, the regid (flags, text, suffix) and the previous table, one behind the other.
 fn put_table(s: &mut [u8], map: &[u32], previous: u32)
     requires { ⌜ (length (now s) ≡ sectorLength) × (length (now map) ≤ limit) ⌝ }
-    ensures { λ _. ⌜ now (s .exit) ≡ sets (now (s .entry)) tableAt (tableBytes (now (map .entry)) previous) ⌝ }
+    ensures { λ _. ⌜ now (s .exit) ≡ sets (now (s .entry)) tableStart (tableBytes (now (map .entry)) previous) ⌝ }
 {
     let regid = TABLE_AT + 4 * map.len();
     let name = TABLE_NAME;

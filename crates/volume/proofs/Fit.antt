@@ -10,7 +10,7 @@ use mathlib.Core.List.{List, [], _∷_, _++_}
 use lib.Dec.{eqb, ltb, leb}
 use lib.ListN.{length, getD, take, drop, set, replicate}
 use lib.Seq.{take-at, drop-at}
-use borrow.Author.Tests.{eq-eqb, ne-eqb, le-leb, lt-leb}
+use borrow.Author.Tests.{eq-eqb, ne-eqb, le-leb, lt-leb, le-ltb}
 use Rattle.le.specs.Bytes.{every}
 use Rattle.le.specs.Field.{readLe, words}
 use Rattle.le.proofs.Runs.{words-none, words-step, length-words}
@@ -19,7 +19,7 @@ use Rattle.disc.specs.Disc.{Disc, recorded}
 use Rattle.disc.specs.Tables.{tableAt}
 use Rattle.disc.proofs.Order.{and-false}
 use Rattle.volume.specs.declared.Volume.{Volume}
-use Rattle.volume.specs.Volume.{packetOpen, readOnly, unpack, mapOf, fits, filled}
+use Rattle.volume.specs.Volume.{packetOpen, readOnly, unpack, isUnused, mapOf, fits, filled}
 use Rattle.volume.proofs.State.{words-snoc}
 
 -- ---- the entries in two parts
@@ -48,6 +48,15 @@ entries-beyond l k h = ap (drop k) (parts l k h) ∙ drop-at (words k l 0) (word
 
 -- ---- the fit
 
+-- no block lies below 0: to name none of them is to be unused
+below-zero : (x : ℕ) → unusedOrBelow 0 x ≡ isUnused x
+below-zero x = ap (λ (t : Bool). t || eqb x unused) (le-ltb x 0 (omega arith))
+
+pub all-below-zero : (xs : List ℕ) → every (unusedOrBelow 0) xs ≡ every isUnused xs
+unfolding every
+all-below-zero [] = refl
+all-below-zero (x ∷ xs) = ap₂ _&&_ (below-zero x) (all-below-zero xs)
+
 -- what is tested of the mode, on a disc with r sectors recorded
 abbrev pub modeFits : List ℕ → ℕ → ℕ → Bool
 modeFits kinds mode r = leb mode readOnly && (not (eqb mode packetOpen) || (ltb 0 r && eqb (getD kinds (r - 1) 0) 1))
@@ -61,7 +70,7 @@ module _ (d : Disc) (v : Volume) where
   unfolding fits
   other-count h =
       let a : Bool = leb (v .size) limit in
-      let b : Bool = every (unusedOrBelow 0) (drop (v .size) (v .entries)) in
+      let b : Bool = every isUnused (drop (v .size) (v .entries)) in
       let c : Bool = every (unusedOrBelow (v .recorded)) (mapOf v) in
       let f : Bool = eqb (v .recorded) (recorded d) in
       let rest : Bool = (eqb (v .last) unused || tableAt d (v .last)) && modeFits (d .kinds) (v .mode) (v .recorded) in
@@ -69,7 +78,7 @@ module _ (d : Disc) (v : Volume) where
 
   pub fits-parts : v .size ≤ limit → v .recorded ≡ recorded d
       → fits d v
-      ≡ (every (unusedOrBelow 0) (drop (v .size) (v .entries))
+      ≡ (every isUnused (drop (v .size) (v .entries))
       && (every (unusedOrBelow (v .recorded)) (mapOf v) && ((eqb (v .last) unused || tableAt d (v .last)) && modeFits (d .kinds) (v .mode) (v .recorded))))
   unfolding fits
   fits-parts few same = rw (le-leb (v .size) limit few, eq-eqb (v .recorded) (recorded d) same)

@@ -46,15 +46,19 @@ abbrev pub mapOf : Volume → List ℕ
 mapOf v = take (v .size) (v .entries)
 
 -- The state fits the disc: no clause of refusal 4 applies.
+abbrev pub isUnused : ℕ → Bool
+isUnused x = eqb x unused
+
 unfoldable pub fits : Disc → Volume → Bool
 fits d v =
-    leb (v .size) limit
-    && (every (unusedOrBelow 0) (drop (v .size) (v .entries))
-    && (every (unusedOrBelow (v .recorded)) (mapOf v)
-    && (eqb (v .recorded) (recorded d)
-    && ((eqb (v .last) unused || tableAt d (v .last))
-    && (leb (v .mode) readOnly
+    leb (v .size) limit  -- "size above 458"
+    && (every isUnused (drop (v .size) (v .entries))  -- "an entry from size on not FFFFFFFF"
+    && (every (unusedOrBelow (v .recorded)) (mapOf v)  -- "one below size neither FFFFFFFF nor below recorded"
+    && (eqb (v .recorded) (recorded d)  -- "recorded differs from the disc's"
+    && ((isUnused (v .last) || tableAt d (v .last))  -- "last table neither FFFFFFFF nor a table sector"
+    && (leb (v .mode) readOnly  -- "mode above 2"
     && (not (eqb (v .mode) packetOpen) || (ltb 0 (v .recorded) && eqb (kindAt d (v .recorded - 1)) 1)))))))
+    -- "mode 1 where the last recorded sector is missing or not kind 1"
 
 -- **Begin**: "size 0, no last table, mode 0", on a disc with r sectors recorded.
 unfoldable pub begun : ℕ → Volume

@@ -8,7 +8,7 @@ ghost use mathlib.Core.List.{_++_};
 ghost use Prim.Native.Nat.{_-_, _≤_, _<_};
 ghost use lib.ListN.{length, replicate};
 ghost use Rattle.le.specs.Field.{words};
-ghost use Rattle.vat.specs.Table.{sectorLength, limit, unused, tableAt, entryCount, entriesOf};
+ghost use Rattle.vat.specs.Table.{sectorLength, limit, unused, tableStart, entryCount, entriesOf};
 ghost use Rattle.volume.specs.Volume.{ledgerLength, unpack, pack, begun, filled, wrote, released, closed, committed};
 
 // "458 map entries, then size, recorded, last table, mode, each 32 bits."
@@ -40,7 +40,7 @@ fn load_entries(l: &[u8]) -> [u32; 458]
 // The n entries of the table in a sector, then unused ones.
 fn fill_entries(s: &[u8], n: u32) -> [u32; 458]
     requires { ⌜ (length (now s) ≡ sectorLength) × (n ≤ limit) ⌝ }
-    ensures { λ r. ⌜ r ≡ words n (now (s .entry)) tableAt ++ replicate (limit - n) unused ⌝ }
+    ensures { λ r. ⌜ r ≡ words n (now (s .entry)) tableStart ++ replicate (limit - n) unused ⌝ }
 {
     let mut entries = [UNUSED; 458];
     let count = n as usize;

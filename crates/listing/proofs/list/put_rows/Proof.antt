@@ -12,7 +12,7 @@ use Rattle.disc.specs.Disc.{Disc, lent}
 use Rattle.volume.specs.Volume.{unpack}
 use Rattle.recorder.specs.Calls.{lookBack}
 use Rattle.recorder.specs.Effects.{After, after}
-use Rattle.listing.specs.Text.{row, used}
+use Rattle.listing.specs.Text.{rowLine, used}
 use Rattle.listing.specs.Listing.{outcomeIn, secondIn, spare, lastLine, rowOf, rowsFrom}
 use Rattle.listing.proofs.Rows.{row-of, rows-stop, rows-end, row-put-on, row-length-on}
 use borrow.Author.Needs.{needs}
@@ -38,7 +38,7 @@ shown : (c : tie.After-station-look-back Inv-loop μ-loop)
 unfolding spare
 shown c = ap {A = After} (λ x. x .ledger) (c .station-look-back .ensures)
 
-same-row : (k : ℕ) {x x′ y y′ z z′ : ℕ} → x ≡ x′ → y ≡ y′ → z ≡ z′ → row k x y z ≡ row k x′ y′ z′
+same-row : (k : ℕ) {x x′ y y′ z z′ : ℕ} → x ≡ x′ → y ≡ y′ → z ≡ z′ → rowLine k x y z ≡ rowLine k x′ y′ z′
 same-row k p q r = cc
 
 loop-holds : tie.Need-loop-holds Inv-loop μ-loop
@@ -101,7 +101,7 @@ loop-again c =
     let second : c .before .before .before .before .before .before .before .before .before .before .station-look-back .result % 4294967296 ≡ secondIn (after d spare (lookBack (l .k)) .answer) = ap secondIn (answered (c .before .before .before .before .before .before .before .before .before .before)) in
     let size : c .before .before .before .before .before .before .size .result ≡ unpack (after d spare (lookBack (l .k)) .ledger) .size = c .before .before .before .before .before .before .size .ensures ∙ ap (λ (x : List ℕ). unpack x .size) (shown (c .before .before .before .before .before .before .before .before .before .before)) in
     let count : c .before .before .before .before .used .result ≡ used (unpack (after d spare (lookBack (l .k)) .ledger) .entries) = c .before .before .before .before .used .ensures ∙ ap (λ (x : List ℕ). used (unpack x .entries)) (shown (c .before .before .before .before .before .before .before .before .before .before)) in
-    let one : List ℕ = row (l .k) (c .before .before .before .before .before .before .before .before .before .before .station-look-back .result % 4294967296) (c .before .before .before .before .before .before .size .result) (c .before .before .before .before .used .result) in
+    let one : List ℕ = rowLine (l .k) (c .before .before .before .before .before .before .before .before .before .before .station-look-back .result % 4294967296) (c .before .before .before .before .before .before .size .result) (c .before .before .before .before .used .result) in
     let is : one ≡ rowOf (l .k) (after d spare (lookBack (l .k))) = same-row (l .k) second size count ∙ row-of (l .k) (after d spare (lookBack (l .k))) in
     let left : 32 - (l .k + 1) ≡ 32 - l .k - 1 = omega arith in (
       omega arith,

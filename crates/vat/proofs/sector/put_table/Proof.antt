@@ -6,7 +6,7 @@ use mathlib.Core.List.{List}
 use lib.ListN.{length}
 use lib.Seq.{sets}
 use Rattle.le.specs.Field.{le, leWords}
-use Rattle.vat.specs.Table.{tableAt, regidAt, tableName}
+use Rattle.vat.specs.Table.{tableStart, regidAt, tableName}
 use Rattle.vat.proofs.Record.{table-put}
 use borrow.Author.Needs.{needs}
 use Rattle.vat.proofs.sector.put_table.Statement.{statement}
@@ -60,7 +60,7 @@ returns c =
     let suffix = c .before .before .before .before .before .before .put64 in
     let r : ℕ = regidAt (length map) in
     let put : c .before .before .put32 .last .0
-    ≡ sets (sets (sets (sets (sets s tableAt (leWords map)) r (le 1 0)) (r + 1) tableName) (r + 24) (le 8 0x0150)) (r + 32) (le 4 (a .previous)) = cc in
+    ≡ sets (sets (sets (sets (sets s tableStart (leWords map)) r (le 1 0)) (r + 1) tableName) (r + 24) (le 8 0x0150)) (r + 32) (le 4 (a .previous)) = cc in
     put ∙ table-put s map (a .previous) r refl
 
 pub put-table-spec : {M : Type 1} → statement M

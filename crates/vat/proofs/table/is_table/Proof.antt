@@ -10,7 +10,7 @@ use lib.ListN.{length}
 use borrow.Author.Tests.{eq-eqb, ne-eqb, not-true, not-false}
 use Rattle.le.specs.Bytes.{every}
 use Rattle.le.specs.Field.{words}
-use Rattle.vat.specs.Table.{sectorLength, tableAt, unusedOrBelow, entryCount, entriesOf, framed, isTable}
+use Rattle.vat.specs.Table.{sectorLength, tableStart, unusedOrBelow, entryCount, entriesOf, framed, isTable}
 use Rattle.vat.proofs.Frame.{Framed, framed-tells}
 use borrow.Author.Needs.{needs}
 use Rattle.vat.proofs.table.is_table.Statement.{statement}
@@ -40,7 +40,7 @@ listed : (c : tie.After-words-held)
 unfolding entriesOf
 listed c =
     let e = c .before .before .before .before in
-    c .words-held .ensures ∙ ap (λ (n : ℕ). every (unusedOrBelow (B e)) (words n (S e) tableAt)) (c .before .entry-count .ensures)
+    c .words-held .ensures ∙ ap (λ (n : ℕ). every (unusedOrBelow (B e)) (words n (S e) tableStart)) (c .before .entry-count .ensures)
 
 returns : tie.Need-returns
 unfolding isTable

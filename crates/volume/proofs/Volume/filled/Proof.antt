@@ -4,7 +4,7 @@ use Prim.Native.Nat.{ℕ}
 use mathlib.Core.Path.{sym, ap, _∙_}
 use mathlib.Core.List.{List}
 use Rattle.le.specs.Field.{words}
-use Rattle.vat.specs.Table.{tableAt, entriesOf}
+use Rattle.vat.specs.Table.{tableStart, entriesOf}
 use Rattle.volume.specs.declared.Volume.{Volume}
 use Rattle.volume.specs.Volume.{filled}
 use Rattle.volume.proofs.Fit.{filled-words}
@@ -25,8 +25,8 @@ returns c =
     let s : List ℕ = a .s .now in
     let n : ℕ = c .before .entry-count .result in
     ap {B = Volume} (λ e. record { entries = e; size = n; recorded = a .recorded; last = a .b; mode = a .mode }) (c .fill-entries .ensures)
-    ∙ sym (filled-words s tableAt n (a .b) (a .recorded) (a .mode))
-    ∙ ap (λ (k : ℕ). filled (words k s tableAt) (a .b) (a .recorded) (a .mode)) (c .before .entry-count .ensures)
+    ∙ sym (filled-words s tableStart n (a .b) (a .recorded) (a .mode))
+    ∙ ap (λ (k : ℕ). filled (words k s tableStart) (a .b) (a .recorded) (a .mode)) (c .before .entry-count .ensures)
 
 pub filled-spec : {M : Type 1} → statement M
 filled-spec = tie.close (tie.spec entry-count-requires fill-entries-requires returns)

@@ -14,8 +14,8 @@ use Rattle.disc.specs.Disc.{Disc, lent, recorded}
 use Rattle.disc.specs.Tables.{tableAt}
 use Rattle.disc.proofs.Recording.{leading-le}
 use Rattle.volume.specs.declared.Volume.{Volume}
-use Rattle.volume.specs.Volume.{unpack, mapOf}
-use Rattle.volume.proofs.Fit.{entries-below, entries-beyond, modeFits, too-many, other-count, fits-parts}
+use Rattle.volume.specs.Volume.{isUnused, unpack, mapOf}
+use Rattle.volume.proofs.Fit.{entries-below, entries-beyond, modeFits, all-below-zero, too-many, other-count, fits-parts}
 use borrow.Author.Needs.{needs}
 use Rattle.volume.proofs.ledger.fits.Statement.{statement}
 use Rattle.volume.proofs.ledger.fits.Tie as tie
@@ -78,9 +78,9 @@ returns-3 c =
     let few : v .size ≤ limit = omega (arith, size, c .before .before .before .before .before .before .before .before .if1 .left) in
     let own : c .before .before .before .before .before .before .recorded .result ≡ v .recorded = c .before .before .before .before .before .before .recorded .ensures in
     let counted : c .before .before .before .before .before .before .recorded .result ≡ s .args .counted = c .before .before .before .before .if2 .left in
-    let beyond : c .before .before .before .before .before .before .before .words-held .result ≡ every (unusedOrBelow 0) (drop (v .size) (v .entries)) =
+    let beyond : c .before .before .before .before .before .before .before .words-held .result ≡ every isUnused (drop (v .size) (v .entries)) =
     c .before .before .before .before .before .before .before .words-held .ensures ∙ ap (λ (n : ℕ). every (unusedOrBelow 0) (words (limit - n) l (4 * n))) size
-    ∙ ap (every (unusedOrBelow 0)) (sym (entries-beyond l (v .size) few)) in
+    ∙ ap (every (unusedOrBelow 0)) (sym (entries-beyond l (v .size) few)) ∙ all-below-zero (drop (v .size) (v .entries)) in
     let below : c .before .before .before .before .before .words-held2 .result ≡ every (unusedOrBelow (v .recorded)) (mapOf v) =
     c .before .before .before .before .before .words-held2 .ensures ∙ ap₂ (λ (r n : ℕ). every (unusedOrBelow r) (words n l 0)) own size
     ∙ ap (every (unusedOrBelow (v .recorded))) (sym (entries-below l (v .size) few)) in
