@@ -1,21 +1,24 @@
 -- Demand 3, proved: after every list of events that document 01 allows, mount and look back show the history's pages.
 --     power-cuts         the claim of specs/Claim.antt
---     commit-then-mount  a commit that is done, then a mount on the disc that it leaves
+--     begun-kept, mounted-kept, all-kept  what holds of disc, ledger and history after a begin or a mount, and after any events that follow
+--     remounts           a commit that is done, then a mount or a look back on the disc that it leaves
+--     commit-then-mount  the same of any 1,848 bytes as ledger
 -- Assumes nothing.
-use Prim.Native.Nat.{ℕ, suc, _+_, _<_}
+use Prim.Native.Nat.{ℕ, suc, _+_, _*_, _<_}
 use native.Mathlib.Nat.{not-suc-le-zero}
 use native.Mathlib.Omega.{arith}
 use mathlib.Core.Path.{_≡_, refl, sym, ap, _∙_, subst, subst₂}
-use mathlib.Core.Bool.{Bool, true, not}
+use mathlib.Core.Bool.{Bool, true, _||_, not}
 use mathlib.Core.List.{List, [], _∷_}
 use mathlib.Core.Option.{Option, none, some}
 use lib.Dec.{eqb, lit<}
 use native.Mathlib.Numerals.{add-one}
-use borrow.Author.Tests.{eq-eqb}
+use borrow.Author.Tests.{eq-eqb, ne-eqb}
 use lib.ListN.{length, getD}
+use Rattle.vat.specs.Table.{unused}
 use Rattle.disc.specs.Disc.{Disc, recorded, puts}
 use Rattle.disc.specs.declared.Walk.{Walk}
-use Rattle.disc.specs.declared.Walk.the-variants.{Reached}
+use Rattle.disc.specs.declared.Walk.the-variants.{Reached, Ended}
 use Rattle.disc.specs.Tables.{tableAt, mapAt, previousAt, newest, walk, blockFound}
 use Rattle.disc.proofs.Recording.{Sound}
 use Rattle.disc.proofs.Found.{newest-table, table-recorded}
@@ -98,6 +101,23 @@ module _ (d : Disc) (l : List ℕ) (ok : Sound d) (long : length l ≡ ledgerLen
   look-back-leaves k b t n e =
       rw (look-back-some k b t n e) (ap (λ (w : Walk). pack (filled (mapAt d (blockReached w)) (blockReached w) (recorded d) readOnly)) e)
 
+  look-back-tells : (k b t : ℕ) → newest d ≡ some b → walked d k ≡ Reached t → after d l (lookBack k) .answer ≡ t
+  unfolding after effect
+  look-back-tells k b t n e = rw (look-back-some k b t n e) (ap blockReached e)
+
+  look-back-ends : (k b : ℕ) → newest d ≡ some b → walked d k ≡ Ended → after d l (lookBack k) .answer ≡ 9 * 4294967296
+  unfolding outcome tests after
+  look-back-ends k b n e =
+      let seven : Bool = not (isSome (newest d)) in
+      let eight : Bool = isBroken (walked d k) in
+      let nine : Bool = isEnded (walked d k) in
+      let ends : outcome d l (lookBack k) ≡ 9 =
+      skip-basic d (ledgerLent l) (test 7 seven ∷ test 8 eight ∷ test 9 nine ∷ []) ok (eq-eqb (length l) ledgerLength long)
+      ∙ skip 7 seven (test 8 eight ∷ test 9 nine ∷ []) (ap (λ (o : Option ℕ). not (isSome o)) n)
+      ∙ skip 8 eight (test 9 nine ∷ []) (ap isBroken e)
+      ∙ stop 9 nine [] (ap isEnded e) in
+      rw ends
+
   pub look-back-shows : (k b t : ℕ) → newest d ≡ some b → walked d k ≡ Reached t → DoneShowing d l (lookBack k) (pageFrom F d (mapAt d t))
   look-back-shows k b t n e =
       record {
@@ -138,7 +158,7 @@ started : (d : Disc) (l : List ℕ) (c : Call) → outcome d l c ≡ 0 → next 
 unfolding next
 started d l c e = rw e
 
-begun-kept : (d : Disc) (l : List ℕ) → outcome d l begin ≡ 0 → Kept (afterCall d l begin) begunHistory
+pub begun-kept : (d : Disc) (l : List ℕ) → outcome d l begin ≡ 0 → Kept (afterCall d l begin) begunHistory
 unfolding feed fed
 begun-kept d l e =
     let facts = begin-done d l e in
@@ -149,7 +169,7 @@ begun-kept d l e =
     let fed-begin : feed h (fed (lostWorld d) (calls begin l)) ≡ begunHistory = rw e in
     subst₂ (λ (w : World) (k : History). Kept w k) (started d l begin e) fed-begin (record { good = s .good; inv = kept F names-below h (s .step) i })
 
-mounted-kept : (d : Disc) (l : List ℕ) → outcome d l mount ≡ 0 → Kept (afterCall d l mount) (mountedHistory d)
+pub mounted-kept : (d : Disc) (l : List ℕ) → outcome d l mount ≡ 0 → Kept (afterCall d l mount) (mountedHistory d)
 unfolding feed fed shown
 mounted-kept d l e =
     let facts = mount-done d l e in
@@ -177,12 +197,15 @@ power-cuts =
 
 -- ---- a commit, then a mount
 
--- what mount says of the disc that a commit left, lent any 1,848 bytes: the same map and size, that block as last table, clean
+-- what mount and look back 1 say of the disc that a commit left, lent any 1,848 bytes: the same map and size, that block as last table, clean; and one
+-- step back the table that was the ledger's last, if there was one
 pub record Remounted (d : Disc) (l m : List ℕ) : Type 0 where
   pub clean : after (after d l commit .disc) m mount .answer ≡ 1
   pub same-map : mapOf (unpack (after (after d l commit .disc) m mount .ledger)) ≡ mapOf (unpack l)
   pub same-size : unpack (after (after d l commit .disc) m mount .ledger) .size ≡ unpack l .size
   pub that-block : unpack (after (after d l commit .disc) m mount .ledger) .last ≡ after d l commit .answer
+  pub one-back : (unpack l .last ≡ unused → ⊥) → after (after d l commit .disc) m (lookBack 1) .answer ≡ unpack l .last
+  pub none-back : unpack l .last ≡ unused → after (after d l commit .disc) m (lookBack 1) .answer ≡ 9 * 4294967296
 
 committed-disc : (d : Disc) (l : List ℕ) (ok : Sound d) (good : Proper (unpack l)) → outcome d l commit ≡ 0
     → after d l commit .disc ≡ puts d (recorded d) (behindLinks (links (unpack l)) (tableSector d l ok good))
@@ -199,11 +222,20 @@ mount-clean d m ok long b n last =
     let clean : eqb (b + 1) (recorded d) ≡ true = eq-eqb (b + 1) (recorded d) (add-one b ∙ sym last) in
     rw (mount-some d m ok long b n) (ap (λ (o : Option ℕ). cleanNumber (eqb (blockFound o + 1) (recorded d))) n ∙ ap cleanNumber clean)
 
-pub commit-then-mount : (d : Disc) (l : List ℕ) → AllBytes l → outcome d l commit ≡ 0 → (m : List ℕ) → length m ≡ ledgerLength → Remounted d l m
+-- one step from a table whose previous is known
+module _ (d : Disc) (b t : ℕ) (n : newest d ≡ some b) (named : previousAt d b ≡ t) where
+  steps-to : (t ≡ unused → ⊥) → tableAt d t ≡ true → walked d 1 ≡ Reached t
+  unfolding walked walk
+  steps-to used table = ap (walkFrom d 1) n ∙ rw (named, ne-eqb t unused used, table)
+
+  steps-off : t ≡ unused → walked d 1 ≡ Ended
+  unfolding walked walk
+  steps-off none-there = ap (walkFrom d 1) n ∙ rw (named, eq-eqb t unused none-there)
+
+pub remounts : (d : Disc) (l : List ℕ) → Proper (unpack l) → outcome d l commit ≡ 0 → (m : List ℕ) → length m ≡ ledgerLength → Remounted d l m
 unfolding filled
-commit-then-mount d l bytes e m long =
+remounts d l good e m long =
     let v : Volume = unpack l in
-    let good : Proper v = proper-unpack l bytes in
     let f : CommitDone d l = commit-done d l e in
     let ok : Sound d = f .sound-disc in
     let b : ℕ = recorded d + links v in
@@ -218,10 +250,20 @@ commit-then-mount d l bytes e m long =
     let left : unpack (after d′ m mount .ledger) ≡ state = ap unpack (mount-leaves d′ m ok′ long b n) ∙ unpack-pack state proper in
     let map : mapOf state ≡ mapOf v = map-filled (mapAt d′ b) b (recorded d′) idle ∙ saved .its-map in
     let counted : length (mapOf v) ≡ v .size = length-map v (omega (arith, f .fit .few, good .long)) in
+    let old-table : (v .last ≡ unused → ⊥) → tableAt d (v .last) ≡ true = λ used. ap (λ (t : Bool). t || tableAt d (v .last)) (sym (ne-eqb (v .last) unused used)) ∙ f .fit .last-known in
     let all : (e : Disc) → e ≡ d′ → unpack (after e m mount .ledger) ≡ state = λ e p. ap (λ (x : Disc). unpack (after x m mount .ledger)) p ∙ left in
     record {
       clean = ap (λ (x : Disc). after x m mount .answer) same ∙ mount-clean d′ m ok′ long b n (saved .last-sector);
       same-map = ap mapOf (all (after d l commit .disc) same) ∙ map;
       same-size = ap (λ (x : Volume). x .size) (all (after d l commit .disc) same) ∙ ap length (saved .its-map) ∙ counted;
       that-block = ap (λ (x : Volume). x .last) (all (after d l commit .disc) same) ∙ sym (committed-block d l e ∙ at-target d l ok good f);
+      one-back = λ used.
+          let inside : v .last < recorded d = table-recorded d ok (v .last) (old-table used) in
+          ap (λ (x : Disc). after x m (lookBack 1) .answer) same
+          ∙ look-back-tells d′ m ok′ long 1 b (v .last) n (steps-to d′ b (v .last) n (saved .its-previous) used (saved .extends .tables (v .last) inside ∙ old-table used));
+      none-back = λ none-there.
+          ap (λ (x : Disc). after x m (lookBack 1) .answer) same ∙ look-back-ends d′ m ok′ long 1 b n (steps-off d′ b (v .last) n (saved .its-previous) none-there);
     }
+
+pub commit-then-mount : (d : Disc) (l : List ℕ) → AllBytes l → outcome d l commit ≡ 0 → (m : List ℕ) → length m ≡ ledgerLength → Remounted d l m
+commit-then-mount d l bytes = remounts d l (proper-unpack l bytes)

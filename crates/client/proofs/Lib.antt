@@ -1,0 +1,4 @@
+pub mod Days
+pub mod Claimed
+pub mod Shown
+pub mod Saves

@@ -1,0 +1,396 @@
+-- What a host wants of its days: what was saved is read back, where the answers said, however long ago and whatever was cut since.
+--     saved-shows, saved-reads, saved-back   a save, mounted, read, and one step back from it
+--     long-ago-reads                         a save with any calls behind it
+--     released-reads, nothing-mounts         a number released; a disc without a save
+--     cut-reads                              a save, a write, and any call that was cut
+-- Assumes nothing.
+use Prim.Native.Nat.{ℕ, zero, suc, _+_, _*_, _≤_, _<_}
+use native.Mathlib.Omega.{arith}
+use mathlib.Core.Path.{_≡_, refl, sym, ap, ap₂, _∙_, subst, subst₂}
+use mathlib.Core.Bool.{Bool, true, false, _&&_}
+use mathlib.Core.List.{List, [], _∷_, _++_}
+use mathlib.Core.Option.{Option, none, some}
+use borrow.Author.Tests.{eqb-true, eqb-false, ne-eqb, lt-ltb}
+use lib.Dec.{eqb, ltb}
+use lib.ListN.{length, getD, take, set, replicate, length-set, length-append}
+use lib.Seq.{getD-set-same, getD-append-seam}
+use Rattle.vat.specs.Table.{sectorLength, unused}
+use Rattle.disc.specs.Disc.{Disc, Sector, link, plain, recorded, puts}
+use Rattle.disc.proofs.Recording.{Sound, leading-le}
+use Rattle.volume.specs.declared.Volume.{Volume}
+use Rattle.volume.specs.Volume.{ledgerLength, readOnly, unpack, mapOf, begun, grown, wrote, committed}
+use Rattle.volume.proofs.State.{Proper, length-pack, unpack-pack, proper-begun, proper-wrote, proper-committed}
+use Rattle.recorder.specs.Calls.{Call, begin, mount, write, release, closePacket, commit, read, lookBack}
+use Rattle.recorder.specs.Refusals.{outcome, links, target}
+use Rattle.recorder.specs.Effects.{Effect, effect, sectorsIf, after, secondNumber, sectorsOf}
+use Rattle.recorder.proofs.Done.{begin-done, WriteDone, write-done, CommitDone, commit-done, ledger-accepted, links-few}
+use Rattle.history.specs.History.{Entry, unusedEntry, shows, Snapshot, History, placed, saved, savedIf, done, feed}
+use Rattle.history.specs.Events.{cuts, Torn, tornAt, cutDisc, AllAllowed, next, told, kept, cutShort, fed, runs, remembers}
+use Rattle.history.specs.Claim.{blockNumber, DoneShowing, Claim}
+use Rattle.history.proofs.Log.{HeldIf}
+use Rattle.history.proofs.Growth.{F}
+use Rattle.history.proofs.Theorem.{Kept, Remounted, remounts}
+use Rattle.client.specs.Day.{Day, ended, called, day, AllDone, opening, ShowsSave, commits, struck, OneSector, sectorsBehind, CutBehind, tableKept, readsOf}
+use Rattle.client.proofs.Days.{joined, first-done, part-done, called-done, done-first, rest-done, answer-of, last-called, mount-small}
+use Rattle.client.proofs.Claimed.{world, not-lost, history, kept-next, startPage, startPages, startHistory, opened, remembered, claim-behind, claim-at, kept-at}
+use Rattle.client.proofs.Shown.{Reads, mount-disc, mount-reads, mount-unused, look-reads}
+
+-- ---- entries of a page
+
+abbrev pub written : Snapshot → ℕ → ℕ → List ℕ → Snapshot
+written p v b block = placed (eqb v (length p)) p v (shows b (some block))
+
+-- an entry that was placed is there
+module _ (p : Snapshot) (v b : ℕ) (block : List ℕ) (no-gap : v ≤ length p) where
+  written-there : getD (written p v b block) v unusedEntry ≡ shows b (some block)
+  written-there = go (eqb v (length p)) refl
+    where
+      go : (t : Bool) → eqb v (length p) ≡ t → getD (placed t p v (shows b (some block))) v unusedEntry ≡ shows b (some block)
+      go true z = ap (λ (k : ℕ). getD (p ++ (shows b (some block) ∷ [])) k unusedEntry) (eqb-true v (length p) z) ∙ getD-append-seam p (shows b (some block)) [] unusedEntry
+      go false z = getD-set-same p v (shows b (some block)) unusedEntry (let other = eqb-false v (length p) z in omega (arith, other))
+
+length-written : (p : Snapshot) (v b : ℕ) (block : List ℕ) → length (written p v b block) ≡ grown (eqb v (length p)) (length p)
+length-written p v b block = go (eqb v (length p))
+  where
+    go : (t : Bool) → length (placed t p v (shows b (some block))) ≡ grown t (length p)
+    go true = length-append p (shows b (some block) ∷ [])
+    go false = length-set p v (shows b (some block))
+
+grown-more : (t : Bool) (n : ℕ) → n ≤ grown t n
+grown-more true n = omega arith
+grown-more false n = omega arith
+
+released-there : (p : Snapshot) (v : ℕ) → getD (set p v unusedEntry) v unusedEntry ≡ unusedEntry
+released-there [] v = refl
+released-there (e ∷ es) zero = refl
+released-there (e ∷ es) (suc v) = released-there es v
+
+-- ---- the ledger that a call leaves
+
+few : (d : Disc) → Sound d → recorded d ≤ 360000
+few d ok = omega (arith, leading-le (d .kinds), ok .few)
+
+begun-size : (d : Disc) (l : List ℕ) → outcome d l begin ≡ 0 → unpack (after d l begin .ledger) .size ≡ 0
+unfolding after effect begun
+begun-size d l e =
+    rw e (ap (λ v. v .size) (unpack-pack (begun (recorded d)) (proper-begun (recorded d) (omega (arith, few d (begin-done d l e .0))))))
+
+module _ (d : Disc) (l : List ℕ) (good : Proper (unpack l)) where
+  -- a write leaves the last table
+  written-last : (v : ℕ) (block : List ℕ) → outcome d l (write v block) ≡ 0 → unpack (after d l (write v block) .ledger) .last ≡ unpack l .last
+  unfolding after effect wrote
+  written-last v block e =
+      let f : WriteDone d l v block = write-done d l v block e in
+      let s : Volume = unpack l in
+      rw e (ap (λ v. v .last) (unpack-pack (wrote v (target s) s) (proper-wrote s good v (target s) (f .fit .few) (omega (arith, few d (f .sound-disc), f .fit .same-recorded, links-few s)))))
+
+  committed-long : outcome d l commit ≡ 0 → length (after d l commit .ledger) ≡ ledgerLength
+  unfolding after effect
+  committed-long e =
+      let f : CommitDone d l = commit-done d l e in
+      let s : Volume = unpack l in
+      rw e (length-pack (committed (target s) s) (proper-committed s good (target s) (omega (arith, few d (f .sound-disc), f .fit .same-recorded, links-few s))))
+
+-- ---- a start and a write
+
+-- the block that the write took, and the page that it makes
+abbrev pub taken : Day → Bool → ℕ → List ℕ → ℕ
+taken x fresh v block = secondNumber (opened x fresh .disc) (opened x fresh .ledger) (write v block)
+
+abbrev pub firstPage : Day → Bool → ℕ → List ℕ → Snapshot
+firstPage x fresh v block = written (startPage fresh (x .disc)) v (taken x fresh v block) block
+
+module _ (x : Day) (fresh : Bool) (ok : x .answer < 4294967296) where
+  -- the ledger has the size of the page that the day starts from
+  start-size : outcome (x .disc) (x .ledger) (opening fresh) ≡ 0 → unpack (opened x fresh .ledger) .size ≡ length (startPage fresh (x .disc))
+  unfolding day
+  start-size = go fresh
+    where
+      go : (t : Bool) → outcome (x .disc) (x .ledger) (opening t) ≡ 0 → unpack (after (x .disc) (x .ledger) (opening t) .ledger) .size ≡ length (startPage t (x .disc))
+      go true e = begun-size (x .disc) (x .ledger) e
+      go false e =
+          let y : Day = record { answer = 0; disc = x .disc; ledger = x .ledger } in
+          subst (λ (d : Disc). unpack (after d (x .ledger) mount .ledger) .size ≡ length (startPage false (x .disc))) (mount-disc (x .disc) (x .ledger))
+          (claim-at y false (omega arith) [] (mount-small (x .disc) (x .ledger) e) .mounts (x .ledger) (ledger-accepted (x .disc) (x .ledger) mount e) .showing .size)
+
+  -- number v is written first
+  module _ (v : ℕ) (block : List ℕ) (cs : List Call) (a : AllDone x (opening fresh ∷ write v block ∷ cs)) where
+    abbrev start-done : outcome (x .disc) (x .ledger) (opening fresh) ≡ 0
+    start-done = done-first x (opening fresh) (write v block ∷ cs) ok a
+
+    abbrev opened-done : opened x fresh .answer < 4294967296
+    opened-done = called-done x (opening fresh) (write v block ∷ cs) ok a
+
+    pub write-is-done : outcome (opened x fresh .disc) (opened x fresh .ledger) (write v block) ≡ 0
+    write-is-done = done-first (opened x fresh) (write v block) cs opened-done (rest-done x (opening fresh) (write v block ∷ cs) ok a)
+
+    no-gap : v ≤ length (startPage fresh (x .disc))
+    no-gap = omega (arith, write-done (opened x fresh .disc) (opened x fresh .ledger) v block write-is-done .no-gap, start-size start-done)
+
+    first-there : getD (firstPage x fresh v block) v unusedEntry ≡ shows (taken x fresh v block) (some block)
+    first-there = written-there (startPage fresh (x .disc)) v (taken x fresh v block) block no-gap
+
+    below-first : v ≤ length (firstPage x fresh v block)
+    below-first = omega (arith, no-gap, length-written (startPage fresh (x .disc)) v (taken x fresh v block) block, grown-more (eqb v (length (startPage fresh (x .disc)))) (length (startPage fresh (x .disc))))
+
+    answered-taken : day x (opening fresh ∷ write v block ∷ []) .answer ≡ taken x fresh v block
+    unfolding day
+    answered-taken =
+        ap (λ (y : Day). y .answer) (first-done x (opening fresh) (write v block ∷ []) ok ∙ first-done (opened x fresh) (write v block) [] opened-done)
+        ∙ answer-of (opened x fresh .disc) (opened x fresh .ledger) (write v block) write-is-done
+
+  -- ---- a save
+
+  module _ (v : ℕ) (block : List ℕ) (a : AllDone x (opening fresh ∷ write v block ∷ commit ∷ [])) where
+    abbrev recorded-day : Day
+    recorded-day = day x (opening fresh ∷ write v block ∷ [])
+
+    abbrev pub saved-day : Day
+    saved-day = day x (opening fresh ∷ write v block ∷ commit ∷ [])
+
+    record-done : AllDone x (opening fresh ∷ write v block ∷ [])
+    record-done = part-done (opening fresh ∷ write v block ∷ []) (commit ∷ []) x a
+
+    commit-called : saved-day ≡ called (recorded-day .disc) (recorded-day .ledger) commit
+    commit-called = last-called x (opening fresh ∷ write v block ∷ []) commit record-done
+
+    commit-is-done : outcome (recorded-day .disc) (recorded-day .ledger) commit ≡ 0
+    commit-is-done = done-first recorded-day commit [] record-done (subst (λ (y : Day). y .answer < 4294967296) (joined (opening fresh ∷ write v block ∷ []) (commit ∷ []) x) a)
+
+    recorded-good : Proper (unpack (recorded-day .ledger))
+    recorded-good = kept-at x fresh ok (write v block ∷ []) record-done .good .ledger-good
+
+    pub saved-long : length (saved-day .ledger) ≡ ledgerLength
+    saved-long = ap (λ (y : Day). length (y .ledger)) commit-called ∙ committed-long (recorded-day .disc) (recorded-day .ledger) recorded-good commit-is-done
+
+    again : Remounted (recorded-day .disc) (recorded-day .ledger) (saved-day .ledger)
+    again = remounts (recorded-day .disc) (recorded-day .ledger) recorded-good commit-is-done (saved-day .ledger) saved-long
+
+    saved-disc : saved-day .disc ≡ after (recorded-day .disc) (recorded-day .ledger) commit .disc
+    saved-disc = ap (λ (y : Day). y .disc) commit-called
+
+    mounts : DoneShowing (saved-day .disc) (saved-day .ledger) mount (firstPage x fresh v block)
+    mounts = claim-at x fresh ok (write v block ∷ commit ∷ []) a .mounts (saved-day .ledger) saved-long
+
+    pub saved-shows : ShowsSave x (opening fresh) v block (after (saved-day .disc) (saved-day .ledger) mount .answer) (after (saved-day .disc) (saved-day .ledger) mount .ledger)
+    unfolding day
+    saved-shows =
+        let p : Snapshot = startPage fresh (x .disc) in
+        let b : ℕ = taken x fresh v block in
+        let n : ℕ = unpack (opened x fresh .ledger) .size in
+        let sized : n ≡ length p = start-size (start-done v block (commit ∷ []) a) in
+        record {
+          clean = ap (λ (d : Disc). after d (saved-day .ledger) mount .answer) saved-disc ∙ again .clean;
+          table = ap (λ (d : Disc). unpack (after d (saved-day .ledger) mount .ledger) .last) saved-disc ∙ again .that-block ∙ ap (λ (y : Day). y .answer) (sym commit-called);
+          entry = mounts .showing .entry v ∙ ap blockNumber (first-there v block (commit ∷ []) a) ∙ sym (answered-taken v block (commit ∷ []) a);
+          size =
+              mounts .showing .size ∙ length-written p v b block
+              ∙ ap (λ (k : ℕ). grown (eqb v k) k) (sym sized ∙ ap (λ (y : Day). unpack (y .ledger) .size) (sym (first-done x (opening fresh) [] ok)));
+        }
+
+    -- what a program sees that mounts it
+    pub mounted-shows : {r : ℕ} {i k m : List ℕ} → ended r i k m ≡ day x (opening fresh ∷ write v block ∷ commit ∷ mount ∷ []) → ShowsSave x (opening fresh) v block r m
+    mounted-shows e =
+        subst (λ (y : Day). ShowsSave x (opening fresh) v block (y .answer) (y .ledger)) (sym (e ∙ last-called x (opening fresh ∷ write v block ∷ commit ∷ []) mount a)) saved-shows
+
+    pub saved-reads : (out : List ℕ) → length out ≡ sectorLength → Reads saved-day mount v out 0 block
+    saved-reads out long = mount-reads saved-day a v out long mounts (first-there v block (commit ∷ []) a)
+
+    -- one step back: the table that was last when the day was opened
+    pub saved-back : {r : ℕ} {i k m : List ℕ} → ended r i k m ≡ day x (opening fresh ∷ write v block ∷ commit ∷ lookBack 1 ∷ [])
+        → (unpack (day x (opening fresh ∷ []) .ledger) .last ≡ unused → r ≡ 9 * 4294967296)
+        × ((unpack (day x (opening fresh ∷ []) .ledger) .last ≡ unused → ⊥) → r ≡ unpack (day x (opening fresh ∷ []) .ledger) .last)
+    unfolding day
+    saved-back e =
+        let o : Day = day x (opening fresh ∷ []) in
+        let o-done : AllDone x (opening fresh ∷ []) = part-done (opening fresh ∷ []) (write v block ∷ commit ∷ []) x a in
+        let same : unpack (recorded-day .ledger) .last ≡ unpack (o .ledger) .last =
+        ap (λ (y : Day). unpack (y .ledger) .last) (last-called x (opening fresh ∷ []) (write v block) o-done)
+        ∙ written-last (o .disc) (o .ledger) (kept-at x fresh ok [] o-done .good .ledger-good) v block
+        (done-first o (write v block) [] o-done (subst (λ (y : Day). y .answer < 4294967296) (joined (opening fresh ∷ []) (write v block ∷ []) x) record-done)) in
+        let here : after (saved-day .disc) (saved-day .ledger) (lookBack 1) .answer ≡ after (after (recorded-day .disc) (recorded-day .ledger) commit .disc) (saved-day .ledger) (lookBack 1) .answer =
+        ap (λ (d : Disc). after d (saved-day .ledger) (lookBack 1) .answer) saved-disc in
+        let told : _ ≡ after (saved-day .disc) (saved-day .ledger) (lookBack 1) .answer = ap (λ (y : Day). y .answer) (e ∙ last-called x (opening fresh ∷ write v block ∷ commit ∷ []) (lookBack 1) a) in (
+          λ z. told ∙ here ∙ again .none-back (same ∙ z),
+          λ used. told ∙ here ∙ again .one-back (λ z. used (sym same ∙ z)) ∙ same,
+        )
+
+-- ---- any calls behind a save
+
+-- a commit that is done has a draft to save
+drafted : (x : Day) (h : History) → Kept (world x) h → outcome (x .disc) (x .ledger) commit ≡ 0 → (p : Snapshot) × (h .draft ≡ some p)
+drafted x h k e =
+    let v : Volume = unpack (x .ledger) in
+    let held = subst (λ (t : Bool). HeldIf F t (x .disc) (mapOf v) (v .last) (h .draft)) (commit-done (x .disc) (x .ledger) e .not-looking) (k .inv .draft) in
+    (_, held .shown)
+
+-- every page moves one back with each commit
+record MovedBack (before after : List Snapshot) (n : ℕ) : Type 0 where
+  page : (i : ℕ) → getD after (i + n) [] ≡ getD before i []
+  count : length after ≡ length before + n
+
+moved-on : {ps qs rs : List Snapshot} {p : Snapshot} {n : ℕ} → qs ≡ p ∷ ps → MovedBack qs rs n → MovedBack ps rs (n + 1)
+moved-on {ps} {qs} {rs} {p} {n} e m =
+    record {
+      page = λ i.
+          let on : i + (n + 1) ≡ suc i + n = omega arith in
+          ap (λ (k : ℕ). getD rs k []) on ∙ m .page (suc i) ∙ ap (λ (q : List Snapshot). getD q (suc i) []) e;
+      count =
+          let more : length qs ≡ suc (length ps) = ap length e in
+          m .count ∙ (let k : length qs + n ≡ length ps + (n + 1) = omega (arith, more) in k);
+    }
+
+moved-back : (cs : List Call) (x : Day) (h : History) → x .answer < 4294967296 → AllDone x cs → Kept (world x) h → MovedBack (h .pages) (history x h cs .pages) (commits cs)
+moved-back [] x h ok a k =
+    record {
+      page = λ i. ap (λ (n : ℕ). getD (h .pages) n []) (let e : i + 0 ≡ i = omega arith in e);
+      count = let e : length (h .pages) ≡ length (h .pages) + 0 = omega arith in e;
+    }
+moved-back (c ∷ cs) x h ok a k =
+    let z : outcome (x .disc) (x .ledger) c ≡ 0 = done-first x c cs ok a in
+    go c z
+    (moved-back cs (called (x .disc) (x .ledger) c) (done (told c) (secondNumber (x .disc) (x .ledger) c) h) (called-done x c cs ok a) (rest-done x c cs ok a)
+    (kept-next x c z h k))
+  where
+    go : (c : Call) → outcome (x .disc) (x .ledger) c ≡ 0 → {qs : List Snapshot} → MovedBack (done (told c) (secondNumber (x .disc) (x .ledger) c) h .pages) qs (commits cs) → MovedBack (h .pages) qs (commits (c ∷ cs))
+    go begin e r = r
+    go mount e r = r
+    go (write v block) e r = r
+    go (release v) e r = r
+    go closePacket e r = r
+    go commit e r = let d = drafted x h k e in moved-on (ap (λ (o : Option Snapshot). saved o (h .pages)) (d .1)) r
+    go (read v block) e r = r
+    go (lookBack n) e r = r
+
+-- a later day on the disc that the calls left, lent any 1,848 bytes as ledger and a block
+pub record Later (x : Day) (cs : List Call) (y : Day) (out : List ℕ) : Type 0 where
+  pub ok : y .answer < 4294967296
+  pub there : day x cs .disc ≡ y .disc
+  pub ledger-long : length (y .ledger) ≡ ledgerLength
+  pub block-long : length out ≡ sectorLength
+
+module _ (x : Day) (fresh : Bool) (ok : x .answer < 4294967296) (v : ℕ) where
+  claim-later : (cs : List Call) → AllDone x (opening fresh ∷ cs) → {y : Day} {out : List ℕ} → Later x (opening fresh ∷ cs) y out → Claim (y .disc) (remembered x fresh cs)
+  claim-later cs a g = subst (λ (d : Disc). Claim d (remembered x fresh cs)) (g .there) (claim-at x fresh ok cs a)
+
+  pub long-ago-reads : (block : List ℕ) (since : List Call) → AllDone x (opening fresh ∷ write v block ∷ commit ∷ since)
+      → (y : Day) (out : List ℕ) → Later x (opening fresh ∷ write v block ∷ commit ∷ since) y out
+      → Reads y (lookBack (commits since)) v out 0 block
+  unfolding day
+  long-ago-reads block since a y out g =
+      let o : Day = opened x fresh in
+      let w : Day = called (o .disc) (o .ledger) (write v block) in
+      let z : Day = called (w .disc) (w .ledger) commit in
+      let h : History = remembered x fresh (write v block ∷ commit ∷ []) in
+      let o-done : o .answer < 4294967296 = called-done x (opening fresh) (write v block ∷ commit ∷ since) ok a in
+      let o-rest : AllDone o (write v block ∷ commit ∷ since) = rest-done x (opening fresh) (write v block ∷ commit ∷ since) ok a in
+      let w-done : w .answer < 4294967296 = called-done o (write v block) (commit ∷ since) o-done o-rest in
+      let w-rest : AllDone w (commit ∷ since) = rest-done o (write v block) (commit ∷ since) o-done o-rest in
+      let first : AllDone x (opening fresh ∷ write v block ∷ commit ∷ []) = part-done (opening fresh ∷ write v block ∷ commit ∷ []) since x a in
+      let same : saved-day x fresh ok v block first ≡ z = first-done x (opening fresh) (write v block ∷ commit ∷ []) ok ∙ first-done o (write v block) (commit ∷ []) o-done ∙ first-done w commit [] w-done in
+      let k : Kept (world z) h = subst (λ (d : Day). Kept (world d) h) same (kept-at x fresh ok (write v block ∷ commit ∷ []) first) in
+      let m : MovedBack (h .pages) (remembered x fresh (write v block ∷ commit ∷ since) .pages) (commits since) =
+      moved-back since z h (called-done w commit since w-done w-rest) (rest-done w commit since w-done w-rest) k in
+      let page : getD (remembered x fresh (write v block ∷ commit ∷ since) .pages) (commits since) [] ≡ firstPage x fresh v block =
+      ap (λ (n : ℕ). getD (remembered x fresh (write v block ∷ commit ∷ since) .pages) n []) (let e : commits since ≡ 0 + commits since = omega arith in e) ∙ m .page 0 in
+      let some-page : length (h .pages) ≡ suc (length (startPages fresh (x .disc))) = refl in
+      look-reads y (g .ok) v out (g .block-long) (commits since)
+      (claim-later (write v block ∷ commit ∷ since) a g .looks (y .ledger) (g .ledger-long) (commits since) (omega (arith, m .count, some-page)))
+      (ap (λ (p : Snapshot). getD p v unusedEntry) page ∙ first-there x fresh ok v block (commit ∷ since) a)
+
+  -- two saves: the newer reads what was written last
+  pub newer-reads : (old new : List ℕ) → (a : AllDone x (opening fresh ∷ write v old ∷ commit ∷ write v new ∷ closePacket ∷ commit ∷ []))
+      → (y : Day) (out : List ℕ) → Later x (opening fresh ∷ write v old ∷ commit ∷ write v new ∷ closePacket ∷ commit ∷ []) y out → Reads y mount v out 0 new
+  newer-reads old new a y out g =
+      mount-reads y (g .ok) v out (g .block-long) (claim-later (write v old ∷ commit ∷ write v new ∷ closePacket ∷ commit ∷ []) a g .mounts (y .ledger) (g .ledger-long))
+      (written-there (firstPage x fresh v old) v _ new (below-first x fresh ok v old (commit ∷ write v new ∷ closePacket ∷ commit ∷ []) a))
+
+-- ---- a number released, and a disc without a save
+
+pub released-reads : (x : Day) → x .answer < 4294967296 → (v : ℕ) → AllDone x (mount ∷ release v ∷ commit ∷ [])
+    → (y : Day) (out : List ℕ) → Later x (mount ∷ release v ∷ commit ∷ []) y out → Reads y mount v out (10 * 4294967296) out
+released-reads x ok v a y out g =
+    mount-unused y (g .ok) v out (g .block-long) (claim-later x false ok v (release v ∷ commit ∷ []) a g .mounts (y .ledger) (g .ledger-long)) (released-there (startPage false (x .disc)) v)
+
+refused-answer : (d : Disc) (l : List ℕ) (c : Call) (n : ℕ) → outcome d l c ≡ suc n → after d l c .answer ≡ suc n * 4294967296
+unfolding after
+refused-answer d l c n e = rw e
+
+begun-long : (d : Disc) (l : List ℕ) → outcome d l begin ≡ 0 → length (after d l begin .ledger) ≡ ledgerLength
+unfolding after effect
+begun-long d l e = rw e (length-pack (begun (recorded d)) (proper-begun (recorded d) (omega (arith, few d (begin-done d l e .0)))))
+
+pub nothing-mounts : (x : Day) → x .answer < 4294967296 → AllDone x (begin ∷ []) → day x (begin ∷ mount ∷ []) .answer ≡ 7 * 4294967296
+unfolding day
+nothing-mounts x ok a =
+    let y : Day = day x (begin ∷ []) in
+    let e : outcome (x .disc) (x .ledger) begin ≡ 0 = done-first x begin [] ok a in
+    let long : length (y .ledger) ≡ ledgerLength = ap (λ (z : Day). length (z .ledger)) (first-done x begin [] ok) ∙ begun-long (x .disc) (x .ledger) e in
+    ap (λ (z : Day). z .answer) (last-called x (begin ∷ []) mount a) ∙ refused-answer (y .disc) (y .ledger) mount 6 (claim-at x true ok [] a .mounts (y .ledger) long)
+
+-- ---- a call that is cut
+
+struck-torn : (t : Bool) (tear : Option (List ℕ)) (b : ℕ) (d : Disc) → struck t tear b d ≡ tornAt t tear b d
+struck-torn true (some bytes) b d = refl
+struck-torn true none b d = refl
+struck-torn false (some bytes) b d = refl
+struck-torn false none b d = refl
+
+torn-sector : (tear : Option (List ℕ)) → OneSector tear → Torn tear
+torn-sector none t = t
+torn-sector (some bytes) t = t
+
+ends-in : (ss : List Sector) (s : Sector) → 0 < length (ss ++ (s ∷ []))
+ends-in ss s = omega (arith, length-append ss (s ∷ []))
+
+-- a commit records sectors exactly if it is done
+kept-table : (d : Disc) (l : List ℕ) (j : ℕ) → kept d l commit j ≡ tableKept commit j (length (sectorsOf d l commit))
+unfolding sectorsOf effect
+kept-table d l j = go (outcome d l commit)
+  where
+    ss : List Sector
+    ss = effect d l commit .sectors
+
+    go : (n : ℕ) → (eqb n 0 && eqb j (length (sectorsIf n ss))) ≡ (ltb 0 (length (sectorsIf n ss)) && eqb j (length (sectorsIf n ss)))
+    go zero = ap (λ (t : Bool). t && eqb j (length ss)) (sym (lt-ltb 0 (length ss) (ends-in (replicate (links (unpack l)) link) _)))
+    go (suc n) = ap (λ (t : Bool). t && eqb j 0) (ne-eqb (suc n) 0 (λ e. omega (arith, e)))
+
+cut-history : (d : Disc) (l : List ℕ) (h : History) (c : Call) (j : ℕ)
+    → feed h (cutShort d l c j) ≡ record { pages = savedIf (tableKept c j (length (sectorsOf d l c))) (h .draft) (h .pages); draft = none }
+unfolding feed
+cut-history d l h begin j = refl
+cut-history d l h mount j = refl
+cut-history d l h (write v block) j = refl
+cut-history d l h (release v) j = refl
+cut-history d l h closePacket j = refl
+cut-history d l h commit j = ap {B = History} (λ t. record { pages = savedIf t (h .draft) (h .pages); draft = none }) (kept-table d l j)
+cut-history d l h (read v block) j = refl
+cut-history d l h (lookBack k) j = refl
+
+module _ (x : Day) (fresh : Bool) (ok : x .answer < 4294967296) (v : ℕ) (old new : List ℕ) (c : Call) (j : ℕ) (tear : Option (List ℕ)) where
+  abbrev before-cut : List Call
+  before-cut = write v old ∷ commit ∷ write v new ∷ []
+
+  abbrev cut-day : Day
+  cut-day = day x (opening fresh ∷ before-cut)
+
+  abbrev keeps : Bool
+  keeps = tableKept c j (length (sectorsBehind x (opening fresh ∷ before-cut) c))
+
+  cut-claim : {d : Disc} → CutBehind x (opening fresh ∷ before-cut) c j tear d
+      → Claim d (record { pages = savedIf keeps (remembered x fresh before-cut .draft) (remembered x fresh before-cut .pages); draft = none })
+  unfolding AllAllowed runs remembers next fed cutDisc
+  cut-claim g =
+      let ss : List Sector = sectorsBehind x (opening fresh ∷ before-cut) c in
+      subst₂ Claim
+      (sym (g .is-left ∙ struck-torn (ltb j (length ss)) tear (recorded (cut-day .disc) + j) (puts (cut-day .disc) (recorded (cut-day .disc)) (take j ss))))
+      (cut-history (cut-day .disc) (cut-day .ledger) (remembered x fresh before-cut) c j)
+      (claim-behind x fresh ok before-cut (g .all-done) (cuts c [] j tear ∷ []) ((λ z. absurd (not-lost (cut-day .ledger) z), g .within, torn-sector tear (g .one-sector)), tt))
+
+  pub cut-reads : (y : Day) (out : List ℕ) → y .answer < 4294967296 → CutBehind x (opening fresh ∷ before-cut) c j tear (y .disc) → length (y .ledger) ≡ ledgerLength → length out ≡ sectorLength
+      → Reads y mount v out 0 (readsOf keeps old new)
+  cut-reads y out y-ok g long whole = go keeps (cut-claim g)
+    where
+      go : (t : Bool) → Claim (y .disc) (record { pages = savedIf t (remembered x fresh before-cut .draft) (remembered x fresh before-cut .pages); draft = none }) → Reads y mount v out 0 (readsOf t old new)
+      go true claim = mount-reads y y-ok v out whole (claim .mounts (y .ledger) long) (written-there (firstPage x fresh v old) v _ new (below-first x fresh ok v old (commit ∷ write v new ∷ []) (g .all-done)))
+      go false claim = mount-reads y y-ok v out whole (claim .mounts (y .ledger) long) (first-there x fresh ok v old (commit ∷ write v new ∷ []) (g .all-done))

@@ -1,0 +1,111 @@
+-- A host program's day: calls one after another, each on what the one before left, until one is refused.
+use Prim.Native.Nat.{ℕ, _+_, _<_, _≤_}
+use mathlib.Core.Bool.{Bool, true, false, _&&_}
+use mathlib.Core.List.{List, [], _∷_}
+use mathlib.Core.Option.{Option, none, some}
+use mathlib.Core.Path.{_≡_}
+use lib.Dec.{eqb, ltb}
+use lib.ListN.{length, getD, take}
+use Rattle.vat.specs.Table.{sectorLength, unused}
+use Rattle.disc.specs.Disc.{Disc, lent, Sector, torn, recorded, put, puts}
+use Rattle.volume.specs.Volume.{unpack, grown}
+use Rattle.recorder.specs.Calls.{Call, begin, mount, write, release, closePacket, commit, read, lookBack}
+use Rattle.recorder.specs.Effects.{after, sectorsOf}
+
+-- What the last call answered, outcome × 4,294,967,296 + second number; and the disc and the ledger as it left them.
+pub record Day : Type 0 where
+  pub answer : ℕ
+  pub disc : Disc
+  pub ledger : List ℕ
+
+abbrev pub ended : ℕ → List ℕ → List ℕ → List ℕ → Day
+ended answer image kinds ledger = record { answer = answer; disc = lent image kinds; ledger = ledger }
+
+-- Before the first call.
+abbrev pub morning : List ℕ → List ℕ → List ℕ → Day
+morning image kinds ledger = ended 0 image kinds ledger
+
+abbrev pub called : Disc → List ℕ → Call → Day
+called d l c = record { answer = after d l c .answer; disc = after d l c .disc; ledger = after d l c .ledger }
+
+-- The next call is made if all so far were done: an answer below 4,294,967,296 has the outcome 0.
+abbrev pub goingOn : Bool → Day → Day → Day
+goingOn true x next = next
+goingOn false x next = x
+
+unfoldable pub day : Day → List Call → Day
+day x [] = x
+day x (c ∷ cs) = day (goingOn (ltb (x .answer) 4294967296) x (called (x .disc) (x .ledger) c)) cs
+
+abbrev pub AllDone : Day → List Call → Type 0
+AllDone x cs = day x cs .answer < 4294967296
+
+-- A day starts with a begin on a fresh disc, or else with a mount.
+abbrev pub opening : Bool → Call
+opening true = begin
+opening false = mount
+
+-- What number v then reads.
+abbrev pub readAt : Day → ℕ → List ℕ → List ℕ
+readAt x v out = after (x .disc) (x .ledger) (read v out) .block
+
+-- A save of number v as a mount then answers and shows it: clean, at the block that commit told, the number at the block that write told, and as many
+-- numbers as before, or one more.
+pub record ShowsSave (x : Day) (start : Call) (v : ℕ) (block : List ℕ) (answer : ℕ) (ledger : List ℕ) : Type 0 where
+  pub clean : answer ≡ 1
+  pub table : unpack ledger .last ≡ day x (start ∷ write v block ∷ commit ∷ []) .answer
+  pub entry : getD (unpack ledger .entries) v unused ≡ day x (start ∷ write v block ∷ []) .answer
+  pub size :
+      let before : ℕ = unpack (day x (start ∷ []) .ledger) .size in
+      unpack ledger .size ≡ grown (eqb v before) before
+
+-- How many commits are among the calls.
+abbrev pub commits : List Call → ℕ
+commits [] = 0
+commits (begin ∷ cs) = commits cs
+commits (mount ∷ cs) = commits cs
+commits (write v block ∷ cs) = commits cs
+commits (release v ∷ cs) = commits cs
+commits (closePacket ∷ cs) = commits cs
+commits (commit ∷ cs) = commits cs + 1
+commits (read v block ∷ cs) = commits cs
+commits (lookBack k ∷ cs) = commits cs
+
+-- What a cut leaves at the call's next sector, if there is one: it stays as it was, or is torn to 2048 bytes of any kind.
+abbrev pub struck : Bool → Option (List ℕ) → ℕ → Disc → Disc
+struck true (some bytes) b d = put d b (torn bytes)
+struck true none b d = d
+struck false tear b d = d
+
+abbrev pub OneSector : Option (List ℕ) → Type 0
+OneSector none = Unit
+OneSector (some bytes) = length bytes ≡ sectorLength
+
+-- The sectors that the call c records behind these calls.
+abbrev pub sectorsBehind : Day → List Call → Call → List Sector
+sectorsBehind x cs c = sectorsOf (day x cs .disc) (day x cs .ledger) c
+
+-- All of these calls were done, and the call c behind them was cut after j of its sectors: the disc is left as told.
+pub record CutBehind (x : Day) (cs : List Call) (c : Call) (j : ℕ) (tear : Option (List ℕ)) (left : Disc) : Type 0 where
+  pub all-done : AllDone x cs
+  pub within : j ≤ length (sectorsBehind x cs c)
+  pub one-sector : OneSector tear
+  pub is-left :
+      let d : Disc = day x cs .disc in
+      left ≡ struck (ltb j (length (sectorsBehind x cs c))) tear (recorded d + j) (puts d (recorded d) (take j (sectorsBehind x cs c)))
+
+-- A commit that records n sectors, none if it is refused, has kept its table, the last of them.
+abbrev pub tableKept : Call → ℕ → ℕ → Bool
+tableKept begin j n = false
+tableKept mount j n = false
+tableKept (write v block) j n = false
+tableKept (release v) j n = false
+tableKept closePacket j n = false
+tableKept commit j n = ltb 0 n && eqb j n
+tableKept (read v block) j n = false
+tableKept (lookBack k) j n = false
+
+-- What number v reads after the cut: the block of the new save if its table was kept, and else the old one.
+abbrev pub readsOf : Bool → List ℕ → List ℕ → List ℕ
+readsOf true old new = new
+readsOf false old new = old

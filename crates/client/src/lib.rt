@@ -1,0 +1,258 @@
+// A host program's days, on lent buffers of any length and content, proved from what the eight calls promise and from the claim about power cuts.
+// A day is some calls in a row, the first refusal ends it, and the answer is that of the last call made. The first promise of a function says just that,
+// with every byte of the disc and of the ledger; the other is what its host wants of it: what was saved is read back.
+ghost use mathlib.Core.Path.{_≡_};
+ghost use mathlib.Core.Bool.{Bool, true};
+ghost use mathlib.Core.List.{List, [], _∷_};
+ghost use mathlib.Core.Option.{Option};
+ghost use Prim.Native.Nat.{ℕ, _*_, _<_};
+ghost use lib.ListN.{length};
+ghost use Rattle.vat.specs.Table.{sectorLength, unused};
+ghost use Rattle.disc.specs.Disc.{lent};
+ghost use Rattle.volume.specs.Volume.{ledgerLength, unpack};
+ghost use Rattle.recorder.specs.Calls.{Call, begin, mount, write, release, closePacket, commit, read, lookBack};
+ghost use Rattle.recorder.specs.Effects.{after};
+ghost use Rattle.client.specs.Day.{Day, ended, morning, day, AllDone, opening, readAt, ShowsSave, commits, sectorsBehind, CutBehind, tableKept, readsOf};
+
+// An answer from here on is a refusal.
+const REFUSED: u64 = 4294967296;
+
+// The start of a day: a begin on a fresh disc, or else a mount.
+fn open_disc(image: &[u8], kinds: &[u8], ledger: &mut [u8], fresh: bool) -> u64
+    ensures { λ r. ⌜ ended r (now (image .entry)) (now (kinds .entry)) (now (ledger .exit)) ≡ day (morning (now (image .entry)) (now (kinds .entry)) (now (ledger .entry))) (opening fresh ∷ []) ⌝ }
+{
+    if fresh {
+        return station::station_begin(image, kinds, ledger);
+    }
+    station::station_mount(image, kinds, ledger)
+}
+
+// Number v is written.
+fn write_first(
+    image: &mut [u8],
+    kinds: &mut [u8],
+    ledger: &mut [u8],
+    fresh: bool,
+    v: u32,
+    block: &[u8],
+) -> u64
+    ensures { λ r. ⌜ ended r (now (image .exit)) (now (kinds .exit)) (now (ledger .exit)) ≡ day (morning (now (image .entry)) (now (kinds .entry)) (now (ledger .entry))) (opening fresh ∷ write v (now (block .entry)) ∷ []) ⌝ }
+{
+    let opened = open_disc(image, kinds, ledger, fresh);
+    if REFUSED <= opened {
+        return opened;
+    }
+    station::station_write(image, kinds, ledger, v, block)
+}
+
+// Number v is written and saved.
+fn save(
+    image: &mut [u8],
+    kinds: &mut [u8],
+    ledger: &mut [u8],
+    fresh: bool,
+    v: u32,
+    block: &[u8],
+) -> u64
+    ensures { λ r. ⌜ ended r (now (image .exit)) (now (kinds .exit)) (now (ledger .exit)) ≡ day (morning (now (image .entry)) (now (kinds .entry)) (now (ledger .entry))) (opening fresh ∷ write v (now (block .entry)) ∷ commit ∷ []) ⌝ }
+{
+    let written = write_first(image, kinds, ledger, fresh, v, block);
+    if REFUSED <= written {
+        return written;
+    }
+    station::station_commit(image, kinds, ledger)
+}
+
+// A save shows itself: mounted, it is the newest, where its calls told.
+pub fn save_and_mount(
+    image: &mut [u8],
+    kinds: &mut [u8],
+    ledger: &mut [u8],
+    fresh: bool,
+    v: u32,
+    block: &[u8],
+) -> u64
+    ensures { λ r. ⌜ ended r (now (image .exit)) (now (kinds .exit)) (now (ledger .exit)) ≡ day (morning (now (image .entry)) (now (kinds .entry)) (now (ledger .entry))) (opening fresh ∷ write v (now (block .entry)) ∷ commit ∷ mount ∷ []) ⌝ }
+    ensures { λ r. ⌜ (AllDone (morning (now (image .entry)) (now (kinds .entry)) (now (ledger .entry))) (opening fresh ∷ write v (now (block .entry)) ∷ commit ∷ []) → ShowsSave (morning (now (image .entry)) (now (kinds .entry)) (now (ledger .entry))) (opening fresh) v (now (block .entry)) r (now (ledger .exit))) ⌝ }
+{
+    let saved = save(image, kinds, ledger, fresh, v, block);
+    if REFUSED <= saved {
+        return saved;
+    }
+    station::station_mount(image, kinds, ledger)
+}
+
+// What was written is read back.
+pub fn save_and_read(
+    image: &mut [u8],
+    kinds: &mut [u8],
+    ledger: &mut [u8],
+    fresh: bool,
+    v: u32,
+    block: &[u8],
+    out: &mut [u8],
+) -> u64
+    ensures { λ r. ⌜ ended r (now (image .exit)) (now (kinds .exit)) (now (ledger .exit)) ≡ day (morning (now (image .entry)) (now (kinds .entry)) (now (ledger .entry))) (opening fresh ∷ write v (now (block .entry)) ∷ commit ∷ mount ∷ read v (now (out .entry)) ∷ []) ⌝ }
+    ensures { λ r. ⌜ (AllDone (morning (now (image .entry)) (now (kinds .entry)) (now (ledger .entry))) (opening fresh ∷ write v (now (block .entry)) ∷ commit ∷ []) → length (now (out .entry)) ≡ sectorLength → (r ≡ 0) × (now (out .exit) ≡ now (block .entry))) ⌝ }
+{
+    let shown = save_and_mount(image, kinds, ledger, fresh, v, block);
+    if REFUSED <= shown {
+        return shown;
+    }
+    station::station_read(image, kinds, ledger, v, out)
+}
+
+// One save back stands the table that was mounted; before a first save there is none.
+pub fn save_and_look_back(
+    image: &mut [u8],
+    kinds: &mut [u8],
+    ledger: &mut [u8],
+    fresh: bool,
+    v: u32,
+    block: &[u8],
+) -> u64
+    ensures { λ r. ⌜ ended r (now (image .exit)) (now (kinds .exit)) (now (ledger .exit)) ≡ day (morning (now (image .entry)) (now (kinds .entry)) (now (ledger .entry))) (opening fresh ∷ write v (now (block .entry)) ∷ commit ∷ lookBack 1 ∷ []) ⌝ }
+    ensures { λ r. ⌜ (AllDone (morning (now (image .entry)) (now (kinds .entry)) (now (ledger .entry))) (opening fresh ∷ write v (now (block .entry)) ∷ commit ∷ []) → (unpack (day (morning (now (image .entry)) (now (kinds .entry)) (now (ledger .entry))) (opening fresh ∷ []) .ledger) .last ≡ unused → r ≡ 9 * 4294967296) × ((unpack (day (morning (now (image .entry)) (now (kinds .entry)) (now (ledger .entry))) (opening fresh ∷ []) .ledger) .last ≡ unused → ⊥) → r ≡ unpack (day (morning (now (image .entry)) (now (kinds .entry)) (now (ledger .entry))) (opening fresh ∷ []) .ledger) .last)) ⌝ }
+{
+    let saved = save(image, kinds, ledger, fresh, v, block);
+    if REFUSED <= saved {
+        return saved;
+    }
+    station::station_look_back(image, kinds, ledger, 1)
+}
+
+// A disc that was begun and never saved has nothing to mount.
+pub fn begin_and_mount(image: &[u8], kinds: &[u8], ledger: &mut [u8]) -> u64
+    ensures { λ r. ⌜ ended r (now (image .entry)) (now (kinds .entry)) (now (ledger .exit)) ≡ day (morning (now (image .entry)) (now (kinds .entry)) (now (ledger .entry))) (begin ∷ mount ∷ []) ⌝ }
+    ensures { λ r. ⌜ (AllDone (morning (now (image .entry)) (now (kinds .entry)) (now (ledger .entry))) (begin ∷ []) → r ≡ 7 * 4294967296) ⌝ }
+{
+    let opened = open_disc(image, kinds, ledger, true);
+    if REFUSED <= opened {
+        return opened;
+    }
+    station::station_mount(image, kinds, ledger)
+}
+
+// Number v of the newest save.
+fn show(image: &[u8], kinds: &[u8], ledger: &mut [u8], v: u32, out: &mut [u8]) -> u64
+    ensures { λ r. ⌜ ended r (now (image .entry)) (now (kinds .entry)) (now (ledger .exit)) ≡ day (morning (now (image .entry)) (now (kinds .entry)) (now (ledger .entry))) (mount ∷ read v (now (out .entry)) ∷ []) ⌝ }
+    ensures { λ r. ⌜ (AllDone (morning (now (image .entry)) (now (kinds .entry)) (now (ledger .entry))) (mount ∷ []) → now (out .exit) ≡ readAt (day (morning (now (image .entry)) (now (kinds .entry)) (now (ledger .entry))) (mount ∷ [])) v (now (out .entry))) ⌝ }
+{
+    let shown = station::station_mount(image, kinds, ledger);
+    if REFUSED <= shown {
+        return shown;
+    }
+    station::station_read(image, kinds, ledger, v, out)
+}
+
+// Number v of the save k before the newest.
+fn show_back(image: &[u8], kinds: &[u8], ledger: &mut [u8], k: u32, v: u32, out: &mut [u8]) -> u64
+    ensures { λ r. ⌜ ended r (now (image .entry)) (now (kinds .entry)) (now (ledger .exit)) ≡ day (morning (now (image .entry)) (now (kinds .entry)) (now (ledger .entry))) (lookBack k ∷ read v (now (out .entry)) ∷ []) ⌝ }
+    ensures { λ r. ⌜ (AllDone (morning (now (image .entry)) (now (kinds .entry)) (now (ledger .entry))) (lookBack k ∷ []) → now (out .exit) ≡ readAt (day (morning (now (image .entry)) (now (kinds .entry)) (now (ledger .entry))) (lookBack k ∷ [])) v (now (out .entry))) ⌝ }
+{
+    let shown = station::station_look_back(image, kinds, ledger, k);
+    if REFUSED <= shown {
+        return shown;
+    }
+    station::station_read(image, kinds, ledger, v, out)
+}
+
+// The packet is closed behind the block, so that links stand before the table.
+fn save_apart(image: &mut [u8], kinds: &mut [u8], ledger: &mut [u8], v: u32, block: &[u8]) -> u64
+    ensures { λ r. ⌜ ended r (now (image .exit)) (now (kinds .exit)) (now (ledger .exit)) ≡ day (morning (now (image .entry)) (now (kinds .entry)) (now (ledger .entry))) (write v (now (block .entry)) ∷ closePacket ∷ commit ∷ []) ⌝ }
+{
+    let written = station::station_write(image, kinds, ledger, v, block);
+    if REFUSED <= written {
+        return written;
+    }
+    let closed = station::station_close_packet(image, kinds, ledger);
+    if REFUSED <= closed {
+        return closed;
+    }
+    station::station_commit(image, kinds, ledger)
+}
+
+// Two saves of v: both are there, the older one save back.
+pub fn save_twice(
+    image: &mut [u8],
+    kinds: &mut [u8],
+    ledger: &mut [u8],
+    fresh: bool,
+    v: u32,
+    x: &[u8],
+    y: &[u8],
+    old: &mut [u8],
+    new: &mut [u8],
+) -> u64
+    ensures { λ r. ⌜ ended r (now (image .exit)) (now (kinds .exit)) (now (ledger .exit)) ≡ day (morning (now (image .entry)) (now (kinds .entry)) (now (ledger .entry))) (opening fresh ∷ write v (now (x .entry)) ∷ commit ∷ write v (now (y .entry)) ∷ closePacket ∷ commit ∷ lookBack 1 ∷ read v (now (old .entry)) ∷ mount ∷ read v (now (new .entry)) ∷ []) ⌝ }
+    ensures { λ r. ⌜ (AllDone (morning (now (image .entry)) (now (kinds .entry)) (now (ledger .entry))) (opening fresh ∷ write v (now (x .entry)) ∷ commit ∷ write v (now (y .entry)) ∷ closePacket ∷ commit ∷ []) → length (now (old .entry)) ≡ sectorLength → length (now (new .entry)) ≡ sectorLength → (r ≡ 0) × (now (old .exit) ≡ now (x .entry)) × (now (new .exit) ≡ now (y .entry))) ⌝ }
+{
+    let first = save(image, kinds, ledger, fresh, v, x);
+    if REFUSED <= first {
+        return first;
+    }
+    let second = save_apart(image, kinds, ledger, v, y);
+    if REFUSED <= second {
+        return second;
+    }
+    let shown = show_back(image, kinds, ledger, 1, v, old);
+    if REFUSED <= shown {
+        return shown;
+    }
+    show(image, kinds, ledger, v, new)
+}
+
+// Number v is released and the rest is saved.
+fn forget(image: &mut [u8], kinds: &mut [u8], ledger: &mut [u8], v: u32) -> u64
+    ensures { λ r. ⌜ ended r (now (image .exit)) (now (kinds .exit)) (now (ledger .exit)) ≡ day (morning (now (image .entry)) (now (kinds .entry)) (now (ledger .entry))) (mount ∷ release v ∷ commit ∷ []) ⌝ }
+{
+    let opened = open_disc(image, kinds, ledger, false);
+    if REFUSED <= opened {
+        return opened;
+    }
+    let released = station::station_release(image, kinds, ledger, v);
+    if REFUSED <= released {
+        return released;
+    }
+    station::station_commit(image, kinds, ledger)
+}
+
+// A released number is not in use, and the lent block stays.
+pub fn forget_and_read(
+    image: &mut [u8],
+    kinds: &mut [u8],
+    ledger: &mut [u8],
+    v: u32,
+    out: &mut [u8],
+) -> u64
+    ensures { λ r. ⌜ ended r (now (image .exit)) (now (kinds .exit)) (now (ledger .exit)) ≡ day (morning (now (image .entry)) (now (kinds .entry)) (now (ledger .entry))) (mount ∷ release v ∷ commit ∷ mount ∷ read v (now (out .entry)) ∷ []) ⌝ }
+    ensures { λ r. ⌜ (AllDone (morning (now (image .entry)) (now (kinds .entry)) (now (ledger .entry))) (mount ∷ release v ∷ commit ∷ []) → length (now (out .entry)) ≡ sectorLength → (r ≡ 10 * 4294967296) × (now (out .exit) ≡ now (out .entry))) ⌝ }
+{
+    let saved = forget(image, kinds, ledger, v);
+    if REFUSED <= saved {
+        return saved;
+    }
+    show(image, kinds, ledger, v, out)
+}
+
+// Whatever was done since a save of x, with k saves among it: k saves back, v reads x. Any 1,848 bytes will do as ledger.
+pub fn long_ago(
+    image: &[u8],
+    kinds: &[u8],
+    ledger: &mut [u8],
+    k: u32,
+    v: u32,
+    out: &mut [u8],
+) -> u64
+    ensures { λ r. ⌜ ((start : Day) (fresh : Bool) (x : List ℕ) (since : List Call) → start .answer < 4294967296 → AllDone start (opening fresh ∷ write v x ∷ commit ∷ since) → commits since ≡ k → (lent (now (image .entry)) (now (kinds .entry))) ≡ day start (opening fresh ∷ write v x ∷ commit ∷ since) .disc → length (now (ledger .entry)) ≡ ledgerLength → length (now (out .entry)) ≡ sectorLength → (r ≡ 0) × (now (out .exit) ≡ x)) ⌝ }
+{
+    show_back(image, kinds, ledger, k, v, out)
+}
+
+// The morning after a power cut. After a save of x and a write of y, whatever call was cut, and after however many of its sectors: v reads y if that call
+// was a commit and kept its table, and else x. Any 1,848 bytes will do as ledger.
+pub fn after_cut(image: &[u8], kinds: &[u8], ledger: &mut [u8], v: u32, out: &mut [u8]) -> u64
+    ensures { λ r. ⌜ ((start : Day) (fresh : Bool) (x y : List ℕ) (c : Call) (j : ℕ) (tear : Option (List ℕ)) → start .answer < 4294967296 → CutBehind start (opening fresh ∷ write v x ∷ commit ∷ write v y ∷ []) c j tear (lent (now (image .entry)) (now (kinds .entry))) → length (now (ledger .entry)) ≡ ledgerLength → length (now (out .entry)) ≡ sectorLength → (r ≡ 0) × (now (out .exit) ≡ readsOf (tableKept c j (length (sectorsBehind start (opening fresh ∷ write v x ∷ commit ∷ write v y ∷ []) c))) x y)) ⌝ }
+{
+    show(image, kinds, ledger, v, out)
+}
