@@ -49,8 +49,7 @@ same-length c = search needs
 
 returns : tie.Need-returns
 returns c =
-    let a = c .before .before .before in
-    let s = entered a in
+    let a = c .before .before .before in let s = entered a in
     ap (λ (a : ℕ). left a (D s .image) (D s .kinds) (L s) []) (c .refusal .ensures)
     ∙ refused-left (D s) (L s) begin (a .begin .result .outcome) (a .begin .ensures .0) (c .before .if1 .taken)
 
@@ -59,8 +58,7 @@ begun-requires c κs = search needs
 
 store-requires : tie.Need-store-requires
 store-requires c κs =
-    let e = admitted c in
-    let s = start-of e in
+    let e = admitted c in let s = start-of e in
     ledger-accepted (D s) (L s) begin (done e)
 
 same-length-2 : tie.Need-same-length-2
@@ -68,9 +66,7 @@ same-length-2 c = search needs
 
 returns-2 : tie.Need-returns-2
 returns-2 c =
-    let t = c .before .before in
-    let e = admitted (t .before) in
-    let s = start-of e in
+    let t = c .before .before in let e = admitted (t .before) in let s = start-of e in
     let stored = t .store .ensures ∙ ap pack (t .before .before .begun .ensures ∙ ap begun (after-begin e .begin .ensures .1 (e .if1 .left))) in
     ap (λ (x : List ℕ). left 0 (D s .image) (D s .kinds) x []) stored ∙ begin-left (D s) (L s) (done e)
 

@@ -46,15 +46,13 @@ same-length c = search needs
 
 returns : tie.Need-returns
 returns c =
-    let a = c .before .before in
-    let s = entered a in
+    let a = c .before .before in let s = entered a in
     ap (λ (a : ℕ). left a (D s .image) (D s .kinds) (L s) []) (c .refusal .ensures)
     ∙ refused-left (D s) (L s) closePacket (a .close-packet .result) (a .close-packet .ensures) (c .before .if1 .taken)
 
 load-requires : tie.Need-load-requires
 load-requires c κs =
-    let e = c .before in
-    let s = start-of e in
+    let e = c .before in let s = start-of e in
     ledger-accepted (D s) (L s) closePacket (done e)
 
 closed-requires : tie.Need-closed-requires
@@ -62,8 +60,7 @@ closed-requires c κs = search needs
 
 store-requires : tie.Need-store-requires
 store-requires c κs =
-    let e = admitted c in
-    let s = start-of e in
+    let e = admitted c in let s = start-of e in
     ledger-accepted (D s) (L s) closePacket (done e)
 
 same-length-2 : tie.Need-same-length-2
@@ -71,10 +68,7 @@ same-length-2 c = search needs
 
 returns-2 : tie.Need-returns-2
 returns-2 c =
-    let t = c .before .before in
-    let w = t .before .before in
-    let e = admitted (t .before) in
-    let s = start-of e in
+    let t = c .before .before in let w = t .before .before in let e = admitted (t .before) in let s = start-of e in
     let stored = t .store .ensures ∙ ap pack (w .closed .ensures ∙ ap closed (w .before .load .ensures)) in
     ap (λ (x : List ℕ). left 0 (D s .image) (D s .kinds) x []) stored ∙ close-left (D s) (L s) (done e)
 

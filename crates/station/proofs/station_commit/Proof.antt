@@ -90,8 +90,7 @@ same-length-3 c = search needs
 
 returns : tie.Need-returns
 returns c =
-    let a = c .before .before in
-    let s = entered a in
+    let a = c .before .before in let s = entered a in
     ap (λ (a : ℕ). left a (D s .image) (D s .kinds) (L s) []) (c .refusal .ensures)
     ∙ refused-left (D s) (L s) commit (a .commit .result) (a .commit .ensures) (c .before .if1 .taken)
 
@@ -103,18 +102,14 @@ load-requires c κs = accepted (admitted (after-links c))
 
 record-table-requires : tie.Need-record-table-requires
 record-table-requires c κs =
-    let m = after-load c in
-    let r = after-links (m .before) in
-    let e = admitted r in
-    let s = start-of e in
+    let m = after-load c in let r = after-links (m .before) in let e = admitted r in let s = start-of e in
     let same : length (r .record-links .last .0) ≡ length (D s .kinds) = linked r in
     let taken : r .record-links .result < length (r .record-links .last .0) = omega (arith, same, within e, r .record-links .ensures .0) in
     (told e .sound-disc .whole ∙ ap (λ (n : ℕ). sectorLength * n) (sym same), taken, subst (λ (v : Volume). v .size ≤ limit) (sym (m .load .ensures)) (told e .fit .few))
 
 committed-requires : tie.Need-committed-requires
 committed-requires c κs =
-    let r = after-links (load-of c .before) in
-    let e = admitted r in
+    let r = after-links (load-of c .before) in let e = admitted r in
     omega (arith, r .record-links .ensures .0, within e, told e .sound-disc .few)
 
 store-requires : tie.Need-store-requires
@@ -134,13 +129,8 @@ same-length-6 c = search needs
 
 returns-2 : tie.Need-returns-2
 returns-2 c =
-    let t = c .before .before in
-    let w = t .before .before in
-    let p = after-table (w .before) in
-    let m = after-load (p .before) in
-    let r = after-links (m .before) in
-    let e = admitted r in
-    let s = start-of e in
+    let t = c .before .before in let w = t .before .before in let p = after-table (w .before) in let m = after-load (p .before) in
+    let r = after-links (m .before) in let e = admitted r in let s = start-of e in
     let l : List ℕ = L s in
     let b : ℕ = r .record-links .result in
     let v : Volume = unpack l in

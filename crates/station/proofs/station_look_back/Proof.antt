@@ -56,9 +56,7 @@ found c = after-look-back c .look-back .ensures .1 (c .if1 .left) .1
 shown : (c : tie.After-show) → let a = after-look-back (admitted c) in let s = entered a in c .show .last .1 .0 ≡ pack (filled (mapAt (D s) (a .look-back .result .block)) (a .look-back .result .block) (recorded (D s)) 2)
 unfolding sectorAt
 shown c =
-    let e = admitted c in
-    let a = after-look-back e in
-    let s = entered a in
+    let e = admitted c in let a = after-look-back e in let s = entered a in
     let b : ℕ = a .look-back .result .block in
     c .show .ensures ∙ ap (λ (r : ℕ). pack (filled (entriesOf (take sectorLength (drop (sectorLength * b) (D s .image)))) b r 2)) (counted e)
 
@@ -73,16 +71,13 @@ same-length c = search needs
 
 returns : tie.Need-returns
 returns c =
-    let a = c .before .before .before in
-    let s = entered a in
+    let a = c .before .before .before in let s = entered a in
     ap (λ (a : ℕ). left a (D s .image) (D s .kinds) (L s) []) (c .refusal .ensures)
     ∙ refused-left (D s) (L s) (lookBack (s .args .k)) (a .look-back .result .outcome) (a .look-back .ensures .0) (c .before .if1 .taken)
 
 show-requires : tie.Need-show-requires
 show-requires c κs =
-    let e = c .before in
-    let a = after-look-back e in
-    let s = entered a in
+    let e = c .before in let a = after-look-back e in let s = entered a in
     let b : ℕ = a .look-back .result .block in
     let t = shown-fits (D s) b (look-back-done (D s) (L s) (s .args .k) (done e) .0) (a .look-back .ensures .1 (e .if1 .left) .2) in
     (ledger-accepted (D s) (L s) (lookBack (s .args .k)) (done e), t .0, t .1)
@@ -95,9 +90,7 @@ same-length-2 c = search needs
 
 returns-2 : tie.Need-returns-2
 returns-2 c =
-    let h = after-show c in
-    let e = admitted h in
-    let s = start-of e in
+    let h = after-show c in let e = admitted h in let s = start-of e in
     let b : ℕ = after-look-back e .look-back .result .block in
     ap (λ (x : List ℕ). left b (D s .image) (D s .kinds) x []) (shown h) ∙ look-back-left (D s) (L s) (s .args .k) b (done e) (found e)
 

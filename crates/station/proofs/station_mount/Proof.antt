@@ -61,9 +61,7 @@ found c = after-mount c .mount .ensures .1 (c .if1 .left) .1
 shown : (c : tie.After-show) → let a = after-mount (admitted c) in let s = entered a in c .show .last .1 .0 ≡ pack (filled (mapAt (D s) (a .mount .result .block)) (a .mount .result .block) (recorded (D s)) 0)
 unfolding sectorAt
 shown c =
-    let e = admitted c in
-    let a = after-mount e in
-    let s = entered a in
+    let e = admitted c in let a = after-mount e in let s = entered a in
     let b : ℕ = a .mount .result .block in
     c .show .ensures ∙ ap (λ (r : ℕ). pack (filled (entriesOf (take sectorLength (drop (sectorLength * b) (D s .image)))) b r 0)) (counted e)
 
@@ -78,23 +76,20 @@ same-length c = search needs
 
 returns : tie.Need-returns
 returns c =
-    let a = c .before .before .before in
-    let s = entered a in
+    let a = c .before .before .before in let s = entered a in
     ap (λ (a : ℕ). left a (D s .image) (D s .kinds) (L s) []) (c .refusal .ensures)
     ∙ refused-left (D s) (L s) mount (a .mount .result .outcome) (a .mount .ensures .0) (c .before .if1 .taken)
 
 show-requires : tie.Need-show-requires
 show-requires c κs =
-    let e = c .before in
-    let s = start-of e in
+    let e = c .before in let s = start-of e in
     let b : ℕ = after-mount e .mount .result .block in
     let t = shown-fits (D s) b (mount-done (D s) (L s) (done e) .0) (newest-table (tableAt (D s)) (recorded (D s)) b (found e)) in
     (ledger-accepted (D s) (L s) mount (done e), t .0, t .1)
 
 add-if2 : tie.Need-add-if2
 add-if2 c =
-    let e = admitted (after-show c) in
-    let s = start-of e in
+    let e = admitted (after-show c) in let s = start-of e in
     omega (arith, newest-below (tableAt (D s)) (recorded (D s)) (after-mount e .mount .result .block) (found e), leading-le (D s .kinds), mount-done (D s) (L s) (done e) .0 .few)
 
 same-length-2 : tie.Need-same-length-2
@@ -102,9 +97,7 @@ same-length-2 c = search needs
 
 returns-2 : tie.Need-returns-2
 returns-2 c =
-    let h = after-show (c .before .before) in
-    let e = admitted h in
-    let s = start-of e in
+    let h = after-show (c .before .before) in let e = admitted h in let s = start-of e in
     let b : ℕ = after-mount e .mount .result .block in
     let clean = eq-eqb (b + 1) (recorded (D s)) (c .if2 .taken ∙ counted e) in
     ap (λ (x : List ℕ). left 1 (D s .image) (D s .kinds) x []) (shown h)
@@ -116,9 +109,7 @@ same-length-3 c = search needs
 
 returns-3 : tie.Need-returns-3
 returns-3 c =
-    let h = after-show (c .before .before) in
-    let e = admitted h in
-    let s = start-of e in
+    let h = after-show (c .before .before) in let e = admitted h in let s = start-of e in
     let b : ℕ = after-mount e .mount .result .block in
     let dirty = ne-eqb (b + 1) (recorded (D s)) (λ x. c .if2 .left (x ∙ sym (counted e))) in
     ap (λ (x : List ℕ). left 0 (D s .image) (D s .kinds) x []) (shown h)

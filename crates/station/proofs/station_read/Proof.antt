@@ -55,8 +55,7 @@ within c = omega (arith, c .entry .ensures, names (c .before) .1, leading-le (D 
 
 long : (c : tie.After-entry) → length (sectorAt (D (start-of (c .before))) (c .entry .result)) ≡ sectorLength
 long c =
-    let e = c .before in
-    let s = start-of e in
+    let e = c .before in let s = start-of e in
     sector-long (D s) (sized-tells (D s) (sound-sized (D s) (told e .sound-disc))) (c .entry .result) (within c)
 
 read-requires : tie.Need-read-requires
@@ -70,8 +69,7 @@ same-length c = search needs
 
 returns : tie.Need-returns
 returns c =
-    let a = c .before .before in
-    let s = entered a in
+    let a = c .before .before in let s = entered a in
     ap (λ (a : ℕ). left a (D s .image) (D s .kinds) (L s) (K s)) (c .refusal .ensures)
     ∙ refused-left (D s) (L s) (read (s .args .v) (K s)) (a .read .result) (a .read .ensures) (c .before .if1 .taken)
 
@@ -95,16 +93,12 @@ part-put-text-start c = search needs
 
 part-put-text-end : tie.Need-part-put-text-end
 part-put-text-end c =
-    let at = c .before in
-    let e = at .before in
-    let s = start-of e in
+    let at = c .before in let e = at .before in let s = start-of e in
     omega (arith, sector-end (D s) (sized-tells (D s) (sound-sized (D s) (told e .sound-disc))) (at .entry .result) (within at))
 
 put-text-requires : tie.Need-put-text-requires
 put-text-requires c κs =
-    let at = c .before .before in
-    let e = at .before in
-    let s = start-of e in
+    let at = c .before .before in let e = at .before in let s = start-of e in
     omega (arith, ap length (part-sector (D s) (at .entry .result)) ∙ long at, told e .block-long)
 
 same-length-2 : tie.Need-same-length-2
@@ -112,9 +106,7 @@ same-length-2 c = search needs
 
 returns-2 : tie.Need-returns-2
 returns-2 c =
-    let at = c .before .before .before .before .before in
-    let e = at .before in
-    let s = start-of e in
+    let at = c .before .before .before .before .before in let e = at .before in let s = start-of e in
     let b : ℕ = at .entry .result in
     let copied = c .before .before .put-text .ensures ∙ ap (sets (K s) 0) (part-sector (D s) b) ∙ sets-all (sectorAt (D s) b) (K s) (long at ∙ sym (told e .block-long))
     ∙ ap (sectorAt (D s)) (at .entry .ensures) in

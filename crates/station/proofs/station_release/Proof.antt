@@ -51,8 +51,7 @@ same-length c = search needs
 
 returns : tie.Need-returns
 returns c =
-    let a = c .before .before in
-    let s = entered a in
+    let a = c .before .before in let s = entered a in
     ap (λ (a : ℕ). left a (D s .image) (D s .kinds) (L s) []) (c .refusal .ensures)
     ∙ refused-left (D s) (L s) (release (s .args .v)) (a .release .result) (a .release .ensures) (c .before .if1 .taken)
 
@@ -61,9 +60,9 @@ load-requires c κs = accepted (c .before)
 
 released-requires : tie.Need-released-requires
 released-requires c κs =
-    let e = admitted c in
-    let s = start-of e in
-    let d = release-done (D s) (L s) (s .args .v) (done e) in omega (arith, d .2, d .1 .fit .few)
+    let e = admitted c in let s = start-of e in
+    let d = release-done (D s) (L s) (s .args .v) (done e) in
+    omega (arith, d .2, d .1 .fit .few)
 
 store-requires : tie.Need-store-requires
 store-requires c κs = accepted (admitted (c .before .before))
@@ -73,10 +72,7 @@ same-length-2 c = search needs
 
 returns-2 : tie.Need-returns-2
 returns-2 c =
-    let t = c .before .before in
-    let w = t .before .before in
-    let e = admitted (w .before) in
-    let s = start-of e in
+    let t = c .before .before in let w = t .before .before in let e = admitted (w .before) in let s = start-of e in
     let stored = t .store .ensures ∙ ap pack (w .released .ensures ∙ ap (released (s .args .v)) (w .before .load .ensures)) in
     ap (λ (x : List ℕ). left 0 (D s .image) (D s .kinds) x []) stored ∙ release-left (D s) (L s) (s .args .v) (done e)
 

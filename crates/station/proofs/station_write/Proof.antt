@@ -88,8 +88,7 @@ same-length-3 c = search needs
 
 returns : tie.Need-returns
 returns c =
-    let a = c .before .before in
-    let s = entered a in
+    let a = c .before .before in let s = entered a in
     ap (λ (a : ℕ). left a (D s .image) (D s .kinds) (L s) (K s)) (c .refusal .ensures)
     ∙ refused-left (D s) (L s) (write (s .args .v) (K s)) (a .write .result) (a .write .ensures) (c .before .if1 .taken)
 
@@ -101,9 +100,7 @@ cast-data c = search needs
 
 data-requires : tie.Need-data-requires
 data-requires c κs =
-    let r = after-links c in
-    let e = admitted r in
-    let s = start-of e in
+    let r = after-links c in let e = admitted r in let s = start-of e in
     let same : length (r .record-links .last .0) ≡ length (D s .kinds) = linked r in
     let taken : r .record-links .result < length (r .record-links .last .0) = omega (arith, same, within e, r .record-links .ensures .0) in
     (told e .sound-disc .whole ∙ ap (λ (n : ℕ). sectorLength * n) (sym same), taken, told e .block-long)
@@ -113,9 +110,7 @@ load-requires c κs = accepted (admitted (links-of c))
 
 wrote-requires : tie.Need-wrote-requires
 wrote-requires c κs =
-    let r = links-of (c .before) in
-    let e = admitted r in
-    let s = start-of e in
+    let r = links-of (c .before) in let e = admitted r in let s = start-of e in
     (told e .below-limit, omega (arith, r .record-links .ensures .0, within e, told e .sound-disc .few), subst (λ (v : Volume). v .size ≤ limit) (sym (c .load .ensures)) (told e .fit .few))
 
 store-requires : tie.Need-store-requires
@@ -135,12 +130,8 @@ same-length-6 c = search needs
 
 returns-2 : tie.Need-returns-2
 returns-2 c =
-    let t = c .before .before in
-    let w = t .before .before in
-    let d = after-data (w .before .before) in
-    let r = after-links (d .before) in
-    let e = admitted r in
-    let s = start-of e in
+    let t = c .before .before in let w = t .before .before in let d = after-data (w .before .before) in let r = after-links (d .before) in
+    let e = admitted r in let s = start-of e in
     let l : List ℕ = L s in
     let b : ℕ = r .record-links .result in
     let v : Volume = unpack l in

@@ -53,8 +53,7 @@ sound-requires c κs = search needs
 
 returns : tie.Need-returns
 returns c =
-    let a = c .before .before in
-    let s = entered a in
+    let a = c .before .before in let s = entered a in
     let e = a .sound .ensures .0 in
     (e ∙ sym (begin-stopped (D s) (L s) (λ z. c .if1 .taken (e ∙ z))), λ z. absurd (c .if1 .taken z))
 
@@ -68,9 +67,7 @@ refused-requires c κs = search needs
 
 returns-2 : tie.Need-returns-2
 returns-2 c =
-    let n = c .before .before in
-    let e = n .before in
-    let s = start-of e in
+    let n = c .before .before in let e = n .before in let s = start-of e in
     let some-table : newest (D s) ≡ some (blockFound (newest (D s))) = found-some (newest (D s)) (λ e. c .before .if2 .taken (scanned n ∙ e)) in (
       c .refused .ensures ∙ sym (begin-6 (D s) (L s) (blockFound (newest (D s))) (none e) some-table),
       λ z. absurd (let e : _≡_ {A = ℕ} 6 0 = sym (c .refused .ensures) ∙ z in omega arith),
@@ -78,9 +75,7 @@ returns-2 c =
 
 returns-3 : tie.Need-returns-3
 returns-3 c =
-    let n = c .before in
-    let e = n .before in
-    let s = start-of e in
+    let n = c .before in let e = n .before in let s = start-of e in
     let no-table : newest (D s) ≡ mathlib.Core.Option.none = found-none (tableAt (D s)) (recorded (D s)) (few e) (sym (scanned n) ∙ c .if2 .left) in
     (e .if1 .left ∙ sym (begin-0 (D s) (L s) (none e) no-table), λ z. counted e)
 

@@ -48,8 +48,7 @@ working-requires c κs = search needs
 
 returns : tie.Need-returns
 returns c =
-    let a = c .before in
-    let s = entered a in
+    let a = c .before in let s = entered a in
     let e = a .working .ensures in
     e ∙ sym (commit-stopped (D s) (L s) (λ z. c .if1 .taken (e ∙ z)))
 
@@ -70,18 +69,13 @@ add-if2 c = omega (arith, c .links .ensures, links-few (unpack (L (start-of (adm
 
 returns-2 : tie.Need-returns-2
 returns-2 c =
-    let n = c .before in
-    let e = admitted n in
-    let s = start-of e in
-    let blank = own (n .before) in
+    let n = c .before in let e = admitted n in let s = start-of e in
     let wrong : ltb (blanks (D s)) (links (unpack (L s)) + 1) ≡ true = lt-ltb (blanks (D s)) (links (unpack (L s)) + 1) (omega (arith, own (n .before), n .links .ensures, c .if2 .taken)) in
     sym (commit-tested (D s) (L s) (none e) ∙ stop 14 (ltb (blanks (D s)) (links (unpack (L s)) + 1)) [] wrong)
 
 returns-3 : tie.Need-returns-3
 returns-3 c =
-    let n = c .before in
-    let e = admitted n in
-    let s = start-of e in
+    let n = c .before in let e = admitted n in let s = start-of e in
     let right : ltb (blanks (D s)) (links (unpack (L s)) + 1) ≡ false = le-ltb (blanks (D s)) (links (unpack (L s)) + 1) (omega (arith, own (n .before), n .links .ensures, c .if2 .left)) in
     sym (commit-tested (D s) (L s) (none e) ∙ skip 14 (ltb (blanks (D s)) (links (unpack (L s)) + 1)) [] right ∙ none-left)
 

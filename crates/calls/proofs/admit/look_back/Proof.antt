@@ -46,8 +46,7 @@ found c = after-mount c .mount .ensures .1 (c .if1 .left) .1
 went : (c : tie.After-walk-back) → let s = start-of (c .before) in walked (D s) (s .args .k) ≡ c .walk-back .result
 unfolding walked
 went c =
-    let e = c .before in
-    let s = start-of e in
+    let e = c .before in let s = start-of e in
     ap (walkFrom (D s) (s .args .k)) (found e) ∙ sym (c .walk-back .ensures)
 
 mount-requires : tie.Need-mount-requires
@@ -55,8 +54,7 @@ mount-requires c κs = search needs
 
 returns : tie.Need-returns
 returns c =
-    let a = c .before .before in
-    let s = entered a in
+    let a = c .before .before in let s = entered a in
     let e = a .mount .ensures .0 in
     (e ∙ sym (look-back-stopped (D s) (L s) (s .args .k) (λ z. c .if1 .taken (e ∙ z))), λ z. absurd (c .if1 .taken z))
 
@@ -82,10 +80,7 @@ refused-requires-2 c κs = search needs
 
 returns-2 : tie.Need-returns-2
 returns-2 c =
-    let w = c .before .before .before in
-    let e = w .before in
-    let a = after-mount e in
-    let s = entered a in
+    let w = c .before .before .before in let e = w .before in let a = after-mount e in let s = entered a in
     let way : walked (D s) (s .args .k) ≡ Reached (c .before .block .given .0 .0) = went w ∙ c .before .block .given .1 in
     let m : ℕ = a .mount .result .block in
     let reached : walk (tableAt (D s)) (previousAt (D s)) (s .args .k) m ≡ Reached (c .before .block .given .0 .0) = sym (w .walk-back .ensures) ∙ c .before .block .given .1 in
@@ -94,8 +89,7 @@ returns-2 c =
 
 returns-3 : tie.Need-returns-3
 returns-3 c =
-    let w = c .before .before .before in
-    let e = w .before in
+    let w = c .before .before .before in let e = w .before in
     let s = start-of e in (
       c .refused .ensures ∙ sym (look-back-8 (D s) (L s) (s .args .k) (done e) (went w ∙ c .before .enum-told .given .1)),
       λ z. absurd (let e : _≡_ {A = ℕ} 8 0 = sym (c .refused .ensures) ∙ z in omega arith),
@@ -103,8 +97,7 @@ returns-3 c =
 
 returns-4 : tie.Need-returns-4
 returns-4 c =
-    let w = c .before .before .before in
-    let e = w .before in
+    let w = c .before .before .before in let e = w .before in
     let s = start-of e in (
       c .refused2 .ensures ∙ sym (look-back-9 (D s) (L s) (s .args .k) (done e) (went w ∙ c .before .enum-told2 .given .1)),
       λ z. absurd (let e : _≡_ {A = ℕ} 9 0 = sym (c .refused2 .ensures) ∙ z in omega arith),

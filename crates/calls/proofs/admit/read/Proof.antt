@@ -50,8 +50,7 @@ used c = sym (c .before .not-in-use .ensures) ∙ c .if2 .left
 -- the number is below size, and its sector is a recorded one
 names : (c : tie.Else2) → let s = start-of (admitted c) in (s .args .n < unpack (L s) .size) × (getD (unpack (L s) .entries) (s .args .n) unused < recorded (D s))
 names c =
-    let e = admitted c in
-    let s = start-of e in
+    let e = admitted c in let s = start-of e in
     entry-recorded (D s) (unpack (L s)) (s .args .n) (admits e .fit) (used c)
 
 fitting-requires : tie.Need-fitting-requires
@@ -59,8 +58,7 @@ fitting-requires c κs = search needs
 
 returns : tie.Need-returns
 returns c =
-    let a = c .before in
-    let s = entered a in
+    let a = c .before in let s = entered a in
     let e = a .fitting .ensures in
     e ∙ sym (read-stopped (D s) (L s) (s .args .n) (s .args .block .now) (λ z. c .if1 .taken (e ∙ z)))
 
@@ -69,8 +67,7 @@ not-in-use-requires c κs = (admits c .ledger-long, admits c .fit .few)
 
 returns-2 : tie.Need-returns-2
 returns-2 c =
-    let e = c .before .before in
-    let s = start-of e in
+    let e = c .before .before in let s = start-of e in
     sym (read-10 (D s) (L s) (s .args .n) (s .args .block .now) (none e) (sym (c .before .not-in-use .ensures) ∙ c .if2 .taken))
 
 entry-requires : tie.Need-entry-requires
@@ -86,16 +83,12 @@ shared-slice-read-if3 c =
 
 returns-3 : tie.Need-returns-3
 returns-3 c =
-    let b = c .before .before in
-    let e = b .before in
-    let s = start-of (admitted e) in
+    let b = c .before .before in let e = b .before in let s = start-of (admitted e) in
     sym (read-11 (D s) (L s) (s .args .n) (s .args .block .now) (none (admitted e)) (used e) (λ k. c .if3 .taken (ap (kindAt (D s)) (b .entry .ensures) ∙ k)))
 
 returns-4 : tie.Need-returns-4
 returns-4 c =
-    let b = c .before .before in
-    let e = b .before in
-    let s = start-of (admitted e) in
+    let b = c .before .before in let e = b .before in let s = start-of (admitted e) in
     sym (read-0 (D s) (L s) (s .args .n) (s .args .block .now) (none (admitted e)) (used e) (ap (kindAt (D s)) (sym (b .entry .ensures)) ∙ c .if3 .left))
 
 pub read-spec : {M : Type 1} → statement M

@@ -38,8 +38,7 @@ working-requires c κs = search needs
 
 returns : tie.Need-returns
 returns c =
-    let a = c .before in
-    let s = entered a in
+    let a = c .before in let s = entered a in
     let e = a .working .ensures in
     e ∙ sym (release-stopped (D s) (L s) (s .args .n) (λ z. c .if1 .taken (e ∙ z)))
 
@@ -48,15 +47,13 @@ not-in-use-requires c κs = (admits c .ledger-long, admits c .fit .few)
 
 returns-2 : tie.Need-returns-2
 returns-2 c =
-    let e = c .before .before in
-    let s = start-of e in
+    let e = c .before .before in let s = start-of e in
     let wrong : notInUse (unpack (L s)) (s .args .n) ≡ true = sym (c .before .not-in-use .ensures) ∙ c .if2 .taken in
     sym (release-tested (D s) (L s) (s .args .n) (none e) ∙ stop 10 (notInUse (unpack (L s)) (s .args .n)) [] wrong)
 
 returns-3 : tie.Need-returns-3
 returns-3 c =
-    let e = c .before .before in
-    let s = start-of e in
+    let e = c .before .before in let s = start-of e in
     let right : notInUse (unpack (L s)) (s .args .n) ≡ false = sym (c .before .not-in-use .ensures) ∙ c .if2 .left in
     sym (release-tested (D s) (L s) (s .args .n) (none e) ∙ skip 10 (notInUse (unpack (L s)) (s .args .n)) [] right ∙ none-left)
 

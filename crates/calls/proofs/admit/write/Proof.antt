@@ -61,17 +61,13 @@ own c = c .recorded .ensures ∙ admits (passed c) .fit .same-recorded
 tested : (c : tie.Else4) → let s = start-of (passed (c .before)) in outcome (D s) (L s) (write (s .args .n) (s .args .block .now))
     ≡ first (test 15 (isTable 1 (s .args .block .now) (target (unpack (L s)))) ∷ [])
 tested c =
-    let r = c .before in
-    let g = in-range r in
-    let e = admitted g in
-    let s = start-of e in
+    let r = c .before in let g = in-range r in let e = admitted g in let s = start-of e in
     write-tested (D s) (L s) (s .args .n) (s .args .block .now) (none e) (no-gap g) (r .before .before .if3 .left)
     (omega (arith, own r, r .before .links .ensures, c .if4 .left))
 
 judged : (c : tie.After-is-table) → let s = start-of (passed (c .before .before)) in c .is-table .result ≡ isTable 1 (s .args .block .now) (target (unpack (L s)))
 judged c =
-    let r = c .before .before in
-    let s = start-of (passed r) in
+    let r = c .before .before in let s = start-of (passed r) in
     c .is-table .ensures ∙ ap₂ (λ (r k : ℕ). isTable 1 (s .args .block .now) (r + k)) (r .recorded .ensures) (r .before .links .ensures)
 
 working-requires : tie.Need-working-requires
@@ -79,8 +75,7 @@ working-requires c κs = search needs
 
 returns : tie.Need-returns
 returns c =
-    let a = c .before in
-    let s = entered a in
+    let a = c .before in let s = entered a in
     let e = a .working .ensures in
     e ∙ sym (write-stopped (D s) (L s) (s .args .n) (s .args .block .now) (λ z. c .if1 .taken (e ∙ z)))
 
@@ -89,15 +84,12 @@ size-requires c κs = admits c .ledger-long
 
 returns-2 : tie.Need-returns-2
 returns-2 c =
-    let e = c .before .before in
-    let s = start-of e in
+    let e = c .before .before in let s = start-of e in
     sym (write-12 (D s) (L s) (s .args .n) (s .args .block .now) (none e) (omega (arith, c .before .size .ensures, c .if2 .taken)))
 
 returns-3 : tie.Need-returns-3
 returns-3 c =
-    let g = c .before in
-    let e = admitted g in
-    let s = start-of e in
+    let g = c .before in let e = admitted g in let s = start-of e in
     sym (write-13 (D s) (L s) (s .args .n) (s .args .block .now) (none e) (no-gap g) (c .if3 .taken))
 
 links-requires : tie.Need-links-requires
@@ -120,18 +112,13 @@ add-if4-2 c = omega (arith, c .before .links .ensures, links-few (unpack (L (sta
 
 returns-4 : tie.Need-returns-4
 returns-4 c =
-    let r = c .before in
-    let g = in-range r in
-    let e = admitted g in
-    let s = start-of e in
+    let r = c .before in let g = in-range r in let e = admitted g in let s = start-of e in
     sym (write-14 (D s) (L s) (s .args .n) (s .args .block .now) (none e) (no-gap g) (r .before .before .if3 .left)
     (omega (arith, own r, r .before .links .ensures, c .if4 .taken)))
 
 add-is-table : tie.Need-add-is-table
 add-is-table c =
-    let r = c .before in
-    let e = passed r in
-    let s = start-of e in
+    let r = c .before in let e = passed r in let s = start-of e in
     omega (arith, own r, leading-le (D s .kinds), admits e .sound-disc .few, r .before .links .ensures, links-few (unpack (L s)))
 
 is-table-requires : tie.Need-is-table-requires
@@ -139,15 +126,13 @@ is-table-requires c κs = search needs
 
 returns-5 : tie.Need-returns-5
 returns-5 c =
-    let t = c .before .before in
-    let s = start-of (passed (t .before)) in
+    let t = c .before .before in let s = start-of (passed (t .before)) in
     let wrong : isTable 1 (s .args .block .now) (target (unpack (L s))) ≡ true = sym (judged (c .before)) ∙ c .if5 .taken in
     sym (tested t ∙ stop 15 (isTable 1 (s .args .block .now) (target (unpack (L s)))) [] wrong)
 
 returns-6 : tie.Need-returns-6
 returns-6 c =
-    let t = c .before .before in
-    let s = start-of (passed (t .before)) in
+    let t = c .before .before in let s = start-of (passed (t .before)) in
     let right : isTable 1 (s .args .block .now) (target (unpack (L s))) ≡ false = sym (judged (c .before)) ∙ c .if5 .left in
     sym (tested t ∙ skip 15 (isTable 1 (s .args .block .now) (target (unpack (L s)))) [] right ∙ none-left)
 

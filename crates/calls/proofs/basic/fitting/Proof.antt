@@ -46,28 +46,24 @@ sound-requires c κs = search needs
 
 returns : tie.Need-returns
 returns c =
-    let a = c .before .before in
-    let s = entered a in
+    let a = c .before .before in let s = entered a in
     let e = a .sound .ensures .0 in
     e ∙ sym (fitting-stopped (D s) (L s) (lengths s) (λ z. c .if1 .taken (e ∙ z)))
 
 fits-requires : tie.Need-fits-requires
 fits-requires c κs =
-    let s = start-of c in
-    let p = passed c in
+    let s = start-of c in let p = passed c in
     (ledger-lent (L s) (s .args .whole) (p .lent), sound-sized (D s) (p .sound-disc), after-sound c .sound .ensures .1 (c .if1 .left))
 
 returns-2 : tie.Need-returns-2
 returns-2 c =
-    let e = c .before .before in
-    let s = start-of e in
+    let e = c .before .before in let s = start-of e in
     let wrong : fits (D s) (unpack (L s)) ≡ false = sym (c .before .fits2 .ensures) ∙ not-true (c .before .fits2 .result) (c .if2 .taken) in
     sym (fitting-4 (D s) (L s) (lengths s) (none e) wrong)
 
 returns-3 : tie.Need-returns-3
 returns-3 c =
-    let e = c .before .before in
-    let s = start-of e in
+    let e = c .before .before in let s = start-of e in
     let right : fits (D s) (unpack (L s)) ≡ true = sym (c .before .fits2 .ensures) ∙ not-false (c .before .fits2 .result) (c .if2 .left) in
     sym (fitting-0 (D s) (L s) (lengths s) (none e) right)
 

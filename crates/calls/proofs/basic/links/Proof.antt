@@ -32,8 +32,7 @@ recorded-requires c κs = search needs
 returns-2 : tie.Need-returns-2
 unfolding links
 returns-2 c =
-    let e = c .before .before in
-    let m = e .before in
+    let e = c .before .before in let m = e .before in
     let v : Volume = unpack (entered m .args .ledger .now) in
     let none : v .recorded ≡ 0 = sym (c .before .recorded .ensures) ∙ c .if2 .taken in
     let idle : eqb (v .mode) 0 ≡ true = eq-eqb (v .mode) 0 (sym (m .mode .ensures) ∙ e .if1 .left) in
@@ -42,8 +41,7 @@ returns-2 c =
 returns-3 : tie.Need-returns-3
 unfolding links
 returns-3 c =
-    let e = c .before .before in
-    let m = e .before in
+    let e = c .before .before in let m = e .before in
     let v : Volume = unpack (entered m .args .ledger .now) in
     let some : (v .recorded ≡ 0 → ⊥) = λ e. c .if2 .left (c .before .recorded .ensures ∙ e) in
     let idle : eqb (v .mode) 0 ≡ true = eq-eqb (v .mode) 0 (sym (m .mode .ensures) ∙ e .if1 .left) in

@@ -36,8 +36,7 @@ refused-requires c κs = search needs
 
 returns : tie.Need-returns
 returns c =
-    let a = c .before .before in
-    let s = entered a in
+    let a = c .before .before in let s = entered a in
     let wrong : sized (D s) ≡ false = sym (a .sized .ensures) ∙ not-true (a .sized .result) (c .before .if1 .taken) in
     (c .refused .ensures ∙ sym (refusal-1 (D s) (s .args .lengths) wrong), λ z. absurd (let e : _≡_ {A = ℕ} 1 0 = sym (c .refused .ensures) ∙ z in omega arith))
 
@@ -46,8 +45,7 @@ refused-requires-2 c κs = search needs
 
 returns-2 : tie.Need-returns-2
 returns-2 c =
-    let e = c .before .before in
-    let s = start-of e in
+    let e = c .before .before in let s = start-of e in
     let wrong : s .args .lengths ≡ false = not-true (s .args .lengths) (c .before .if2 .taken) in (
       c .refused2 .ensures ∙ sym (refusal-2 (D s) (s .args .lengths) (right-size e) wrong),
       λ z. absurd (let e : _≡_ {A = ℕ} 2 0 = sym (c .refused2 .ensures) ∙ z in omega arith),
@@ -61,10 +59,7 @@ refused-requires-3 c κs = search needs
 
 returns-3 : tie.Need-returns-3
 returns-3 c =
-    let n = c .before .before .before in
-    let l = n .before in
-    let e = l .before in
-    let s = start-of e in
+    let n = c .before .before .before in let l = n .before in let e = l .before in let s = start-of e in
     let wrong : inOrder (D s .kinds) ≡ false = sym (n .count .ensures .0) ∙ not-true (n .count .result .in_order) (c .before .if3 .taken) in (
       c .refused3 .ensures ∙ sym (refusal-3 (D s) (s .args .lengths) (right-size e) (right-lengths l) wrong),
       λ z. absurd (let e : _≡_ {A = ℕ} 3 0 = sym (c .refused3 .ensures) ∙ z in omega arith),
@@ -72,18 +67,13 @@ returns-3 c =
 
 cast-t7 : tie.Need-cast-t7
 cast-t7 c =
-    let n = c .before .before .before in
-    let e = n .before .before in
-    let s = start-of e in
+    let n = c .before .before .before in let e = n .before .before in let s = start-of e in
     let told = n .count .ensures .1 (not-false (n .count .result .in_order) (c .before .if3 .left)) in
     omega (arith, told, leading-le (D s .kinds), sized-tells (D s) (right-size e) .few)
 
 returns-4 : tie.Need-returns-4
 returns-4 c =
-    let n = c .before .before .before in
-    let l = n .before in
-    let e = l .before in
-    let s = start-of e in
+    let n = c .before .before .before in let l = n .before in let e = l .before in let s = start-of e in
     let right : n .count .result .in_order ≡ true = not-false (n .count .result .in_order) (c .before .if3 .left) in (
       sym (no-refusal (D s) (s .args .lengths) (right-size e) (right-lengths l) (sym (n .count .ensures .0) ∙ right)),
       λ z. n .count .ensures .1 right,

@@ -37,8 +37,7 @@ fitting-requires c κs = search needs
 
 returns : tie.Need-returns
 returns c =
-    let a = c .before in
-    let s = entered a in
+    let a = c .before in let s = entered a in
     let e = a .fitting .ensures in
     e ∙ sym (working-stopped (D s) (L s) (lengths s) (λ z. c .if1 .taken (e ∙ z)))
 
@@ -47,14 +46,12 @@ mode-requires c κs = let s = start-of c in fitting-admits (D s) (L s) (s .args 
 
 returns-2 : tie.Need-returns-2
 returns-2 c =
-    let e = c .before .before in
-    let s = start-of e in
+    let e = c .before .before in let s = start-of e in
     sym (working-5 (D s) (L s) (lengths s) (none e) (sym (c .before .mode .ensures) ∙ c .if2 .taken))
 
 returns-3 : tie.Need-returns-3
 returns-3 c =
-    let e = c .before .before in
-    let s = start-of e in
+    let e = c .before .before in let s = start-of e in
     sym (working-0 (D s) (L s) (lengths s) (none e) (λ e. c .if2 .left (c .before .mode .ensures ∙ e)))
 
 pub working-spec : {M : Type 1} → statement M

@@ -32,9 +32,7 @@ same-length c = search needs
 
 returns : tie.Need-returns
 returns c =
-    let l = c .before .before in
-    let r = l .before .before in
-    let n = r .before in
+    let l = c .before .before in let r = l .before .before in let n = r .before in
     let kinds : List ℕ = n .before .before .before .args .kinds .now in
     let own = r .recorded .ensures in
     let few = n .links .ensures in

@@ -66,10 +66,7 @@ same-length-2 c = search needs
 
 returns : tie.Need-returns
 returns c =
-    let r = c .before .before in
-    let e = r .before .before in
-    let s = start-of e in
-    let a = s .args in
+    let r = c .before .before in let e = r .before .before in let s = start-of e in let a = s .args in
     let image : List ℕ = a .image .now in
     let at : ℕ = sectorLength * a .b in
     let v : Volume = a .state in

@@ -55,9 +55,7 @@ same-length c = search needs
 
 returns : tie.Need-returns
 returns c =
-    let t = c .before .before in
-    let f = t .before .before in
-    let a = start-of (f .before) .args in
+    let t = c .before .before in let f = t .before .before in let a = start-of (f .before) .args in
     let at : ℕ = sectorLength * a .plan .block in
     t .store .ensures ∙ ap pack (f .filled .ensures ∙ ap (λ (l : List ℕ). filled (entriesOf l) (a .plan .block) (a .plan .recorded) (a .mode)) (part (a .image .now) at))
 
