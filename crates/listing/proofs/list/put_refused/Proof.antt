@@ -11,15 +11,15 @@ use borrow.Author.Needs.{needs}
 use Rattle.listing.proofs.list.put_refused.Statement.{statement}
 use Rattle.listing.proofs.list.put_refused.Tie as tie
 
--- the places of the function, each found from a later one
-abbrev start-of : tie.After-put-text → tie.Start
-start-of c = c .before .before .before .before
+-- the places of the function, from the last back
+abbrev after-outcome : tie.After-slice-known4 → tie.After-put-column
+after-outcome c = c .before .before .before .before .before .before
 
-abbrev after-word : tie.After-put-column → tie.After-put-text
-after-word c = c .before .before .before .before
+abbrev after-word : tie.After-slice-known4 → tie.After-put-text
+after-word c = after-outcome c .before .before .before .before
 
-abbrev after-outcome : tie.After-put8 → tie.After-put-column
-after-outcome c = c .before .before .before .before
+abbrev start-of : tie.After-slice-known4 → tie.Start
+start-of c = after-word c .before .before .before .before
 
 slice-aggregate-put-text : tie.Need-slice-aggregate-put-text
 slice-aggregate-put-text c = search needs
@@ -38,7 +38,7 @@ same-length c = search needs
 
 returns : tie.Need-returns
 returns c =
-    let a = start-of (after-word (after-outcome (c .before .before))) .args in
+    let a = start-of c .args in
     let out : List ℕ = a .out .now in
     let put : c .before .before .put8 .last .0
     ≡ sets (sets (sets out 0 (114 ∷ 101 ∷ 102 ∷ 117 ∷ 115 ∷ 101 ∷ 100 ∷ [])) 7 (column 3 (a .outcome))) 11 (le 1 10) = cc in

@@ -11,21 +11,21 @@ use borrow.Author.Needs.{needs}
 use Rattle.listing.proofs.text.put_row.Statement.{statement}
 use Rattle.listing.proofs.text.put_row.Tie as tie
 
--- the places of the function, each found from a later one
-abbrev start-of : tie.After-put-column → tie.Start
-start-of c = c .before .before .before
+-- the places of the function, from the last back
+abbrev after-used : tie.After-slice-known6 → tie.After-put-column4
+after-used c = c .before .before .before .before .before .before
 
-abbrev after-number : tie.After-put-column2 → tie.After-put-column
-after-number c = c .before .before .before .before
+abbrev after-size : tie.After-slice-known6 → tie.After-put-column3
+after-size c = after-used c .before .before .before .before
 
-abbrev after-block : tie.After-put-column3 → tie.After-put-column2
-after-block c = c .before .before .before .before
+abbrev after-block : tie.After-slice-known6 → tie.After-put-column2
+after-block c = after-size c .before .before .before .before
 
-abbrev after-size : tie.After-put-column4 → tie.After-put-column3
-after-size c = c .before .before .before .before
+abbrev after-number : tie.After-slice-known6 → tie.After-put-column
+after-number c = after-block c .before .before .before .before
 
-abbrev after-used : tie.After-put8 → tie.After-put-column4
-after-used c = c .before .before .before .before
+abbrev start-of : tie.After-slice-known6 → tie.Start
+start-of c = after-number c .before .before .before
 
 put-column-requires : tie.Need-put-column-requires
 put-column-requires c κs = search needs
@@ -59,7 +59,7 @@ same-length c = search needs
 
 returns : tie.Need-returns
 returns c =
-    let a = start-of (after-number (after-block (after-size (after-used (c .before .before))))) .args in
+    let a = start-of c .args in
     let out : List ℕ = a .out .now in
     let put : c .before .before .put8 .last .0
     ≡ sets (sets (sets (sets (sets out (a .at) (column 3 (a .k))) (a .at + 4) (column 7 (a .block))) (a .at + 12) (column 5 (a .size))) (a .at + 18) (column 5 (a .used))) (a .at + 24) (le 1 10) = cc in

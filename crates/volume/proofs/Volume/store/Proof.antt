@@ -14,13 +14,30 @@ use borrow.Author.Needs.{needs}
 use Rattle.volume.proofs.Volume.store.Statement.{statement}
 use Rattle.volume.proofs.Volume.store.Tie as tie
 
+-- the places of the function, from the last back
+abbrev after-last : tie.After-slice-known6 → tie.After-put323
+after-last c = c .before .before .before .before .before .before
+
+abbrev after-recorded : tie.After-slice-known6 → tie.After-put322
+after-recorded c = after-last c .before .before .before .before
+
+abbrev after-size : tie.After-slice-known6 → tie.After-put32
+after-size c = after-recorded c .before .before .before .before
+
+abbrev entries-of : tie.After-slice-known6 → tie.After-entries2
+entries-of c = after-size c .before .before .before .before .before
+
+abbrev start-of : tie.After-entries2 → tie.Start
+start-of c = c .before .before .before .before
+
 slice-aggregate-put-words : tie.Need-slice-aggregate-put-words
 slice-aggregate-put-words c = search needs
 
 put-words-requires : tie.Need-put-words-requires
 put-words-requires c κs =
-    let counted : 458 ≡ length (c .before .before .before .before .args .self .entries) = slice-aggregate-put-words c in
-    omega (arith, c .before .before .before .before .pre)
+    let s = start-of c in
+    let counted : 458 ≡ length (s .args .self .entries) = slice-aggregate-put-words c in
+    omega (arith, s .pre)
 
 put32-requires : tie.Need-put32-requires
 put32-requires c κs = search needs
@@ -48,13 +65,13 @@ same-length c = search needs
 
 returns : tie.Need-returns
 returns c =
-    let a = c .before .before .before .before .before .before .before .before .before .before .before .before .before .before .before .before .before .before .before .before .before .before .before .args in
+    let a = start-of (entries-of c) .args in
     let v : Volume = a .self in
     let l : List ℕ = a .l .now in
-    let counted : 458 ≡ length (v .entries) = slice-aggregate-put-words (c .before .before .before .before .before .before .before .before .before .before .before .before .before .before .before .before .before .before .before) in
+    let counted : 458 ≡ length (v .entries) = slice-aggregate-put-words (entries-of c) in
     let put : c .before .before .put324 .last .0
     ≡ sets (sets (sets (sets (sets l 0 (leWords (v .entries))) entriesLength (le 4 (v .size))) (entriesLength + 4) (le 4 (v .recorded))) (entriesLength + 8) (le 4 (v .last))) (entriesLength + 12) (le 4 (v .mode)) = cc in
-    put ∙ pack-put v l (sym counted) (c .before .before .before .before .before .before .before .before .before .before .before .before .before .before .before .before .before .before .before .before .before .before .before .pre)
+    put ∙ pack-put v l (sym counted) (start-of (entries-of c) .pre)
 
 pub store-spec : {M : Type 1} → statement M
 store-spec =
