@@ -49,9 +49,9 @@ same-length c = search needs
 
 returns : tie.Need-returns
 returns c =
-    let a = c .before .before .before in let s = entered a in
+    let j = c .before .before .before in let s = entered j in
     ap (λ (a : ℕ). left a (D s .image) (D s .kinds) (L s) []) (c .refusal .ensures)
-    ∙ refused-left (D s) (L s) begin (a .begin .result .outcome) (a .begin .ensures .0) (c .before .if1 .taken)
+    ∙ refused-left (D s) (L s) begin (j .begin .result .outcome) (j .begin .ensures .0) (c .before .if1 .taken)
 
 begun-requires : tie.Need-begun-requires
 begun-requires c κs = search needs

@@ -46,9 +46,9 @@ same-length c = search needs
 
 returns : tie.Need-returns
 returns c =
-    let a = c .before .before in let s = entered a in
+    let j = c .before .before in let s = entered j in
     ap (λ (a : ℕ). left a (D s .image) (D s .kinds) (L s) []) (c .refusal .ensures)
-    ∙ refused-left (D s) (L s) closePacket (a .close-packet .result) (a .close-packet .ensures) (c .before .if1 .taken)
+    ∙ refused-left (D s) (L s) closePacket (j .close-packet .result) (j .close-packet .ensures) (c .before .if1 .taken)
 
 load-requires : tie.Need-load-requires
 load-requires c κs =

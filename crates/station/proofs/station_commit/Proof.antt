@@ -90,9 +90,9 @@ same-length-3 c = search needs
 
 returns : tie.Need-returns
 returns c =
-    let a = c .before .before in let s = entered a in
+    let j = c .before .before in let s = entered j in
     ap (λ (a : ℕ). left a (D s .image) (D s .kinds) (L s) []) (c .refusal .ensures)
-    ∙ refused-left (D s) (L s) commit (a .commit .result) (a .commit .ensures) (c .before .if1 .taken)
+    ∙ refused-left (D s) (L s) commit (j .commit .result) (j .commit .ensures) (c .before .if1 .taken)
 
 record-links-requires : tie.Need-record-links-requires
 record-links-requires c κs = let e = c .before .before in (accepted e, omega (arith, within e), told e .sound-disc .few)

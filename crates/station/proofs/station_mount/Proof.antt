@@ -76,9 +76,9 @@ same-length c = search needs
 
 returns : tie.Need-returns
 returns c =
-    let a = c .before .before .before in let s = entered a in
+    let j = c .before .before .before in let s = entered j in
     ap (λ (a : ℕ). left a (D s .image) (D s .kinds) (L s) []) (c .refusal .ensures)
-    ∙ refused-left (D s) (L s) mount (a .mount .result .outcome) (a .mount .ensures .0) (c .before .if1 .taken)
+    ∙ refused-left (D s) (L s) mount (j .mount .result .outcome) (j .mount .ensures .0) (c .before .if1 .taken)
 
 show-requires : tie.Need-show-requires
 show-requires c κs =

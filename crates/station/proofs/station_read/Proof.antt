@@ -69,9 +69,9 @@ same-length c = search needs
 
 returns : tie.Need-returns
 returns c =
-    let a = c .before .before in let s = entered a in
+    let j = c .before .before in let s = entered j in
     ap (λ (a : ℕ). left a (D s .image) (D s .kinds) (L s) (K s)) (c .refusal .ensures)
-    ∙ refused-left (D s) (L s) (read (s .args .v) (K s)) (a .read .result) (a .read .ensures) (c .before .if1 .taken)
+    ∙ refused-left (D s) (L s) (read (s .args .v) (K s)) (j .read .result) (j .read .ensures) (c .before .if1 .taken)
 
 entry-requires : tie.Need-entry-requires
 entry-requires c κs = let s = start-of c in (ledger-accepted (D s) (L s) (read (s .args .v) (K s)) (done c), omega (arith, names c .0, told c .fit .few))

@@ -88,9 +88,9 @@ same-length-3 c = search needs
 
 returns : tie.Need-returns
 returns c =
-    let a = c .before .before in let s = entered a in
+    let j = c .before .before in let s = entered j in
     ap (λ (a : ℕ). left a (D s .image) (D s .kinds) (L s) (K s)) (c .refusal .ensures)
-    ∙ refused-left (D s) (L s) (write (s .args .v) (K s)) (a .write .result) (a .write .ensures) (c .before .if1 .taken)
+    ∙ refused-left (D s) (L s) (write (s .args .v) (K s)) (j .write .result) (j .write .ensures) (c .before .if1 .taken)
 
 record-links-requires : tie.Need-record-links-requires
 record-links-requires c κs = let e = c .before .before in (accepted e, omega (arith, within e), told e .sound-disc .few)
@@ -110,7 +110,7 @@ load-requires c κs = accepted (admitted (links-of c))
 
 wrote-requires : tie.Need-wrote-requires
 wrote-requires c κs =
-    let r = links-of (c .before) in let e = admitted r in let s = start-of e in
+    let r = links-of (c .before) in let e = admitted r in
     (told e .below-limit, omega (arith, r .record-links .ensures .0, within e, told e .sound-disc .few), subst (λ (v : Volume). v .size ≤ limit) (sym (c .load .ensures)) (told e .fit .few))
 
 store-requires : tie.Need-store-requires

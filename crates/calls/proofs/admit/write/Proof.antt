@@ -26,14 +26,14 @@ entered c = c .before .before .before .before .before
 abbrev start-of : tie.Else1 → tie.Start
 start-of c = entered (c .before)
 
-abbrev admitted : tie.Else2 → tie.Else1
-admitted c = c .before .before
+abbrev before-size : tie.Else2 → tie.Else1
+before-size c = c .before .before
 
 abbrev in-range : tie.After-recorded → tie.Else2
 in-range c = c .before .before .before
 
-abbrev passed : tie.After-recorded → tie.Else1
-passed c = admitted (in-range c)
+abbrev admitted : tie.After-recorded → tie.Else1
+admitted c = before-size (in-range c)
 
 -- the disc and the ledger
 abbrev D : tie.Start → Disc
@@ -51,23 +51,23 @@ none c = sym (c .before .working .ensures) ∙ c .if1 .left
 admits : (c : tie.Else1) → let s = start-of c in Admitted (D s) (L s) (whole s)
 admits c = let s = start-of c in working-admits (D s) (L s) (whole s) (none c)
 
-no-gap : (c : tie.Else2) → let s = start-of (admitted c) in s .args .n ≤ unpack (L s) .size
+no-gap : (c : tie.Else2) → let s = start-of (before-size c) in s .args .n ≤ unpack (L s) .size
 no-gap c = omega (arith, c .before .size .ensures, c .if2 .left)
 
-own : (c : tie.After-recorded) → c .recorded .result ≡ recorded (D (start-of (passed c)))
-own c = c .recorded .ensures ∙ admits (passed c) .fit .same-recorded
+own : (c : tie.After-recorded) → c .recorded .result ≡ recorded (D (start-of (admitted c)))
+own c = c .recorded .ensures ∙ admits (admitted c) .fit .same-recorded
 
 -- there is room, and only the block is left to test
-tested : (c : tie.Else4) → let s = start-of (passed (c .before)) in outcome (D s) (L s) (write (s .args .n) (s .args .block .now))
+tested : (c : tie.Else4) → let s = start-of (admitted (c .before)) in outcome (D s) (L s) (write (s .args .n) (s .args .block .now))
     ≡ first (test 15 (isTable 1 (s .args .block .now) (target (unpack (L s)))) ∷ [])
 tested c =
-    let r = c .before in let g = in-range r in let e = admitted g in let s = start-of e in
+    let r = c .before in let g = in-range r in let e = before-size g in let s = start-of e in
     write-tested (D s) (L s) (s .args .n) (s .args .block .now) (none e) (no-gap g) (r .before .before .if3 .left)
     (omega (arith, own r, r .before .links .ensures, c .if4 .left))
 
-judged : (c : tie.After-is-table) → let s = start-of (passed (c .before .before)) in c .is-table .result ≡ isTable 1 (s .args .block .now) (target (unpack (L s)))
+judged : (c : tie.After-is-table) → let s = start-of (admitted (c .before .before)) in c .is-table .result ≡ isTable 1 (s .args .block .now) (target (unpack (L s)))
 judged c =
-    let r = c .before .before in let s = start-of (passed r) in
+    let r = c .before .before in let s = start-of (admitted r) in
     c .is-table .ensures ∙ ap₂ (λ (r k : ℕ). isTable 1 (s .args .block .now) (r + k)) (r .recorded .ensures) (r .before .links .ensures)
 
 working-requires : tie.Need-working-requires
@@ -89,36 +89,36 @@ returns-2 c =
 
 returns-3 : tie.Need-returns-3
 returns-3 c =
-    let g = c .before in let e = admitted g in let s = start-of e in
+    let g = c .before in let e = before-size g in let s = start-of e in
     sym (write-13 (D s) (L s) (s .args .n) (s .args .block .now) (none e) (no-gap g) (c .if3 .taken))
 
 links-requires : tie.Need-links-requires
-links-requires c κs = admits (admitted (c .before)) .ledger-long
+links-requires c κs = admits (before-size (c .before)) .ledger-long
 
 recorded-requires : tie.Need-recorded-requires
-recorded-requires c κs = admits (admitted (c .before .before)) .ledger-long
+recorded-requires c κs = admits (before-size (c .before .before)) .ledger-long
 
 cast-blank : tie.Need-cast-blank
-cast-blank c = omega (arith, admits (passed c) .sound-disc .few)
+cast-blank c = omega (arith, admits (admitted c) .sound-disc .few)
 
 sub-blank : tie.Need-sub-blank
-sub-blank c = omega (arith, own c, leading-le (D (start-of (passed c)) .kinds))
+sub-blank c = omega (arith, own c, leading-le (D (start-of (admitted c)) .kinds))
 
 add-if4 : tie.Need-add-if4
-add-if4 c = omega (arith, c .before .links .ensures, links-few (unpack (L (start-of (passed c)))))
+add-if4 c = omega (arith, c .before .links .ensures, links-few (unpack (L (start-of (admitted c)))))
 
 add-if4-2 : tie.Need-add-if4-2
-add-if4-2 c = omega (arith, c .before .links .ensures, links-few (unpack (L (start-of (passed c)))))
+add-if4-2 c = omega (arith, c .before .links .ensures, links-few (unpack (L (start-of (admitted c)))))
 
 returns-4 : tie.Need-returns-4
 returns-4 c =
-    let r = c .before in let g = in-range r in let e = admitted g in let s = start-of e in
+    let r = c .before in let g = in-range r in let e = before-size g in let s = start-of e in
     sym (write-14 (D s) (L s) (s .args .n) (s .args .block .now) (none e) (no-gap g) (r .before .before .if3 .left)
     (omega (arith, own r, r .before .links .ensures, c .if4 .taken)))
 
 add-is-table : tie.Need-add-is-table
 add-is-table c =
-    let r = c .before in let e = passed r in let s = start-of e in
+    let r = c .before in let e = admitted r in let s = start-of e in
     omega (arith, own r, leading-le (D s .kinds), admits e .sound-disc .few, r .before .links .ensures, links-few (unpack (L s)))
 
 is-table-requires : tie.Need-is-table-requires
@@ -126,13 +126,13 @@ is-table-requires c κs = search needs
 
 returns-5 : tie.Need-returns-5
 returns-5 c =
-    let t = c .before .before in let s = start-of (passed (t .before)) in
+    let t = c .before .before in let s = start-of (admitted (t .before)) in
     let wrong : isTable 1 (s .args .block .now) (target (unpack (L s))) ≡ true = sym (judged (c .before)) ∙ c .if5 .taken in
     sym (tested t ∙ stop 15 (isTable 1 (s .args .block .now) (target (unpack (L s)))) [] wrong)
 
 returns-6 : tie.Need-returns-6
 returns-6 c =
-    let t = c .before .before in let s = start-of (passed (t .before)) in
+    let t = c .before .before in let s = start-of (admitted (t .before)) in
     let right : isTable 1 (s .args .block .now) (target (unpack (L s))) ≡ false = sym (judged (c .before)) ∙ c .if5 .left in
     sym (tested t ∙ skip 15 (isTable 1 (s .args .block .now) (target (unpack (L s)))) [] right ∙ none-left)
 

@@ -1,7 +1,7 @@
 -- `listing::text::put_row` meets its contract: four columns and a newline, one behind the other.
 -- Assumes nothing.
 use Prim.Native.Nat.{ℕ, _+_}
-use mathlib.Core.Path.{_≡_, _∙_}
+use mathlib.Core.Path.{ap, _∙_}
 use mathlib.Core.List.{List}
 use lib.Seq.{sets}
 use Rattle.le.specs.Field.{le}
@@ -61,9 +61,11 @@ returns : tie.Need-returns
 returns c =
     let a = start-of c .args in
     let out : List ℕ = a .out .now in
-    let put : c .before .before .put8 .last .0
-    ≡ sets (sets (sets (sets (sets out (a .at) (column 3 (a .k))) (a .at + 4) (column 7 (a .block))) (a .at + 12) (column 5 (a .size))) (a .at + 18) (column 5 (a .used))) (a .at + 24) (le 1 10) = cc in
-    put ∙ row-put out (a .at) (a .k) (a .block) (a .size) (a .used)
+    let number = after-number c .put-column .ensures in
+    let block = after-block c .put-column2 .ensures ∙ ap (λ (t : List ℕ). sets t (a .at + 4) (column 7 (a .block))) number in
+    let size = after-size c .put-column3 .ensures ∙ ap (λ (t : List ℕ). sets t (a .at + 12) (column 5 (a .size))) block in
+    let used = after-used c .put-column4 .ensures ∙ ap (λ (t : List ℕ). sets t (a .at + 18) (column 5 (a .used))) size in
+    c .before .before .put8 .ensures ∙ ap (λ (t : List ℕ). sets t (a .at + 24) (le 1 10)) used ∙ row-put out (a .at) (a .k) (a .block) (a .size) (a .used)
 
 pub put-row-spec : {M : Type 1} → statement M
 put-row-spec =

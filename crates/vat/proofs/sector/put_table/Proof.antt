@@ -1,12 +1,12 @@
 -- `vat::sector::put_table` meets its contract: the table, put part by part.
 -- Assumes nothing.
 use Prim.Native.Nat.{ℕ, _+_}
-use mathlib.Core.Path.{_≡_, refl, _∙_}
+use mathlib.Core.Path.{refl, ap, _∙_}
 use mathlib.Core.List.{List}
 use lib.ListN.{length}
 use lib.Seq.{sets}
-use Rattle.le.specs.Field.{le, leWords}
-use Rattle.vat.specs.Table.{tableStart, regidAt, tableName}
+use Rattle.le.specs.Field.{le}
+use Rattle.vat.specs.Table.{regidAt, tableName}
 use Rattle.vat.proofs.Record.{table-put}
 use borrow.Author.Needs.{needs}
 use Rattle.vat.proofs.sector.put_table.Statement.{statement}
@@ -70,14 +70,12 @@ returns c =
     let a = start-of c .args in
     let s : List ℕ = a .s .now in
     let map : List ℕ = a .map .now in
-    let words = after-words c .put-words in
-    let flags = after-flags c .put8 in
-    let text = after-name c .put-text in
-    let suffix = after-suffix c .put64 in
     let r : ℕ = regidAt (length map) in
-    let put : c .before .before .put32 .last .0
-    ≡ sets (sets (sets (sets (sets s tableStart (leWords map)) r (le 1 0)) (r + 1) tableName) (r + 24) (le 8 0x0150)) (r + 32) (le 4 (a .previous)) = cc in
-    put ∙ table-put s map (a .previous) r refl
+    let words = after-words c .put-words .ensures in
+    let flags = after-flags c .put8 .ensures ∙ ap (λ (t : List ℕ). sets t r (le 1 0)) words in
+    let name = after-name c .put-text .ensures ∙ ap (λ (t : List ℕ). sets t (r + 1) tableName) flags in
+    let suffix = after-suffix c .put64 .ensures ∙ ap (λ (t : List ℕ). sets t (r + 24) (le 8 0x0150)) name in
+    c .before .before .put32 .ensures ∙ ap (λ (t : List ℕ). sets t (r + 32) (le 4 (a .previous))) suffix ∙ table-put s map (a .previous) r refl
 
 pub put-table-spec : {M : Type 1} → statement M
 put-table-spec =

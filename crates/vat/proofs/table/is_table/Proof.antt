@@ -23,8 +23,8 @@ start-of c = c .before .before
 abbrev sector-of : tie.Else3 → tie.Else2
 sector-of c = c .before .before
 
-abbrev framed-at : tie.After-words-held → tie.Else3
-framed-at c = c .before .before
+abbrev frame-of : tie.After-words-held → tie.Else3
+frame-of c = c .before .before
 
 data-sector : (c : tie.Else1) → eqb (start-of c .args .kind) 1 ≡ true
 data-sector c = eq-eqb (start-of c .args .kind) 1 (c .if1 .left)
@@ -46,10 +46,10 @@ told : (c : tie.Else3) → let e = sector-of c in Framed (S e) (B e) (entryCount
 told c = let e = sector-of c in framed-tells (S e) (B e) (entryCount (S e)) (frame c)
 
 listed : (c : tie.After-words-held)
-    → let e = sector-of (framed-at c) in c .words-held .result ≡ every (unusedOrBelow (B e)) (entriesOf (S e))
+    → let e = sector-of (frame-of c) in c .words-held .result ≡ every (unusedOrBelow (B e)) (entriesOf (S e))
 unfolding entriesOf
 listed c =
-    let e = sector-of (framed-at c) in
+    let e = sector-of (frame-of c) in
     c .words-held .ensures ∙ ap (λ (n : ℕ). every (unusedOrBelow (B e)) (words n (S e) tableStart)) (c .before .entry-count .ensures)
 
 returns : tie.Need-returns
@@ -84,20 +84,20 @@ words-held-requires c κs = omega (arith, sector-of (c .before) .if2 .left, c .e
 returns-4 : tie.Need-returns-4
 unfolding isTable
 returns-4 c =
-    let w = c .before in let e = framed-at w in
+    let w = c .before in let e = frame-of w in
     let wrong : every (unusedOrBelow (B (sector-of e))) (entriesOf (S (sector-of e))) ≡ false =
     sym (listed w) ∙ not-true (w .words-held .result) (c .if4 .taken) in
     rw (data-sector (sector-of e .before), whole (sector-of e), frame e, wrong)
 
 sealed-requires : tie.Need-sealed-requires
 sealed-requires c κs =
-    let e = framed-at (c .before) in
+    let e = frame-of (c .before) in
     omega (arith, sector-of e .if2 .left, told e .few, told e .sized .summed)
 
 returns-5 : tie.Need-returns-5
 unfolding isTable
 returns-5 c =
-    let w = c .before .before in let e = framed-at w in
+    let w = c .before .before in let e = frame-of w in
     let right : every (unusedOrBelow (B (sector-of e))) (entriesOf (S (sector-of e))) ≡ true =
     sym (listed w) ∙ not-false (w .words-held .result) (c .before .if4 .left) in
     rw (data-sector (sector-of e .before), whole (sector-of e), frame e, right) (c .sealed .ensures)
