@@ -15,6 +15,19 @@ use borrow.Author.Needs.{needs}
 use Rattle.station.proofs.station_begin.Statement.{statement}
 use Rattle.station.proofs.station_begin.Tie as tie
 
+-- the places of the function, each found from a later one
+abbrev entered : tie.After-begin → tie.Start
+entered c = c .before .before .before .before .before
+
+abbrev after-begin : tie.Else1 → tie.After-begin
+after-begin c = c .before .before
+
+abbrev start-of : tie.Else1 → tie.Start
+start-of c = entered (after-begin c)
+
+abbrev admitted : tie.After-store-arg → tie.Else1
+admitted c = c .before .before
+
 -- the disc and the ledger
 abbrev D : tie.Start → Disc
 D s = lent (s .args .image .now) (s .args .kinds .now)
@@ -22,8 +35,8 @@ D s = lent (s .args .image .now) (s .args .kinds .now)
 abbrev L : tie.Start → List ℕ
 L s = s .args .ledger .now
 
-done : (c : tie.Else1) → outcome (D (c .before .before .before .before .before .before .before)) (L (c .before .before .before .before .before .before .before)) begin ≡ 0
-done c = sym (c .before .before .begin .ensures .0) ∙ c .if1 .left
+done : (c : tie.Else1) → let s = start-of c in outcome (D s) (L s) begin ≡ 0
+done c = sym (after-begin c .begin .ensures .0) ∙ c .if1 .left
 
 begin-requires : tie.Need-begin-requires
 begin-requires c κs = search needs
@@ -36,24 +49,25 @@ same-length c = search needs
 
 returns : tie.Need-returns
 returns c =
-    let s = c .before .before .before .before .before .before .before .before in
+    let j = c .before .before .before in let s = entered j in
     ap (λ (a : ℕ). left a (D s .image) (D s .kinds) (L s) []) (c .refusal .ensures)
-    ∙ refused-left (D s) (L s) begin (c .before .before .before .begin .result .outcome) (c .before .before .before .begin .ensures .0) (c .before .if1 .taken)
+    ∙ refused-left (D s) (L s) begin (j .begin .result .outcome) (j .begin .ensures .0) (c .before .if1 .taken)
 
 begun-requires : tie.Need-begun-requires
 begun-requires c κs = search needs
 
 store-requires : tie.Need-store-requires
-store-requires c κs = let e = c .before .before in ledger-accepted (D (e .before .before .before .before .before .before .before)) (L (e .before .before .before .before .before .before .before)) begin (done e)
+store-requires c κs =
+    let e = admitted c in let s = start-of e in
+    ledger-accepted (D s) (L s) begin (done e)
 
 same-length-2 : tie.Need-same-length-2
 same-length-2 c = search needs
 
 returns-2 : tie.Need-returns-2
 returns-2 c =
-    let e = c .before .before .before .before .before in
-    let s = e .before .before .before .before .before .before .before in
-    let stored = c .before .before .store .ensures ∙ ap pack (c .before .before .before .before .begun .ensures ∙ ap begun (e .before .before .begin .ensures .1 (e .if1 .left))) in
+    let t = c .before .before in let e = admitted (t .before) in let s = start-of e in
+    let stored = t .store .ensures ∙ ap pack (t .before .before .begun .ensures ∙ ap begun (after-begin e .begin .ensures .1 (e .if1 .left))) in
     ap (λ (x : List ℕ). left 0 (D s .image) (D s .kinds) x []) stored ∙ begin-left (D s) (L s) (done e)
 
 pub station-begin-spec : {M : Type 1} → statement M

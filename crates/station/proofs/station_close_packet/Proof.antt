@@ -15,6 +15,16 @@ use borrow.Author.Needs.{needs}
 use Rattle.station.proofs.station_close_packet.Statement.{statement}
 use Rattle.station.proofs.station_close_packet.Tie as tie
 
+-- the places of the function, each found from a later one
+abbrev entered : tie.After-close-packet → tie.Start
+entered c = c .before .before .before .before .before
+
+abbrev start-of : tie.Else1 → tie.Start
+start-of c = entered (c .before)
+
+abbrev admitted : tie.After-store-arg → tie.Else1
+admitted c = c .before .before .before .before
+
 -- the disc and the ledger
 abbrev D : tie.Start → Disc
 D s = lent (s .args .image .now) (s .args .kinds .now)
@@ -22,7 +32,7 @@ D s = lent (s .args .image .now) (s .args .kinds .now)
 abbrev L : tie.Start → List ℕ
 L s = s .args .ledger .now
 
-done : (c : tie.Else1) → outcome (D (c .before .before .before .before .before .before)) (L (c .before .before .before .before .before .before)) closePacket ≡ 0
+done : (c : tie.Else1) → let s = start-of c in outcome (D s) (L s) closePacket ≡ 0
 done c = sym (c .before .close-packet .ensures) ∙ c .if1 .left
 
 close-packet-requires : tie.Need-close-packet-requires
@@ -36,27 +46,30 @@ same-length c = search needs
 
 returns : tie.Need-returns
 returns c =
-    let s = c .before .before .before .before .before .before .before in
+    let j = c .before .before in let s = entered j in
     ap (λ (a : ℕ). left a (D s .image) (D s .kinds) (L s) []) (c .refusal .ensures)
-    ∙ refused-left (D s) (L s) closePacket (c .before .before .close-packet .result) (c .before .before .close-packet .ensures) (c .before .if1 .taken)
+    ∙ refused-left (D s) (L s) closePacket (j .close-packet .result) (j .close-packet .ensures) (c .before .if1 .taken)
 
 load-requires : tie.Need-load-requires
-load-requires c κs = let e = c .before in ledger-accepted (D (e .before .before .before .before .before .before)) (L (e .before .before .before .before .before .before)) closePacket (done e)
+load-requires c κs =
+    let e = c .before in let s = start-of e in
+    ledger-accepted (D s) (L s) closePacket (done e)
 
 closed-requires : tie.Need-closed-requires
 closed-requires c κs = search needs
 
 store-requires : tie.Need-store-requires
-store-requires c κs = let e = c .before .before .before .before in ledger-accepted (D (e .before .before .before .before .before .before)) (L (e .before .before .before .before .before .before)) closePacket (done e)
+store-requires c κs =
+    let e = admitted c in let s = start-of e in
+    ledger-accepted (D s) (L s) closePacket (done e)
 
 same-length-2 : tie.Need-same-length-2
 same-length-2 c = search needs
 
 returns-2 : tie.Need-returns-2
 returns-2 c =
-    let e = c .before .before .before .before .before .before .before in
-    let s = e .before .before .before .before .before .before in
-    let stored = c .before .before .store .ensures ∙ ap pack (c .before .before .before .before .closed .ensures ∙ ap closed (c .before .before .before .before .before .load .ensures)) in
+    let t = c .before .before in let w = t .before .before in let e = admitted (t .before) in let s = start-of e in
+    let stored = t .store .ensures ∙ ap pack (w .closed .ensures ∙ ap closed (w .before .load .ensures)) in
     ap (λ (x : List ℕ). left 0 (D s .image) (D s .kinds) x []) stored ∙ close-left (D s) (L s) (done e)
 
 pub station-close-packet-spec : {M : Type 1} → statement M

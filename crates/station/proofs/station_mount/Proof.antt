@@ -26,6 +26,22 @@ use borrow.Author.Needs.{needs}
 use Rattle.station.proofs.station_mount.Statement.{statement}
 use Rattle.station.proofs.station_mount.Tie as tie
 
+-- the places of the function, each found from a later one
+abbrev entered : tie.After-mount → tie.Start
+entered c = c .before .before .before .before .before
+
+abbrev after-mount : tie.Else1 → tie.After-mount
+after-mount c = c .before .before
+
+abbrev start-of : tie.Else1 → tie.Start
+start-of c = entered (after-mount c)
+
+abbrev admitted : tie.After-show → tie.Else1
+admitted c = c .before .before
+
+abbrev after-show : tie.After-struct-known2 → tie.After-show
+after-show c = c .before .before .before
+
 -- the disc and the ledger
 abbrev D : tie.Start → Disc
 D s = lent (s .args .image .now) (s .args .kinds .now)
@@ -33,20 +49,21 @@ D s = lent (s .args .image .now) (s .args .kinds .now)
 abbrev L : tie.Start → List ℕ
 L s = s .args .ledger .now
 
-done : (c : tie.Else1) → outcome (D (c .before .before .before .before .before .before .before)) (L (c .before .before .before .before .before .before .before)) mount ≡ 0
-done c = sym (c .before .before .mount .ensures .0) ∙ c .if1 .left
+done : (c : tie.Else1) → let s = start-of c in outcome (D s) (L s) mount ≡ 0
+done c = sym (after-mount c .mount .ensures .0) ∙ c .if1 .left
 
-counted : (c : tie.Else1) → c .before .before .mount .result .recorded ≡ recorded (D (c .before .before .before .before .before .before .before))
-counted c = c .before .before .mount .ensures .1 (c .if1 .left) .0
+counted : (c : tie.Else1) → after-mount c .mount .result .recorded ≡ recorded (D (start-of c))
+counted c = after-mount c .mount .ensures .1 (c .if1 .left) .0
 
-found : (c : tie.Else1) → newest (D (c .before .before .before .before .before .before .before)) ≡ some (c .before .before .mount .result .block)
-found c = c .before .before .mount .ensures .1 (c .if1 .left) .1
+found : (c : tie.Else1) → let s = start-of c in newest (D s) ≡ some (after-mount c .mount .result .block)
+found c = after-mount c .mount .ensures .1 (c .if1 .left) .1
 
-shown : (c : tie.After-show) → c .show .last .1 .0 ≡ pack (filled (mapAt (D (c .before .before .before .before .before .before .before .before .before)) (c .before .before .before .before .mount .result .block)) (c .before .before .before .before .mount .result .block) (recorded (D (c .before .before .before .before .before .before .before .before .before))) 0)
+shown : (c : tie.After-show) → let a = after-mount (admitted c) in let s = entered a in c .show .last .1 .0 ≡ pack (filled (mapAt (D s) (a .mount .result .block)) (a .mount .result .block) (recorded (D s)) 0)
 unfolding sectorAt
 shown c =
-    let b : ℕ = c .before .before .before .before .mount .result .block in
-    c .show .ensures ∙ ap (λ (r : ℕ). pack (filled (entriesOf (take sectorLength (drop (sectorLength * b) (D (c .before .before .before .before .before .before .before .before .before) .image)))) b r 0)) (counted (c .before .before))
+    let e = admitted c in let a = after-mount e in let s = entered a in
+    let b : ℕ = a .mount .result .block in
+    c .show .ensures ∙ ap (λ (r : ℕ). pack (filled (entriesOf (take sectorLength (drop (sectorLength * b) (D s .image)))) b r 0)) (counted e)
 
 mount-requires : tie.Need-mount-requires
 mount-requires c κs = search needs
@@ -59,34 +76,31 @@ same-length c = search needs
 
 returns : tie.Need-returns
 returns c =
-    let s = c .before .before .before .before .before .before .before .before in
+    let j = c .before .before .before in let s = entered j in
     ap (λ (a : ℕ). left a (D s .image) (D s .kinds) (L s) []) (c .refusal .ensures)
-    ∙ refused-left (D s) (L s) mount (c .before .before .before .mount .result .outcome) (c .before .before .before .mount .ensures .0) (c .before .if1 .taken)
+    ∙ refused-left (D s) (L s) mount (j .mount .result .outcome) (j .mount .ensures .0) (c .before .if1 .taken)
 
 show-requires : tie.Need-show-requires
 show-requires c κs =
-    let e = c .before in
-    let s = e .before .before .before .before .before .before .before in
-    let b : ℕ = e .before .before .mount .result .block in
+    let e = c .before in let s = start-of e in
+    let b : ℕ = after-mount e .mount .result .block in
     let t = shown-fits (D s) b (mount-done (D s) (L s) (done e) .0) (newest-table (tableAt (D s)) (recorded (D s)) b (found e)) in
     (ledger-accepted (D s) (L s) mount (done e), t .0, t .1)
 
 add-if2 : tie.Need-add-if2
 add-if2 c =
-    let e = c .before .before .before .before .before in
-    let s = e .before .before .before .before .before .before .before in
-    omega (arith, newest-below (tableAt (D s)) (recorded (D s)) (e .before .before .mount .result .block) (found e), leading-le (D s .kinds), mount-done (D s) (L s) (done e) .0 .few)
+    let e = admitted (after-show c) in let s = start-of e in
+    omega (arith, newest-below (tableAt (D s)) (recorded (D s)) (after-mount e .mount .result .block) (found e), leading-le (D s .kinds), mount-done (D s) (L s) (done e) .0 .few)
 
 same-length-2 : tie.Need-same-length-2
 same-length-2 c = search needs
 
 returns-2 : tie.Need-returns-2
 returns-2 c =
-    let e = c .before .before .before .before .before .before .before in
-    let s = e .before .before .before .before .before .before .before in
-    let b : ℕ = e .before .before .mount .result .block in
+    let h = after-show (c .before .before) in let e = admitted h in let s = start-of e in
+    let b : ℕ = after-mount e .mount .result .block in
     let clean = eq-eqb (b + 1) (recorded (D s)) (c .if2 .taken ∙ counted e) in
-    ap (λ (x : List ℕ). left 1 (D s .image) (D s .kinds) x []) (shown (c .before .before .before .before .before))
+    ap (λ (x : List ℕ). left 1 (D s .image) (D s .kinds) x []) (shown h)
     ∙ ap (λ (t : Bool). left (cleanNumber t) (D s .image) (D s .kinds) (pack (filled (mapAt (D s) b) b (recorded (D s)) 0)) []) (sym clean)
     ∙ mount-left (D s) (L s) b (done e) (found e)
 
@@ -95,11 +109,10 @@ same-length-3 c = search needs
 
 returns-3 : tie.Need-returns-3
 returns-3 c =
-    let e = c .before .before .before .before .before .before .before in
-    let s = e .before .before .before .before .before .before .before in
-    let b : ℕ = e .before .before .mount .result .block in
+    let h = after-show (c .before .before) in let e = admitted h in let s = start-of e in
+    let b : ℕ = after-mount e .mount .result .block in
     let dirty = ne-eqb (b + 1) (recorded (D s)) (λ x. c .if2 .left (x ∙ sym (counted e))) in
-    ap (λ (x : List ℕ). left 0 (D s .image) (D s .kinds) x []) (shown (c .before .before .before .before .before))
+    ap (λ (x : List ℕ). left 0 (D s .image) (D s .kinds) x []) (shown h)
     ∙ ap (λ (t : Bool). left (cleanNumber t) (D s .image) (D s .kinds) (pack (filled (mapAt (D s) b) b (recorded (D s)) 0)) []) (sym dirty)
     ∙ mount-left (D s) (L s) b (done e) (found e)
 

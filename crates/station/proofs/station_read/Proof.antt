@@ -23,6 +23,13 @@ use borrow.Author.Needs.{needs}
 use Rattle.station.proofs.station_read.Statement.{statement}
 use Rattle.station.proofs.station_read.Tie as tie
 
+-- the places of the function, each found from a later one
+abbrev entered : tie.After-read → tie.Start
+entered c = c .before .before .before .before .before .before
+
+abbrev start-of : tie.Else1 → tie.Start
+start-of c = entered (c .before)
+
 -- the disc and the ledger
 abbrev D : tie.Start → Disc
 D s = lent (s .args .image .now) (s .args .kinds .now)
@@ -33,21 +40,23 @@ L s = s .args .ledger .now
 abbrev K : tie.Start → List ℕ
 K s = s .args .block .now
 
-done : (c : tie.Else1) → outcome (D (c .before .before .before .before .before .before .before)) (L (c .before .before .before .before .before .before .before)) (read (c .before .before .before .before .before .before .before .args .v) (K (c .before .before .before .before .before .before .before))) ≡ 0
+done : (c : tie.Else1) → let s = start-of c in outcome (D s) (L s) (read (s .args .v) (K s)) ≡ 0
 done c = sym (c .before .read .ensures) ∙ c .if1 .left
 
-told : (c : tie.Else1) → ReadDone (D (c .before .before .before .before .before .before .before)) (L (c .before .before .before .before .before .before .before)) (c .before .before .before .before .before .before .before .args .v) (K (c .before .before .before .before .before .before .before))
-told c = read-done (D (c .before .before .before .before .before .before .before)) (L (c .before .before .before .before .before .before .before)) (c .before .before .before .before .before .before .before .args .v) (K (c .before .before .before .before .before .before .before)) (done c)
+told : (c : tie.Else1) → let s = start-of c in ReadDone (D s) (L s) (s .args .v) (K s)
+told c = let s = start-of c in read-done (D s) (L s) (s .args .v) (K s) (done c)
 
 -- the number is below size, and its sector is a recorded one
-names : (c : tie.Else1) → (c .before .before .before .before .before .before .before .args .v < unpack (L (c .before .before .before .before .before .before .before)) .size) × (getD (unpack (L (c .before .before .before .before .before .before .before)) .entries) (c .before .before .before .before .before .before .before .args .v) unused < recorded (D (c .before .before .before .before .before .before .before)))
-names c = entry-recorded (D (c .before .before .before .before .before .before .before)) (unpack (L (c .before .before .before .before .before .before .before))) (c .before .before .before .before .before .before .before .args .v) (told c .fit) (told c .used)
+names : (c : tie.Else1) → let s = start-of c in (s .args .v < unpack (L s) .size) × (getD (unpack (L s) .entries) (s .args .v) unused < recorded (D s))
+names c = let s = start-of c in entry-recorded (D s) (unpack (L s)) (s .args .v) (told c .fit) (told c .used)
 
-within : (c : tie.After-entry) → c .entry .result < length (D (c .before .before .before .before .before .before .before .before) .kinds)
-within c = omega (arith, c .entry .ensures, names (c .before) .1, leading-le (D (c .before .before .before .before .before .before .before .before) .kinds))
+within : (c : tie.After-entry) → c .entry .result < length (D (start-of (c .before)) .kinds)
+within c = omega (arith, c .entry .ensures, names (c .before) .1, leading-le (D (start-of (c .before)) .kinds))
 
-long : (c : tie.After-entry) → length (sectorAt (D (c .before .before .before .before .before .before .before .before)) (c .entry .result)) ≡ sectorLength
-long c = sector-long (D (c .before .before .before .before .before .before .before .before)) (sized-tells (D (c .before .before .before .before .before .before .before .before)) (sound-sized (D (c .before .before .before .before .before .before .before .before)) (told (c .before) .sound-disc))) (c .entry .result) (within c)
+long : (c : tie.After-entry) → length (sectorAt (D (start-of (c .before))) (c .entry .result)) ≡ sectorLength
+long c =
+    let e = c .before in let s = start-of e in
+    sector-long (D s) (sized-tells (D s) (sound-sized (D s) (told e .sound-disc))) (c .entry .result) (within c)
 
 read-requires : tie.Need-read-requires
 read-requires c κs = search needs
@@ -60,12 +69,12 @@ same-length c = search needs
 
 returns : tie.Need-returns
 returns c =
-    let s = c .before .before .before .before .before .before .before .before in
+    let j = c .before .before in let s = entered j in
     ap (λ (a : ℕ). left a (D s .image) (D s .kinds) (L s) (K s)) (c .refusal .ensures)
-    ∙ refused-left (D s) (L s) (read (s .args .v) (K s)) (c .before .before .read .result) (c .before .before .read .ensures) (c .before .if1 .taken)
+    ∙ refused-left (D s) (L s) (read (s .args .v) (K s)) (j .read .result) (j .read .ensures) (c .before .if1 .taken)
 
 entry-requires : tie.Need-entry-requires
-entry-requires c κs = let s = c .before .before .before .before .before .before .before in (ledger-accepted (D s) (L s) (read (s .args .v) (K s)) (done c), omega (arith, names c .0, told c .fit .few))
+entry-requires c κs = let s = start-of c in (ledger-accepted (D s) (L s) (read (s .args .v) (K s)) (done c), omega (arith, names c .0, told c .fit .few))
 
 cast-at : tie.Need-cast-at
 cast-at c = search needs
@@ -84,16 +93,12 @@ part-put-text-start c = search needs
 
 part-put-text-end : tie.Need-part-put-text-end
 part-put-text-end c =
-    let at = c .before in
-    let e = at .before in
-    let s = e .before .before .before .before .before .before .before in
+    let at = c .before in let e = at .before in let s = start-of e in
     omega (arith, sector-end (D s) (sized-tells (D s) (sound-sized (D s) (told e .sound-disc))) (at .entry .result) (within at))
 
 put-text-requires : tie.Need-put-text-requires
 put-text-requires c κs =
-    let at = c .before .before in
-    let e = at .before in
-    let s = e .before .before .before .before .before .before .before in
+    let at = c .before .before in let e = at .before in let s = start-of e in
     omega (arith, ap length (part-sector (D s) (at .entry .result)) ∙ long at, told e .block-long)
 
 same-length-2 : tie.Need-same-length-2
@@ -101,9 +106,7 @@ same-length-2 c = search needs
 
 returns-2 : tie.Need-returns-2
 returns-2 c =
-    let at = c .before .before .before .before .before in
-    let e = at .before in
-    let s = e .before .before .before .before .before .before .before in
+    let at = c .before .before .before .before .before in let e = at .before in let s = start-of e in
     let b : ℕ = at .entry .result in
     let copied = c .before .before .put-text .ensures ∙ ap (sets (K s) 0) (part-sector (D s) b) ∙ sets-all (sectorAt (D s) b) (K s) (long at ∙ sym (told e .block-long))
     ∙ ap (sectorAt (D s)) (at .entry .ensures) in

@@ -27,10 +27,11 @@ same-length c = search needs
 returns : tie.Need-returns
 unfolding seal
 returns c =
-    let start = c .before .before .before .before .before .before .before .before .before .before .before .before .before in
-    let crc = c .before .before .before .before .before .before .before .before .before .before .body-crc in
-    let put = c .before .before .before .before .before .before .before .before .put16 in
-    let sum = c .before .before .before .before .checksum in
+    let k = c .before .before .before .before in let p = k .before .before .before .before in let b = p .before .before in
+    let start = b .before .before .before in
+    let crc = b .body-crc in
+    let put = p .put16 in
+    let sum = k .checksum in
     let s : List ℕ = start .args .s .now in
     let after : put .last .0 ≡ putLe 2 s 8 (bodyCrc s) = put .ensures ∙ ap (putLe 2 s 8) (crc .ensures) in
     c .before .before .put8 .ensures ∙ ap (putLe 1 (put .last .0) 4) (sum .ensures) ∙ ap checked after

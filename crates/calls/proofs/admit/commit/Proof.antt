@@ -17,6 +17,16 @@ use borrow.Author.Needs.{needs}
 use Rattle.calls.proofs.admit.commit.Statement.{statement}
 use Rattle.calls.proofs.admit.commit.Tie as tie
 
+-- the places of the function, each found from a later one
+abbrev entered : tie.After-working → tie.Start
+entered c = c .before .before .before .before
+
+abbrev start-of : tie.Else1 → tie.Start
+start-of c = entered (c .before)
+
+abbrev admitted : tie.After-links → tie.Else1
+admitted c = c .before .before
+
 -- the disc and the ledger
 abbrev D : tie.Start → Disc
 D s = lent (s .args .image .now) (s .args .kinds .now)
@@ -24,13 +34,13 @@ D s = lent (s .args .image .now) (s .args .kinds .now)
 abbrev L : tie.Start → List ℕ
 L s = s .args .ledger .now
 
-none : (c : tie.Else1) → first (workingTests (D (c .before .before .before .before .before)) (L (c .before .before .before .before .before)) (ledgerLent (L (c .before .before .before .before .before)) && true)) ≡ 0
+none : (c : tie.Else1) → let s = start-of c in first (workingTests (D s) (L s) (ledgerLent (L s) && true)) ≡ 0
 none c = sym (c .before .working .ensures) ∙ c .if1 .left
 
-admits : (c : tie.Else1) → Admitted (D (c .before .before .before .before .before)) (L (c .before .before .before .before .before)) true
-admits c = working-admits (D (c .before .before .before .before .before)) (L (c .before .before .before .before .before)) true (none c)
+admits : (c : tie.Else1) → let s = start-of c in Admitted (D s) (L s) true
+admits c = let s = start-of c in working-admits (D s) (L s) true (none c)
 
-own : (c : tie.After-recorded) → c .recorded .result ≡ recorded (D (c .before .before .before .before .before .before))
+own : (c : tie.After-recorded) → c .recorded .result ≡ recorded (D (start-of (c .before)))
 own c = c .recorded .ensures ∙ admits (c .before) .fit .same-recorded
 
 working-requires : tie.Need-working-requires
@@ -38,8 +48,8 @@ working-requires c κs = search needs
 
 returns : tie.Need-returns
 returns c =
-    let s = c .before .before .before .before .before in
-    let e = c .before .working .ensures in
+    let a = c .before in let s = entered a in
+    let e = a .working .ensures in
     e ∙ sym (commit-stopped (D s) (L s) (λ z. c .if1 .taken (e ∙ z)))
 
 cast-blank : tie.Need-cast-blank
@@ -49,26 +59,25 @@ recorded-requires : tie.Need-recorded-requires
 recorded-requires c κs = admits c .ledger-long
 
 sub-blank : tie.Need-sub-blank
-sub-blank c = omega (arith, own c, leading-le (D (c .before .before .before .before .before .before) .kinds))
+sub-blank c = omega (arith, own c, leading-le (D (start-of (c .before)) .kinds))
 
 links-requires : tie.Need-links-requires
 links-requires c κs = admits (c .before) .ledger-long
 
 add-if2 : tie.Need-add-if2
-add-if2 c = omega (arith, c .links .ensures, links-few (unpack (L (c .before .before .before .before .before .before .before))))
+add-if2 c = omega (arith, c .links .ensures, links-few (unpack (L (start-of (admitted c)))))
 
 returns-2 : tie.Need-returns-2
 returns-2 c =
-    let s = c .before .before .before .before .before .before .before .before in
-    let blank = own (c .before .before) in
-    let wrong : ltb (blanks (D s)) (links (unpack (L s)) + 1) ≡ true = lt-ltb (blanks (D s)) (links (unpack (L s)) + 1) (omega (arith, own (c .before .before), c .before .links .ensures, c .if2 .taken)) in
-    sym (commit-tested (D s) (L s) (none (c .before .before .before)) ∙ stop 14 (ltb (blanks (D s)) (links (unpack (L s)) + 1)) [] wrong)
+    let n = c .before in let e = admitted n in let s = start-of e in
+    let wrong : ltb (blanks (D s)) (links (unpack (L s)) + 1) ≡ true = lt-ltb (blanks (D s)) (links (unpack (L s)) + 1) (omega (arith, own (n .before), n .links .ensures, c .if2 .taken)) in
+    sym (commit-tested (D s) (L s) (none e) ∙ stop 14 (ltb (blanks (D s)) (links (unpack (L s)) + 1)) [] wrong)
 
 returns-3 : tie.Need-returns-3
 returns-3 c =
-    let s = c .before .before .before .before .before .before .before .before in
-    let right : ltb (blanks (D s)) (links (unpack (L s)) + 1) ≡ false = le-ltb (blanks (D s)) (links (unpack (L s)) + 1) (omega (arith, own (c .before .before), c .before .links .ensures, c .if2 .left)) in
-    sym (commit-tested (D s) (L s) (none (c .before .before .before)) ∙ skip 14 (ltb (blanks (D s)) (links (unpack (L s)) + 1)) [] right ∙ none-left)
+    let n = c .before in let e = admitted n in let s = start-of e in
+    let right : ltb (blanks (D s)) (links (unpack (L s)) + 1) ≡ false = le-ltb (blanks (D s)) (links (unpack (L s)) + 1) (omega (arith, own (n .before), n .links .ensures, c .if2 .left)) in
+    sym (commit-tested (D s) (L s) (none e) ∙ skip 14 (ltb (blanks (D s)) (links (unpack (L s)) + 1)) [] right ∙ none-left)
 
 pub commit-spec : {M : Type 1} → statement M
 commit-spec =

@@ -18,6 +18,16 @@ use borrow.Author.Needs.{needs}
 use Rattle.calls.proofs.admit.read.Statement.{statement}
 use Rattle.calls.proofs.admit.read.Tie as tie
 
+-- the places of the function, each found from a later one
+abbrev entered : tie.After-fitting → tie.Start
+entered c = c .before .before .before .before .before
+
+abbrev start-of : tie.Else1 → tie.Start
+start-of c = entered (c .before)
+
+abbrev admitted : tie.Else2 → tie.Else1
+admitted c = c .before .before
+
 -- the disc and the ledger
 abbrev D : tie.Start → Disc
 D s = lent (s .args .image .now) (s .args .kinds .now)
@@ -28,26 +38,28 @@ L s = s .args .ledger .now
 abbrev whole : tie.Start → Bool
 whole s = eqb (length (s .args .block .now)) sectorLength
 
-none : (c : tie.Else1) → first (fittingTests (D (c .before .before .before .before .before .before)) (L (c .before .before .before .before .before .before)) (ledgerLent (L (c .before .before .before .before .before .before)) && whole (c .before .before .before .before .before .before))) ≡ 0
+none : (c : tie.Else1) → let s = start-of c in first (fittingTests (D s) (L s) (ledgerLent (L s) && whole s)) ≡ 0
 none c = sym (c .before .fitting .ensures) ∙ c .if1 .left
 
-admits : (c : tie.Else1) → Admitted (D (c .before .before .before .before .before .before)) (L (c .before .before .before .before .before .before)) (whole (c .before .before .before .before .before .before))
-admits c = fitting-admits (D (c .before .before .before .before .before .before)) (L (c .before .before .before .before .before .before)) (whole (c .before .before .before .before .before .before)) (none c)
+admits : (c : tie.Else1) → let s = start-of c in Admitted (D s) (L s) (whole s)
+admits c = let s = start-of c in fitting-admits (D s) (L s) (whole s) (none c)
 
-used : (c : tie.Else2) → notInUse (unpack (L (c .before .before .before .before .before .before .before .before))) (c .before .before .before .before .before .before .before .before .args .n) ≡ false
+used : (c : tie.Else2) → let s = start-of (admitted c) in notInUse (unpack (L s)) (s .args .n) ≡ false
 used c = sym (c .before .not-in-use .ensures) ∙ c .if2 .left
 
 -- the number is below size, and its sector is a recorded one
-names : (c : tie.Else2) → (c .before .before .before .before .before .before .before .before .args .n < unpack (L (c .before .before .before .before .before .before .before .before)) .size) × (getD (unpack (L (c .before .before .before .before .before .before .before .before)) .entries) (c .before .before .before .before .before .before .before .before .args .n) unused < recorded (D (c .before .before .before .before .before .before .before .before)))
-names c = entry-recorded (D (c .before .before .before .before .before .before .before .before)) (unpack (L (c .before .before .before .before .before .before .before .before))) (c .before .before .before .before .before .before .before .before .args .n) (admits (c .before .before) .fit) (used c)
+names : (c : tie.Else2) → let s = start-of (admitted c) in (s .args .n < unpack (L s) .size) × (getD (unpack (L s) .entries) (s .args .n) unused < recorded (D s))
+names c =
+    let e = admitted c in let s = start-of e in
+    entry-recorded (D s) (unpack (L s)) (s .args .n) (admits e .fit) (used c)
 
 fitting-requires : tie.Need-fitting-requires
 fitting-requires c κs = search needs
 
 returns : tie.Need-returns
 returns c =
-    let s = c .before .before .before .before .before .before in
-    let e = c .before .fitting .ensures in
+    let a = c .before in let s = entered a in
+    let e = a .fitting .ensures in
     e ∙ sym (read-stopped (D s) (L s) (s .args .n) (s .args .block .now) (λ z. c .if1 .taken (e ∙ z)))
 
 not-in-use-requires : tie.Need-not-in-use-requires
@@ -55,11 +67,11 @@ not-in-use-requires c κs = (admits c .ledger-long, admits c .fit .few)
 
 returns-2 : tie.Need-returns-2
 returns-2 c =
-    let s = c .before .before .before .before .before .before .before .before in
-    sym (read-10 (D s) (L s) (s .args .n) (s .args .block .now) (none (c .before .before)) (sym (c .before .not-in-use .ensures) ∙ c .if2 .taken))
+    let e = c .before .before in let s = start-of e in
+    sym (read-10 (D s) (L s) (s .args .n) (s .args .block .now) (none e) (sym (c .before .not-in-use .ensures) ∙ c .if2 .taken))
 
 entry-requires : tie.Need-entry-requires
-entry-requires c κs = (admits (c .before .before) .ledger-long, omega (arith, names c .0, admits (c .before .before) .fit .few))
+entry-requires c κs = let e = admitted c in (admits e .ledger-long, omega (arith, names c .0, admits e .fit .few))
 
 cast-b : tie.Need-cast-b
 cast-b c = search needs
@@ -67,19 +79,17 @@ cast-b c = search needs
 shared-slice-read-if3 : tie.Need-shared-slice-read-if3
 shared-slice-read-if3 c =
     let e = c .before .before in
-    omega (arith, c .before .entry .ensures, names e .1, leading-le (D (e .before .before .before .before .before .before .before .before) .kinds))
+    omega (arith, c .before .entry .ensures, names e .1, leading-le (D (start-of (admitted e)) .kinds))
 
 returns-3 : tie.Need-returns-3
 returns-3 c =
-    let e = c .before .before .before in
-    let s = e .before .before .before .before .before .before .before .before in
-    sym (read-11 (D s) (L s) (s .args .n) (s .args .block .now) (none (e .before .before)) (used e) (λ k. c .if3 .taken (ap (kindAt (D s)) (c .before .before .entry .ensures) ∙ k)))
+    let b = c .before .before in let e = b .before in let s = start-of (admitted e) in
+    sym (read-11 (D s) (L s) (s .args .n) (s .args .block .now) (none (admitted e)) (used e) (λ k. c .if3 .taken (ap (kindAt (D s)) (b .entry .ensures) ∙ k)))
 
 returns-4 : tie.Need-returns-4
 returns-4 c =
-    let e = c .before .before .before in
-    let s = e .before .before .before .before .before .before .before .before in
-    sym (read-0 (D s) (L s) (s .args .n) (s .args .block .now) (none (e .before .before)) (used e) (ap (kindAt (D s)) (sym (c .before .before .entry .ensures)) ∙ c .if3 .left))
+    let b = c .before .before in let e = b .before in let s = start-of (admitted e) in
+    sym (read-0 (D s) (L s) (s .args .n) (s .args .block .now) (none (admitted e)) (used e) (ap (kindAt (D s)) (sym (b .entry .ensures)) ∙ c .if3 .left))
 
 pub read-spec : {M : Type 1} → statement M
 read-spec =

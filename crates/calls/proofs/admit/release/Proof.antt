@@ -13,6 +13,13 @@ use borrow.Author.Needs.{needs}
 use Rattle.calls.proofs.admit.release.Statement.{statement}
 use Rattle.calls.proofs.admit.release.Tie as tie
 
+-- the places of the function, each found from a later one
+abbrev entered : tie.After-working → tie.Start
+entered c = c .before .before .before .before
+
+abbrev start-of : tie.Else1 → tie.Start
+start-of c = entered (c .before)
+
 -- the disc and the ledger
 abbrev D : tie.Start → Disc
 D s = lent (s .args .image .now) (s .args .kinds .now)
@@ -20,19 +27,19 @@ D s = lent (s .args .image .now) (s .args .kinds .now)
 abbrev L : tie.Start → List ℕ
 L s = s .args .ledger .now
 
-none : (c : tie.Else1) → first (workingTests (D (c .before .before .before .before .before)) (L (c .before .before .before .before .before)) (ledgerLent (L (c .before .before .before .before .before)) && true)) ≡ 0
+none : (c : tie.Else1) → let s = start-of c in first (workingTests (D s) (L s) (ledgerLent (L s) && true)) ≡ 0
 none c = sym (c .before .working .ensures) ∙ c .if1 .left
 
-admits : (c : tie.Else1) → Admitted (D (c .before .before .before .before .before)) (L (c .before .before .before .before .before)) true
-admits c = working-admits (D (c .before .before .before .before .before)) (L (c .before .before .before .before .before)) true (none c)
+admits : (c : tie.Else1) → let s = start-of c in Admitted (D s) (L s) true
+admits c = let s = start-of c in working-admits (D s) (L s) true (none c)
 
 working-requires : tie.Need-working-requires
 working-requires c κs = search needs
 
 returns : tie.Need-returns
 returns c =
-    let s = c .before .before .before .before .before in
-    let e = c .before .working .ensures in
+    let a = c .before in let s = entered a in
+    let e = a .working .ensures in
     e ∙ sym (release-stopped (D s) (L s) (s .args .n) (λ z. c .if1 .taken (e ∙ z)))
 
 not-in-use-requires : tie.Need-not-in-use-requires
@@ -40,15 +47,15 @@ not-in-use-requires c κs = (admits c .ledger-long, admits c .fit .few)
 
 returns-2 : tie.Need-returns-2
 returns-2 c =
-    let s = c .before .before .before .before .before .before .before in
+    let e = c .before .before in let s = start-of e in
     let wrong : notInUse (unpack (L s)) (s .args .n) ≡ true = sym (c .before .not-in-use .ensures) ∙ c .if2 .taken in
-    sym (release-tested (D s) (L s) (s .args .n) (none (c .before .before)) ∙ stop 10 (notInUse (unpack (L s)) (s .args .n)) [] wrong)
+    sym (release-tested (D s) (L s) (s .args .n) (none e) ∙ stop 10 (notInUse (unpack (L s)) (s .args .n)) [] wrong)
 
 returns-3 : tie.Need-returns-3
 returns-3 c =
-    let s = c .before .before .before .before .before .before .before in
+    let e = c .before .before in let s = start-of e in
     let right : notInUse (unpack (L s)) (s .args .n) ≡ false = sym (c .before .not-in-use .ensures) ∙ c .if2 .left in
-    sym (release-tested (D s) (L s) (s .args .n) (none (c .before .before)) ∙ skip 10 (notInUse (unpack (L s)) (s .args .n)) [] right ∙ none-left)
+    sym (release-tested (D s) (L s) (s .args .n) (none e) ∙ skip 10 (notInUse (unpack (L s)) (s .args .n)) [] right ∙ none-left)
 
 pub release-spec : {M : Type 1} → statement M
 release-spec =

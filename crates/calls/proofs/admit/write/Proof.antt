@@ -19,6 +19,22 @@ use borrow.Author.Needs.{needs}
 use Rattle.calls.proofs.admit.write.Statement.{statement}
 use Rattle.calls.proofs.admit.write.Tie as tie
 
+-- the places of the function, each found from a later one
+abbrev entered : tie.After-working → tie.Start
+entered c = c .before .before .before .before .before
+
+abbrev start-of : tie.Else1 → tie.Start
+start-of c = entered (c .before)
+
+abbrev before-size : tie.Else2 → tie.Else1
+before-size c = c .before .before
+
+abbrev in-range : tie.After-recorded → tie.Else2
+in-range c = c .before .before .before
+
+abbrev admitted : tie.After-recorded → tie.Else1
+admitted c = before-size (in-range c)
+
 -- the disc and the ledger
 abbrev D : tie.Start → Disc
 D s = lent (s .args .image .now) (s .args .kinds .now)
@@ -29,38 +45,38 @@ L s = s .args .ledger .now
 abbrev whole : tie.Start → Bool
 whole s = eqb (length (s .args .block .now)) sectorLength
 
-none : (c : tie.Else1) → first (workingTests (D (c .before .before .before .before .before .before)) (L (c .before .before .before .before .before .before)) (ledgerLent (L (c .before .before .before .before .before .before)) && whole (c .before .before .before .before .before .before))) ≡ 0
+none : (c : tie.Else1) → let s = start-of c in first (workingTests (D s) (L s) (ledgerLent (L s) && whole s)) ≡ 0
 none c = sym (c .before .working .ensures) ∙ c .if1 .left
 
-admits : (c : tie.Else1) → Admitted (D (c .before .before .before .before .before .before)) (L (c .before .before .before .before .before .before)) (whole (c .before .before .before .before .before .before))
-admits c = working-admits (D (c .before .before .before .before .before .before)) (L (c .before .before .before .before .before .before)) (whole (c .before .before .before .before .before .before)) (none c)
+admits : (c : tie.Else1) → let s = start-of c in Admitted (D s) (L s) (whole s)
+admits c = let s = start-of c in working-admits (D s) (L s) (whole s) (none c)
 
-no-gap : (c : tie.Else2) → c .before .before .before .before .before .before .before .before .args .n ≤ unpack (L (c .before .before .before .before .before .before .before .before)) .size
+no-gap : (c : tie.Else2) → let s = start-of (before-size c) in s .args .n ≤ unpack (L s) .size
 no-gap c = omega (arith, c .before .size .ensures, c .if2 .left)
 
-own : (c : tie.After-recorded) → c .recorded .result ≡ recorded (D (c .before .before .before .before .before .before .before .before .before .before .before))
-own c = c .recorded .ensures ∙ admits (c .before .before .before .before .before) .fit .same-recorded
+own : (c : tie.After-recorded) → c .recorded .result ≡ recorded (D (start-of (admitted c)))
+own c = c .recorded .ensures ∙ admits (admitted c) .fit .same-recorded
 
 -- there is room, and only the block is left to test
-tested : (c : tie.Else4) → outcome (D (c .before .before .before .before .before .before .before .before .before .before .before .before)) (L (c .before .before .before .before .before .before .before .before .before .before .before .before)) (write (c .before .before .before .before .before .before .before .before .before .before .before .before .args .n) (c .before .before .before .before .before .before .before .before .before .before .before .before .args .block .now))
-    ≡ first (test 15 (isTable 1 (c .before .before .before .before .before .before .before .before .before .before .before .before .args .block .now) (target (unpack (L (c .before .before .before .before .before .before .before .before .before .before .before .before))))) ∷ [])
+tested : (c : tie.Else4) → let s = start-of (admitted (c .before)) in outcome (D s) (L s) (write (s .args .n) (s .args .block .now))
+    ≡ first (test 15 (isTable 1 (s .args .block .now) (target (unpack (L s)))) ∷ [])
 tested c =
-    let s = c .before .before .before .before .before .before .before .before .before .before .before .before in
-    write-tested (D s) (L s) (s .args .n) (s .args .block .now) (none (c .before .before .before .before .before .before)) (no-gap (c .before .before .before .before)) (c .before .before .before .if3 .left)
-    (omega (arith, own (c .before), c .before .before .links .ensures, c .if4 .left))
+    let r = c .before in let g = in-range r in let e = before-size g in let s = start-of e in
+    write-tested (D s) (L s) (s .args .n) (s .args .block .now) (none e) (no-gap g) (r .before .before .if3 .left)
+    (omega (arith, own r, r .before .links .ensures, c .if4 .left))
 
-judged : (c : tie.After-is-table) → c .is-table .result ≡ isTable 1 (c .before .before .before .before .before .before .before .before .before .before .before .before .before .args .block .now) (target (unpack (L (c .before .before .before .before .before .before .before .before .before .before .before .before .before))))
+judged : (c : tie.After-is-table) → let s = start-of (admitted (c .before .before)) in c .is-table .result ≡ isTable 1 (s .args .block .now) (target (unpack (L s)))
 judged c =
-    let s = c .before .before .before .before .before .before .before .before .before .before .before .before .before in
-    c .is-table .ensures ∙ ap₂ (λ (r k : ℕ). isTable 1 (s .args .block .now) (r + k)) (c .before .before .recorded .ensures) (c .before .before .before .links .ensures)
+    let r = c .before .before in let s = start-of (admitted r) in
+    c .is-table .ensures ∙ ap₂ (λ (r k : ℕ). isTable 1 (s .args .block .now) (r + k)) (r .recorded .ensures) (r .before .links .ensures)
 
 working-requires : tie.Need-working-requires
 working-requires c κs = search needs
 
 returns : tie.Need-returns
 returns c =
-    let s = c .before .before .before .before .before .before in
-    let e = c .before .working .ensures in
+    let a = c .before in let s = entered a in
+    let e = a .working .ensures in
     e ∙ sym (write-stopped (D s) (L s) (s .args .n) (s .args .block .now) (λ z. c .if1 .taken (e ∙ z)))
 
 size-requires : tie.Need-size-requires
@@ -68,56 +84,57 @@ size-requires c κs = admits c .ledger-long
 
 returns-2 : tie.Need-returns-2
 returns-2 c =
-    let s = c .before .before .before .before .before .before .before .before in
-    sym (write-12 (D s) (L s) (s .args .n) (s .args .block .now) (none (c .before .before)) (omega (arith, c .before .size .ensures, c .if2 .taken)))
+    let e = c .before .before in let s = start-of e in
+    sym (write-12 (D s) (L s) (s .args .n) (s .args .block .now) (none e) (omega (arith, c .before .size .ensures, c .if2 .taken)))
 
 returns-3 : tie.Need-returns-3
 returns-3 c =
-    let s = c .before .before .before .before .before .before .before .before .before in
-    sym (write-13 (D s) (L s) (s .args .n) (s .args .block .now) (none (c .before .before .before)) (no-gap (c .before)) (c .if3 .taken))
+    let g = c .before in let e = before-size g in let s = start-of e in
+    sym (write-13 (D s) (L s) (s .args .n) (s .args .block .now) (none e) (no-gap g) (c .if3 .taken))
 
 links-requires : tie.Need-links-requires
-links-requires c κs = admits (c .before .before .before) .ledger-long
+links-requires c κs = admits (before-size (c .before)) .ledger-long
 
 recorded-requires : tie.Need-recorded-requires
-recorded-requires c κs = admits (c .before .before .before .before) .ledger-long
+recorded-requires c κs = admits (before-size (c .before .before)) .ledger-long
 
 cast-blank : tie.Need-cast-blank
-cast-blank c = omega (arith, admits (c .before .before .before .before .before) .sound-disc .few)
+cast-blank c = omega (arith, admits (admitted c) .sound-disc .few)
 
 sub-blank : tie.Need-sub-blank
-sub-blank c = omega (arith, own c, leading-le (D (c .before .before .before .before .before .before .before .before .before .before .before) .kinds))
+sub-blank c = omega (arith, own c, leading-le (D (start-of (admitted c)) .kinds))
 
 add-if4 : tie.Need-add-if4
-add-if4 c = omega (arith, c .before .links .ensures, links-few (unpack (L (c .before .before .before .before .before .before .before .before .before .before .before))))
+add-if4 c = omega (arith, c .before .links .ensures, links-few (unpack (L (start-of (admitted c)))))
 
 add-if4-2 : tie.Need-add-if4-2
-add-if4-2 c = omega (arith, c .before .links .ensures, links-few (unpack (L (c .before .before .before .before .before .before .before .before .before .before .before))))
+add-if4-2 c = omega (arith, c .before .links .ensures, links-few (unpack (L (start-of (admitted c)))))
 
 returns-4 : tie.Need-returns-4
 returns-4 c =
-    let s = c .before .before .before .before .before .before .before .before .before .before .before .before in
-    let e = c .before .before .before .before in
-    sym (write-14 (D s) (L s) (s .args .n) (s .args .block .now) (none (c .before .before .before .before .before .before)) (no-gap e) (c .before .before .before .if3 .left)
-    (omega (arith, own (c .before), c .before .before .links .ensures, c .if4 .taken)))
+    let r = c .before in let g = in-range r in let e = before-size g in let s = start-of e in
+    sym (write-14 (D s) (L s) (s .args .n) (s .args .block .now) (none e) (no-gap g) (r .before .before .if3 .left)
+    (omega (arith, own r, r .before .links .ensures, c .if4 .taken)))
 
 add-is-table : tie.Need-add-is-table
-add-is-table c = omega (arith, own (c .before), leading-le (D (c .before .before .before .before .before .before .before .before .before .before .before .before) .kinds), admits (c .before .before .before .before .before .before) .sound-disc .few, c .before .before .links .ensures, links-few (unpack (L (c .before .before .before .before .before .before .before .before .before .before .before .before))))
+add-is-table c =
+    let r = c .before in let e = admitted r in let s = start-of e in
+    omega (arith, own r, leading-le (D s .kinds), admits e .sound-disc .few, r .before .links .ensures, links-few (unpack (L s)))
 
 is-table-requires : tie.Need-is-table-requires
 is-table-requires c κs = search needs
 
 returns-5 : tie.Need-returns-5
 returns-5 c =
-    let s = c .before .before .before .before .before .before .before .before .before .before .before .before .before .before in
+    let t = c .before .before in let s = start-of (admitted (t .before)) in
     let wrong : isTable 1 (s .args .block .now) (target (unpack (L s))) ≡ true = sym (judged (c .before)) ∙ c .if5 .taken in
-    sym (tested (c .before .before) ∙ stop 15 (isTable 1 (s .args .block .now) (target (unpack (L s)))) [] wrong)
+    sym (tested t ∙ stop 15 (isTable 1 (s .args .block .now) (target (unpack (L s)))) [] wrong)
 
 returns-6 : tie.Need-returns-6
 returns-6 c =
-    let s = c .before .before .before .before .before .before .before .before .before .before .before .before .before .before in
+    let t = c .before .before in let s = start-of (admitted (t .before)) in
     let right : isTable 1 (s .args .block .now) (target (unpack (L s))) ≡ false = sym (judged (c .before)) ∙ c .if5 .left in
-    sym (tested (c .before .before) ∙ skip 15 (isTable 1 (s .args .block .now) (target (unpack (L s)))) [] right ∙ none-left)
+    sym (tested t ∙ skip 15 (isTable 1 (s .args .block .now) (target (unpack (L s)))) [] right ∙ none-left)
 
 pub write-spec : {M : Type 1} → statement M
 write-spec =

@@ -12,13 +12,17 @@ use borrow.Author.Needs.{needs}
 use Rattle.calls.proofs.basic.links.Statement.{statement}
 use Rattle.calls.proofs.basic.links.Tie as tie
 
+-- the entry of the function
+abbrev entered : tie.After-mode → tie.Start
+entered c = c .before .before
+
 mode-requires : tie.Need-mode-requires
 mode-requires c κs = search needs
 
 returns : tie.Need-returns
 unfolding links
 returns c =
-    let v : Volume = unpack (c .before .before .before .args .ledger .now) in
+    let v : Volume = unpack (entered (c .before) .args .ledger .now) in
     let other : eqb (v .mode) 0 ≡ false = ne-eqb (v .mode) 0 (λ e. c .if1 .taken (c .before .mode .ensures ∙ e)) in
     rw other
 
@@ -28,17 +32,19 @@ recorded-requires c κs = search needs
 returns-2 : tie.Need-returns-2
 unfolding links
 returns-2 c =
-    let v : Volume = unpack (c .before .before .before .before .before .args .ledger .now) in
+    let e = c .before .before in let m = e .before in
+    let v : Volume = unpack (entered m .args .ledger .now) in
     let none : v .recorded ≡ 0 = sym (c .before .recorded .ensures) ∙ c .if2 .taken in
-    let idle : eqb (v .mode) 0 ≡ true = eq-eqb (v .mode) 0 (sym (c .before .before .before .mode .ensures) ∙ c .before .before .if1 .left) in
+    let idle : eqb (v .mode) 0 ≡ true = eq-eqb (v .mode) 0 (sym (m .mode .ensures) ∙ e .if1 .left) in
     rw (idle, le-ltb 0 (v .recorded) (omega (arith, none)))
 
 returns-3 : tie.Need-returns-3
 unfolding links
 returns-3 c =
-    let v : Volume = unpack (c .before .before .before .before .before .args .ledger .now) in
+    let e = c .before .before in let m = e .before in
+    let v : Volume = unpack (entered m .args .ledger .now) in
     let some : (v .recorded ≡ 0 → ⊥) = λ e. c .if2 .left (c .before .recorded .ensures ∙ e) in
-    let idle : eqb (v .mode) 0 ≡ true = eq-eqb (v .mode) 0 (sym (c .before .before .before .mode .ensures) ∙ c .before .before .if1 .left) in
+    let idle : eqb (v .mode) 0 ≡ true = eq-eqb (v .mode) 0 (sym (m .mode .ensures) ∙ e .if1 .left) in
     rw (idle, lt-ltb 0 (v .recorded) (omega (arith, some)))
 
 pub links-spec : {M : Type 1} → statement M

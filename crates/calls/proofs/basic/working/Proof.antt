@@ -12,6 +12,13 @@ use borrow.Author.Needs.{needs}
 use Rattle.calls.proofs.basic.working.Statement.{statement}
 use Rattle.calls.proofs.basic.working.Tie as tie
 
+-- the places of the function, each found from a later one
+abbrev entered : tie.After-fitting → tie.Start
+entered c = c .before .before .before .before
+
+abbrev start-of : tie.Else1 → tie.Start
+start-of c = entered (c .before)
+
 -- the disc and the ledger
 abbrev D : tie.Start → Disc
 D s = lent (s .args .image .now) (s .args .kinds .now)
@@ -22,7 +29,7 @@ L s = s .args .ledger .now
 abbrev lengths : tie.Start → Bool
 lengths s = ledgerLent (L s) && s .args .whole
 
-none : (c : tie.Else1) → first (fittingTests (D (c .before .before .before .before .before)) (L (c .before .before .before .before .before)) (lengths (c .before .before .before .before .before))) ≡ 0
+none : (c : tie.Else1) → let s = start-of c in first (fittingTests (D s) (L s) (lengths s)) ≡ 0
 none c = sym (c .before .fitting .ensures) ∙ c .if1 .left
 
 fitting-requires : tie.Need-fitting-requires
@@ -30,22 +37,22 @@ fitting-requires c κs = search needs
 
 returns : tie.Need-returns
 returns c =
-    let s = c .before .before .before .before .before in
-    let e = c .before .fitting .ensures in
+    let a = c .before in let s = entered a in
+    let e = a .fitting .ensures in
     e ∙ sym (working-stopped (D s) (L s) (lengths s) (λ z. c .if1 .taken (e ∙ z)))
 
 mode-requires : tie.Need-mode-requires
-mode-requires c κs = let s = c .before .before .before .before .before in fitting-admits (D s) (L s) (s .args .whole) (none c) .ledger-long
+mode-requires c κs = let s = start-of c in fitting-admits (D s) (L s) (s .args .whole) (none c) .ledger-long
 
 returns-2 : tie.Need-returns-2
 returns-2 c =
-    let s = c .before .before .before .before .before .before .before in
-    sym (working-5 (D s) (L s) (lengths s) (none (c .before .before)) (sym (c .before .mode .ensures) ∙ c .if2 .taken))
+    let e = c .before .before in let s = start-of e in
+    sym (working-5 (D s) (L s) (lengths s) (none e) (sym (c .before .mode .ensures) ∙ c .if2 .taken))
 
 returns-3 : tie.Need-returns-3
 returns-3 c =
-    let s = c .before .before .before .before .before .before .before in
-    sym (working-0 (D s) (L s) (lengths s) (none (c .before .before)) (λ e. c .if2 .left (c .before .mode .ensures ∙ e)))
+    let e = c .before .before in let s = start-of e in
+    sym (working-0 (D s) (L s) (lengths s) (none e) (λ e. c .if2 .left (c .before .mode .ensures ∙ e)))
 
 pub working-spec : {M : Type 1} → statement M
 working-spec = tie.close (tie.spec fitting-requires returns mode-requires returns-2 returns-3)

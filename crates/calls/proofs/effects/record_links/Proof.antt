@@ -32,10 +32,11 @@ same-length c = search needs
 
 returns : tie.Need-returns
 returns c =
-    let kinds : List ℕ = c .before .before .before .before .before .before .before .before .args .kinds .now in
-    let own = c .before .before .before .before .recorded .ensures in
-    let few = c .before .before .before .before .before .links .ensures in
-    (ap₂ _+_ own few, c .before .before .links2 .ensures ∙ ap₂ (λ (r n : ℕ). puts (lent [] kinds) r (replicate n link) .kinds) own few)
+    let l = c .before .before in let r = l .before .before in let n = r .before in
+    let kinds : List ℕ = n .before .before .before .args .kinds .now in
+    let own = r .recorded .ensures in
+    let few = n .links .ensures in
+    (ap₂ _+_ own few, l .links2 .ensures ∙ ap₂ (λ (r n : ℕ). puts (lent [] kinds) r (replicate n link) .kinds) own few)
 
 pub record-links-spec : {M : Type 1} → statement M
 record-links-spec =

@@ -16,7 +16,11 @@ use borrow.Author.Needs.{needs}
 use Rattle.calls.proofs.effects.record_table.Statement.{statement}
 use Rattle.calls.proofs.effects.record_table.Tie as tie
 
-entries-long : (c : tie.After-entries2) → length (c .before .before .before .before .before .before .args .state .entries) ≡ 458
+-- the entry of the function
+abbrev start-of : tie.After-entries2 → tie.Start
+start-of c = c .before .before .before .before .before .before
+
+entries-long : (c : tie.After-entries2) → length (start-of c .args .state .entries) ≡ 458
 entries-long c = search needs
 
 mul-at : tie.Need-mul-at
@@ -45,7 +49,7 @@ part-record-start-2 c = search needs
 
 part-record-end-2 : tie.Need-part-record-end-2
 part-record-end-2 c =
-    let s = c .before .before .before .before .before .before in
+    let s = start-of c in
     omega (arith, entries-long c, s .pre .2)
 
 record-requires : tie.Need-record-requires
@@ -62,15 +66,14 @@ same-length-2 c = search needs
 
 returns : tie.Need-returns
 returns c =
-    let s = c .before .before .before .before .before .before .before .before .before .before in
-    let a = s .args in
+    let r = c .before .before in let e = r .before .before in let s = start-of e in let a = s .args in
     let image : List ℕ = a .image .now in
     let at : ℕ = sectorLength * a .b in
     let v : Volume = a .state in
     let size : v .size - 0 ≡ v .size = omega arith in
-    let made : c .before .before .«record» .last .0 ≡ sector (mapOf v) (v .last) (a .b) =
-    c .before .before .«record» .ensures ∙ ap (λ (k : ℕ). sector (take k (v .entries)) (v .last) (a .b)) size in
-    let few : length (mapOf v) ≤ limit = rw (length-take-le (v .size) (v .entries) (omega (arith, entries-long (c .before .before .before .before), s .pre .2))) (s .pre .2) in
+    let made : r .«record» .last .0 ≡ sector (mapOf v) (v .last) (a .b) =
+    r .«record» .ensures ∙ ap (λ (k : ℕ). sector (take k (v .entries)) (v .last) (a .b)) size in
+    let few : length (mapOf v) ≤ limit = rw (length-take-le (v .size) (v .entries) (omega (arith, entries-long e, s .pre .2))) (s .pre .2) in
     let small : a .b < 4294967296 = omega (arith, s .pre .1) in
     let long : (at + sectorLength) - at ≡ sectorLength = omega arith in (
       ap₂ (λ (k : ℕ) (l : List ℕ). take at image ++ (l ++ drop k (drop at image))) long made

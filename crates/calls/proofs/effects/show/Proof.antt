@@ -12,6 +12,10 @@ use borrow.Author.Needs.{needs}
 use Rattle.calls.proofs.effects.show.Statement.{statement}
 use Rattle.calls.proofs.effects.show.Tie as tie
 
+-- the entry of the function
+abbrev start-of : tie.After-filled-arg → tie.Start
+start-of c = c .before .before .before .before
+
 part : (image : List ℕ) (at : ℕ) → take ((at + sectorLength) - at) (drop at image) ≡ take sectorLength (drop at image)
 part image at =
     let long : (at + sectorLength) - at ≡ sectorLength = omega arith in
@@ -37,7 +41,7 @@ part-filled-end c = search needs
 
 filled-requires : tie.Need-filled-requires
 filled-requires c κs =
-    let s = c .before .before .before .before in
+    let s = start-of c in
     let image : List ℕ = s .args .image .now in
     let at : ℕ = sectorLength * s .args .plan .block in
     let same = part image at in
@@ -51,9 +55,9 @@ same-length c = search needs
 
 returns : tie.Need-returns
 returns c =
-    let a = c .before .before .before .before .before .before .before .before .before .args in
+    let t = c .before .before in let f = t .before .before in let a = start-of (f .before) .args in
     let at : ℕ = sectorLength * a .plan .block in
-    c .before .before .store .ensures ∙ ap pack (c .before .before .before .before .filled .ensures ∙ ap (λ (l : List ℕ). filled (entriesOf l) (a .plan .block) (a .plan .recorded) (a .mode)) (part (a .image .now) at))
+    t .store .ensures ∙ ap pack (f .filled .ensures ∙ ap (λ (l : List ℕ). filled (entriesOf l) (a .plan .block) (a .plan .recorded) (a .mode)) (part (a .image .now) at))
 
 pub show-spec : {M : Type 1} → statement M
 show-spec =

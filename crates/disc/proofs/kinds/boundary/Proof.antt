@@ -37,8 +37,9 @@ loop-less c = omega arith
 
 loop-again : tie.Need-loop-again Inv-loop μ-loop
 loop-again c =
-    let ks : List ℕ = c .before .before .before .before .args .kinds .now in
-    let inv = c .before .before .before .loop .inv in
+    let p = c .before .before .before in
+    let ks : List ℕ = p .before .args .kinds .now in
+    let inv = p .loop .inv in
     (omega arith, omega arith, λ e. (inv .2 e .0, leading-at-blank ks _ (c .if1 .taken)))
 
 add-low : tie.Need-add-low Inv-loop μ-loop
@@ -49,8 +50,9 @@ loop-less-2 c = omega arith
 
 loop-again-2 : tie.Need-loop-again-2 Inv-loop μ-loop
 loop-again-2 c =
-    let ks : List ℕ = c .before .before .before .before .args .kinds .now in
-    let inv = c .before .before .before .loop .inv in
+    let p = c .before .before .before in
+    let ks : List ℕ = p .before .args .kinds .now in
+    let inv = p .loop .inv in
     (omega arith, omega arith, λ e. (let past = leading-past-recorded ks _ e (c .if1 .left) in omega (arith, past), inv .2 e .1))
 
 returns : tie.Need-returns Inv-loop μ-loop

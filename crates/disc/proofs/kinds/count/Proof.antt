@@ -44,12 +44,12 @@ every-blank-requires c κs = search needs
 
 returns : tie.Need-returns
 returns c =
-    let at = c .before .before .before .before in
+    let w = c .before .before in let at = w .before .before in
     let ks : List ℕ = at .before .before .args .kinds .now in
     let r : ℕ = at .boundary .result in
     let bound : r ≤ length ks = at .boundary .ensures .0 in
     let start : r - 0 ≡ r = omega arith in
-    let before : c .before .before .every-recorded .result ≡ recordedTo ks r = c .before .before .every-recorded .ensures ∙ ap (recordedTo ks) start in
+    let before : w .every-recorded .result ≡ recordedTo ks r = w .every-recorded .ensures ∙ ap (recordedTo ks) start in
     let long : length (drop r ks) ≤ length ks - r = omega (arith, length-drop r ks) in
     let behind : c .every-blank .result ≡ blankFrom ks r = c .every-blank .ensures ∙ ap (every (λ k. eqb k 0)) (take-all (length ks - r) (drop r ks) long) in
     let told = ap₂ _&&_ before behind ∙ sides-tell ks r bound (at .boundary .ensures .1) in

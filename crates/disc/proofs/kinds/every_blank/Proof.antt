@@ -18,6 +18,10 @@ Inv-loop kinds half turns most₀ i₀ most i = (i ≤ turns) × (leftOf (λ k. 
 abbrev μ-loop : tie.MeasureT-loop
 μ-loop kinds half turns most₀ i₀ most i = turns - i
 
+-- the entry of the function
+abbrev start-of : tie.At-loop Inv-loop μ-loop → tie.Start Inv-loop μ-loop
+start-of c = c .before .before
+
 sub-turns : tie.Need-sub-turns Inv-loop μ-loop
 sub-turns c = omega arith
 
@@ -47,10 +51,11 @@ loop-less c = omega arith
 
 loop-again : tie.Need-loop-again Inv-loop μ-loop
 loop-again c =
-    let ks : List ℕ = c .before .before .before .before .before .before .before .args .kinds .now in
+    let p = c .before .before .before .before .before in
+    let ks : List ℕ = start-of p .args .kinds .now in
     let half : ℕ = length ks / 2 in
     let turns : ℕ = length ks - half in
-    let l = c .before .before .before .before .before .loop in
+    let l = p .loop in
     let x : ℕ = getD ks (l .i) 0 in
     let y : ℕ = getD ks (half + l .i) 0 in
     let most : eqb (c .larger2 .result) 0 ≡ (eqb (l .most) 0 && (eqb x 0 && eqb y 0)) = c .larger2 .ensures .1 ∙ ap (λ (t : Bool). eqb (l .most) 0 && t) (c .before .larger .ensures .1) in (
@@ -60,10 +65,11 @@ loop-again c =
 
 returns : tie.Need-returns Inv-loop μ-loop
 returns c =
-    let ks : List ℕ = c .before .before .before .args .kinds .now in
+    let p = c .before in
+    let ks : List ℕ = start-of p .args .kinds .now in
     let half : ℕ = length ks / 2 in
     let turns : ℕ = length ks - half in
-    let l = c .before .loop in
+    let l = p .loop in
     sym (none-left (λ k. eqb k 0) ks half turns (l .i) (eqb (l .most) 0) (omega arith) (omega arith)) ∙ l .inv .1
 
 pub every-blank-spec : {M : Type 1} → statement M

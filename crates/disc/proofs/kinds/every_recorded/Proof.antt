@@ -18,6 +18,10 @@ Inv-loop kinds half turns least₀ most₀ i₀ least most i = (i ≤ turns) × 
 abbrev μ-loop : tie.MeasureT-loop
 μ-loop kinds half turns least₀ most₀ i₀ least most i = turns - i
 
+-- the entry of the function
+abbrev start-of : tie.At-loop Inv-loop μ-loop → tie.Start Inv-loop μ-loop
+start-of c = c .before .before
+
 sub-turns : tie.Need-sub-turns Inv-loop μ-loop
 sub-turns c = omega arith
 
@@ -59,14 +63,15 @@ loop-less c = omega arith
 
 loop-again : tie.Need-loop-again Inv-loop μ-loop
 loop-again c =
-    let ks : List ℕ = c .before .before .before .before .before .before .before .before .before .before .before .args .kinds .now in
+    let m = c .before .before .before .before in let p = m .before .before .before .before .before in
+    let ks : List ℕ = start-of p .args .kinds .now in
     let half : ℕ = length ks / 2 in
     let turns : ℕ = length ks - half in
-    let l = c .before .before .before .before .before .before .before .before .before .loop in
+    let l = p .loop in
     let x : ℕ = getD ks (l .i) 0 in
     let y : ℕ = getD ks (half + l .i) 0 in
     let held : Bool = ltb 0 (l .least) && leb (l .most) 3 in
-    let least : ltb 0 (c .before .before .before .before .smaller2 .result) ≡ (ltb 0 (l .least) && (ltb 0 x && ltb 0 y)) = c .before .before .before .before .smaller2 .ensures ∙ ap (λ (t : Bool). ltb 0 (l .least) && t) (c .before .before .before .before .before .smaller .ensures) in
+    let least : ltb 0 (m .smaller2 .result) ≡ (ltb 0 (l .least) && (ltb 0 x && ltb 0 y)) = m .smaller2 .ensures ∙ ap (λ (t : Bool). ltb 0 (l .least) && t) (m .before .smaller .ensures) in
     let most : leb (c .larger2 .result) 3 ≡ (leb (l .most) 3 && (leb x 3 && leb y 3)) = c .larger2 .ensures .0 ∙ ap (λ (t : Bool). leb (l .most) 3 && t) (c .before .larger .ensures .0) in (
       omega arith,
       ap (leftOf (λ k. ltb 0 k && leb k 3) ks half turns (l .i + 1)) (ap₂ _&&_ least most ∙ bounds-taken (ltb 0 (l .least)) (leb (l .most) 3) (ltb 0 x) (ltb 0 y) (leb x 3) (leb y 3))
@@ -76,10 +81,11 @@ loop-again c =
 
 returns : tie.Need-returns Inv-loop μ-loop
 returns c =
-    let ks : List ℕ = c .before .before .before .args .kinds .now in
+    let p = c .before in
+    let ks : List ℕ = start-of p .args .kinds .now in
     let half : ℕ = length ks / 2 in
     let turns : ℕ = length ks - half in
-    let l = c .before .loop in
+    let l = p .loop in
     sym (none-left (λ k. ltb 0 k && leb k 3) ks half turns (l .i) (ltb 0 (l .least) && leb (l .most) 3) (omega arith) (omega arith)) ∙ l .inv .1
 
 pub every-recorded-spec : {M : Type 1} → statement M

@@ -30,12 +30,12 @@ same-length-2 c = search needs
 returns : tie.Need-returns
 unfolding stored
 returns c =
-    let s = c .before .before .before .before .before .before .before in
+    let p = c .before .before in let s = p .before .before .before .before .before in
     let image : List ℕ = s .args .image .now in
     let block : List ℕ = s .args .block .now in
     let fits : sectorLength * s .args .b + length block ≤ length image = omega (arith, s .pre) in
     let at : ℕ = sectorLength * s .args .b in
-    (c .before .before .put-text .ensures ∙ sets-eq block image at fits ∙ append-assoc (take at image) block (drop (at + length block) image), refl)
+    (p .put-text .ensures ∙ sets-eq block image at fits ∙ append-assoc (take at image) block (drop (at + length block) image), refl)
 
 pub data-spec : {M : Type 1} → statement M
 data-spec = tie.close (tie.spec mul-put-text put-text-requires slice-write-kinds same-length same-length-2 returns)

@@ -70,7 +70,7 @@ walk-back-walk-back-requires : (t : ℕ) → walk-back-lts.Need-walk-back-requir
   walk-back-below t,
   walk-back.Post,
 ) (walk-back-at t) walk-back.Post
-walk-back-walk-back-requires t c κs = (omega (arith, c .before .before .before .before .pre .0), c .before .before .before .before .pre .1)
+walk-back-walk-back-requires t c κs = let s = c .before .before .before .before in (omega (arith, s .pre .0), s .pre .1)
 
 walk-back-enum-known-middle : (t : ℕ) → walk-back-lts.Need-enum-known-middle (
   step-back-reads.Asked,
@@ -95,10 +95,10 @@ walk-back-walk-back-requires-2 : (t : ℕ) → walk-back-lts.Need-walk-back-requ
   walk-back.Post,
 ) (walk-back-at t) walk-back.Post
 walk-back-walk-back-requires-2 t c κs =
-    let s = c .before .before .before .before .before .before .before .before in
+    let m = c .before in let w = m .before .before in let e = w .before in let s = e .before .before .before .before in
     let d : Disc = lent (s .args .image .now) (s .args .kinds .now) in
-    let half : walk (tableAt d) (previousAt d) (s .args .k / 2) (s .args .b) ≡ Reached (c .before .middle .given .0 .0) = sym (c .before .before .before .walk-back .ensures) ∙ c .before .middle .given .1 in
-    (omega (arith, s .pre .0, c .before .before .before .before .before .if1 .left, c .before .before .before .before .if2 .left), (s .pre .1 .0, walk-table (tableAt d) (previousAt d) (s .args .k / 2) (s .args .b) (c .before .middle .given .0 .0) half (s .pre .1 .1)))
+    let half : walk (tableAt d) (previousAt d) (s .args .k / 2) (s .args .b) ≡ Reached (m .middle .given .0 .0) = sym (w .walk-back .ensures) ∙ m .middle .given .1 in
+    (omega (arith, s .pre .0, e .before .if1 .left, e .if2 .left), (s .pre .1 .0, walk-table (tableAt d) (previousAt d) (s .args .k / 2) (s .args .b) (m .middle .given .0 .0) half (s .pre .1 .1)))
 
 walk-back-enum-told : (t : ℕ) → walk-back-lts.Need-enum-told (
   step-back-reads.Asked,
@@ -123,9 +123,9 @@ walk-back-returns-3 : (t : ℕ) → walk-back-lts.Need-returns-3 (
   walk-back.Post,
 ) (walk-back-at t) walk-back.Post
 walk-back-returns-3 t c =
-    let s = c .before .before .before .before .before .before .before .before .before in
+    let m = c .before .before in let w = m .before .before in let e = w .before in let s = e .before .before .before .before in
     let d : Disc = lent (s .args .image .now) (s .args .kinds .now) in
-    let half : walk (tableAt d) (previousAt d) (s .args .k / 2) (s .args .b) ≡ Reached (c .before .before .middle .given .0 .0) = sym (c .before .before .before .before .walk-back .ensures) ∙ c .before .before .middle .given .1 in
+    let half : walk (tableAt d) (previousAt d) (s .args .k / 2) (s .args .b) ≡ Reached (m .middle .given .0 .0) = sym (w .walk-back .ensures) ∙ m .middle .given .1 in
     c .walk-back2 .ensures ∙ ap (onward (tableAt d) (previousAt d) (s .args .k - s .args .k / 2)) (sym half) ∙ whole-way d (s .args .k) (s .args .b)
 
 walk-back-returns-4 : (t : ℕ) → walk-back-lts.Need-returns-4 (
@@ -135,9 +135,9 @@ walk-back-returns-4 : (t : ℕ) → walk-back-lts.Need-returns-4 (
   walk-back.Post,
 ) (walk-back-at t) walk-back.Post
 walk-back-returns-4 t c =
-    let s = c .before .before .before .before .before .before .before in
+    let w = c .before .before in let e = w .before in let s = e .before .before .before .before in
     let d : Disc = lent (s .args .image .now) (s .args .kinds .now) in
-    let half : walk (tableAt d) (previousAt d) (s .args .k / 2) (s .args .b) ≡ Broken = sym (c .before .before .walk-back .ensures) ∙ c .enum-told .given .1 in
+    let half : walk (tableAt d) (previousAt d) (s .args .k / 2) (s .args .b) ≡ Broken = sym (w .walk-back .ensures) ∙ c .enum-told .given .1 in
     ap (onward (tableAt d) (previousAt d) (s .args .k - s .args .k / 2)) (sym half) ∙ whole-way d (s .args .k) (s .args .b)
 
 walk-back-returns-5 : (t : ℕ) → walk-back-lts.Need-returns-5 (
@@ -147,9 +147,9 @@ walk-back-returns-5 : (t : ℕ) → walk-back-lts.Need-returns-5 (
   walk-back.Post,
 ) (walk-back-at t) walk-back.Post
 walk-back-returns-5 t c =
-    let s = c .before .before .before .before .before .before .before in
+    let w = c .before .before in let e = w .before in let s = e .before .before .before .before in
     let d : Disc = lent (s .args .image .now) (s .args .kinds .now) in
-    let half : walk (tableAt d) (previousAt d) (s .args .k / 2) (s .args .b) ≡ Ended = sym (c .before .before .walk-back .ensures) ∙ c .enum-told2 .given .1 in
+    let half : walk (tableAt d) (previousAt d) (s .args .k / 2) (s .args .b) ≡ Ended = sym (w .walk-back .ensures) ∙ c .enum-told2 .given .1 in
     ap (onward (tableAt d) (previousAt d) (s .args .k - s .args .k / 2)) (sym half) ∙ whole-way d (s .args .k) (s .args .b)
 
 pub +walk-back-spec : {M : Type 1} → statement M

@@ -32,9 +32,28 @@ Inv-scan image kinds recorded b₀ b = (b ≤ recorded) × (newestBelow (tableAt
 abbrev μ-scan : tie.MeasureT-scan
 μ-scan image kinds recorded b₀ b = b
 
+-- the places of the function, each found from a later one
+abbrev start-of : tie.Else1 Inv-loop μ-loop Inv-scan μ-scan → tie.Start Inv-loop μ-loop Inv-scan μ-scan
+start-of c = c .before .before .before .before
+
+abbrev tagged-block : tie.After-tagged Inv-loop μ-loop Inv-scan μ-scan → tie.Else1 Inv-loop μ-loop Inv-scan μ-scan
+tagged-block c = c .before .before .before .before
+
+abbrev after-tagged : tie.Else4 Inv-loop μ-loop Inv-scan μ-scan → tie.After-tagged Inv-loop μ-loop Inv-scan μ-scan
+after-tagged c = c .before .before .before
+
+abbrev framed-block : tie.Else4 Inv-loop μ-loop Inv-scan μ-scan → tie.Else1 Inv-loop μ-loop Inv-scan μ-scan
+framed-block c = tagged-block (after-tagged c)
+
+abbrev frame-of : tie.At-loop Inv-loop μ-loop Inv-scan μ-scan → tie.Else4 Inv-loop μ-loop Inv-scan μ-scan
+frame-of c = c .before .before
+
+abbrev block-of : tie.At-loop Inv-loop μ-loop Inv-scan μ-scan → tie.Else1 Inv-loop μ-loop Inv-scan μ-scan
+block-of c = framed-block (frame-of c)
+
 -- the disc, the block that is looked at, and its bytes
 abbrev D : tie.Else1 Inv-loop μ-loop Inv-scan μ-scan → Disc
-D c = lent (c .before .before .before .before .args .image .now) (c .before .before .before .before .args .kinds .now)
+D c = let s = start-of c in lent (s .args .image .now) (s .args .kinds .now)
 
 abbrev B : tie.Else1 Inv-loop μ-loop Inv-scan μ-scan → ℕ
 B c = c .before .scan .b - 1
@@ -43,40 +62,40 @@ abbrev S : tie.Else1 Inv-loop μ-loop Inv-scan μ-scan → List ℕ
 S c = take ((sectorLength * B c + sectorLength) - sectorLength * B c) (drop (sectorLength * B c) (D c .image))
 
 within : (c : tie.Else1 Inv-loop μ-loop Inv-scan μ-scan) → B c < length (D c .kinds)
-within c = omega (arith, c .before .scan .inv .0, c .before .before .before .before .pre .1)
+within c = omega (arith, c .before .scan .inv .0, start-of c .pre .1)
 
 whole : (c : tie.Else1 Inv-loop μ-loop Inv-scan μ-scan) → length (S c) ≡ sectorLength
-whole c = ap length (part-sector (D c) (B c)) ∙ sector-long (D c) (sized-tells (D c) (c .before .before .before .before .pre .0)) (B c) (within c)
+whole c = ap length (part-sector (D c) (B c)) ∙ sector-long (D c) (sized-tells (D c) (start-of c .pre .0)) (B c) (within c)
 
 here : (c : tie.Else1 Inv-loop μ-loop Inv-scan μ-scan) (t : Bool) → isTable (kindAt (D c) (B c)) (S c) (B c) ≡ t → tableAt (D c) (B c) ≡ t
 here c t e = ap (λ (l : List ℕ). isTable (kindAt (D c) (B c)) l (B c)) (sym (part-sector (D c) (B c))) ∙ e
 
 -- the scan goes on
 on : (c : tie.Else1 Inv-loop μ-loop Inv-scan μ-scan) → isTable (kindAt (D c) (B c)) (S c) (B c) ≡ false
-    → (B c ≤ c .before .before .before .before .args .recorded) × (newestBelow (tableAt (D c)) (B c) ≡ newestBelow (tableAt (D c)) (c .before .before .before .before .args .recorded))
-on c e = (
-  omega (arith, c .before .scan .inv .0),
-  scan-on (tableAt (D c)) (c .before .scan .b) (newestBelow (tableAt (D c)) (c .before .before .before .before .args .recorded)) (omega arith) (here c false e) (c .before .scan .inv .1),
-)
+    → (B c ≤ start-of c .args .recorded) × (newestBelow (tableAt (D c)) (B c) ≡ newestBelow (tableAt (D c)) (start-of c .args .recorded))
+on c e =
+    let s = start-of c in (
+      omega (arith, c .before .scan .inv .0),
+      scan-on (tableAt (D c)) (c .before .scan .b) (newestBelow (tableAt (D c)) (s .args .recorded)) (omega arith) (here c false e) (c .before .scan .inv .1),
+    )
 
-frame : (c : tie.Else4 Inv-loop μ-loop Inv-scan μ-scan) → framed (S (c .before .before .before .before .before .before .before)) (B (c .before .before .before .before .before .before .before)) (entryCount (S (c .before .before .before .before .before .before .before))) ≡ true
+frame : (c : tie.Else4 Inv-loop μ-loop Inv-scan μ-scan) → let e = framed-block c in framed (S e) (B e) (entryCount (S e)) ≡ true
 frame c = sym (c .before .framed .ensures) ∙ not-false (c .before .framed .result) (c .if4 .left)
 
-told : (c : tie.Else4 Inv-loop μ-loop Inv-scan μ-scan) → Framed (S (c .before .before .before .before .before .before .before)) (B (c .before .before .before .before .before .before .before)) (entryCount (S (c .before .before .before .before .before .before .before)))
-told c = framed-tells (S (c .before .before .before .before .before .before .before)) (B (c .before .before .before .before .before .before .before)) (entryCount (S (c .before .before .before .before .before .before .before))) (frame c)
+told : (c : tie.Else4 Inv-loop μ-loop Inv-scan μ-scan) → let e = framed-block c in Framed (S e) (B e) (entryCount (S e))
+told c = let e = framed-block c in framed-tells (S e) (B e) (entryCount (S e)) (frame c)
 
 -- the entry that was read
 named : (c : tie.After-may-name Inv-loop μ-loop Inv-scan μ-scan)
-    → c .may-name .result ≡ unusedOrBelow (B (c .before .before .before .before .before .before .before .before .before .before .before .before)) (readLe 4 (S (c .before .before .before .before .before .before .before .before .before .before .before .before)) (c .before .before .before .loop .entry))
-named c = c .may-name .ensures ∙ ap (unusedOrBelow (B (c .before .before .before .before .before .before .before .before .before .before .before .before))) (c .before .read32 .ensures)
+    → let p = c .before .before .before in let e = block-of p in c .may-name .result ≡ unusedOrBelow (B e) (readLe 4 (S e) (p .loop .entry))
+named c = let e = block-of (c .before .before .before) in c .may-name .ensures ∙ ap (unusedOrBelow (B e)) (c .before .read32 .ensures)
 
 -- only the sums are left
-sums : (c : tie.After-loop Inv-loop μ-loop Inv-scan μ-scan) → isTable (kindAt (D (c .before .before .before .before .before .before .before .before .before .before)) (B (c .before .before .before .before .before .before .before .before .before .before))) (S (c .before .before .before .before .before .before .before .before .before .before)) (B (c .before .before .before .before .before .before .before .before .before .before)) ≡ sealed (S (c .before .before .before .before .before .before .before .before .before .before))
+sums : (c : tie.After-loop Inv-loop μ-loop Inv-scan μ-scan) → let e = block-of (c .before) in isTable (kindAt (D e) (B e)) (S e) (B e) ≡ sealed (S e)
 sums c =
-    let e = c .before .before .before .before .before .before .before .before .before .before in
-    let l = c .before .loop in
+    let p = c .before in let e = block-of p in let l = p .loop in
     let passed : every (unusedOrBelow (B e)) (words (l .left) (S e) (l .entry)) ≡ true = words-passed (unusedOrBelow (B e)) (l .left) (S e) (l .entry) (omega arith) in
-    all-but-sums (kindAt (D e) (B e)) (S e) (B e) (c .before .before .before .before .before .before .before .before .if2 .left) (whole e) (frame (c .before .before .before)) (sym (l .inv .1) ∙ passed)
+    all-but-sums (kindAt (D e) (B e)) (S e) (B e) (after-tagged (frame-of p) .before .before .if2 .left) (whole e) (frame (frame-of p)) (sym (l .inv .1) ∙ passed)
 
 scan-holds : tie.Need-scan-holds Inv-loop μ-loop Inv-scan μ-scan
 scan-holds c = (omega arith, refl)
@@ -94,7 +113,7 @@ scan-less : tie.Need-scan-less Inv-loop μ-loop Inv-scan μ-scan
 scan-less c = omega arith
 
 scan-again : tie.Need-scan-again Inv-loop μ-loop Inv-scan μ-scan
-scan-again c = on (c .before .before) (other-kind (kindAt (D (c .before .before)) (B (c .before .before))) (S (c .before .before)) (B (c .before .before)) (c .if2 .taken))
+scan-again c = let e = c .before .before in on e (other-kind (kindAt (D e) (B e)) (S e) (B e) (c .if2 .taken))
 
 mul-at : tie.Need-mul-at Inv-loop μ-loop Inv-scan μ-scan
 mul-at c = omega arith
@@ -109,7 +128,7 @@ part-s-start : tie.Need-part-s-start Inv-loop μ-loop Inv-scan μ-scan
 part-s-start c = omega arith
 
 part-s-end : tie.Need-part-s-end Inv-loop μ-loop Inv-scan μ-scan
-part-s-end c = let e = c .before .before in omega (arith, sector-end (D e) (sized-tells (D e) (e .before .before .before .before .pre .0)) (B e) (within e))
+part-s-end c = let e = c .before .before in omega (arith, sector-end (D e) (sized-tells (D e) (start-of e .pre .0)) (B e) (within e))
 
 tagged-requires : tie.Need-tagged-requires Inv-loop μ-loop Inv-scan μ-scan
 tagged-requires c κs = whole (c .before .before .before)
@@ -119,33 +138,33 @@ scan-less-2 c = omega arith
 
 scan-again-2 : tie.Need-scan-again-2 Inv-loop μ-loop Inv-scan μ-scan
 scan-again-2 c =
-    let e = c .before .before .before .before .before in
+    let e = tagged-block (c .before) in
     on e (untagged (kindAt (D e) (B e)) (S e) (B e) (sym (c .before .tagged .ensures) ∙ not-true (c .before .tagged .result) (c .if3 .taken)))
 
 framed-requires : tie.Need-framed-requires Inv-loop μ-loop Inv-scan μ-scan
-framed-requires c κs = whole (c .before .before .before .before .before)
+framed-requires c κs = whole (tagged-block (c .before))
 
 scan-less-3 : tie.Need-scan-less-3 Inv-loop μ-loop Inv-scan μ-scan
 scan-less-3 c = omega arith
 
 scan-again-3 : tie.Need-scan-again-3 Inv-loop μ-loop Inv-scan μ-scan
 scan-again-3 c =
-    let e = c .before .before .before .before .before .before .before in
+    let e = tagged-block (c .before .before .before) in
     on e (not-framed (kindAt (D e) (B e)) (S e) (B e) (sym (c .before .framed .ensures) ∙ not-true (c .before .framed .result) (c .if4 .taken)))
 
 entry-count-requires : tie.Need-entry-count-requires Inv-loop μ-loop Inv-scan μ-scan
-entry-count-requires c κs = whole (c .before .before .before .before .before .before .before)
+entry-count-requires c κs = whole (framed-block c)
 
 loop-holds : tie.Need-loop-holds Inv-loop μ-loop Inv-scan μ-scan
 unfolding entriesOf
 loop-holds c =
-    let e = c .before .before .before .before .before .before .before .before in (
+    let e = framed-block (c .before) in (
       omega (arith, c .entry-count .ensures, told (c .before) .few),
       ap (λ (n : ℕ). every (unusedOrBelow (B e)) (words n (S e) 176)) (c .entry-count .ensures),
     )
 
 read32-requires : tie.Need-read32-requires Inv-loop μ-loop Inv-scan μ-scan
-read32-requires c κs = omega (arith, c .before .loop .inv .0, whole (c .before .before .before .before .before .before .before .before .before .before))
+read32-requires c κs = omega (arith, c .before .loop .inv .0, whole (block-of (c .before)))
 
 may-name-requires : tie.Need-may-name-requires Inv-loop μ-loop Inv-scan μ-scan
 may-name-requires c κs = tt
@@ -155,8 +174,7 @@ scan-less-4 c = omega arith
 
 scan-again-4 : tie.Need-scan-again-4 Inv-loop μ-loop Inv-scan μ-scan
 scan-again-4 c =
-    let e = c .before .before .before .before .before .before .before .before .before .before .before .before .before in
-    let l = c .before .before .before .before .loop in
+    let p = c .before .before .before .before in let e = block-of p in let l = p .loop in
     let wrong : unusedOrBelow (B e) (readLe 4 (S e) (l .entry)) ≡ false = sym (named (c .before)) ∙ not-true (c .before .may-name .result) (c .if5 .taken) in
     on e (not-held (kindAt (D e) (B e)) (S e) (B e) (sym (l .inv .1) ∙ word-fails (unusedOrBelow (B e)) (l .left) (S e) (l .entry) (omega arith) wrong))
 
@@ -171,19 +189,18 @@ loop-less c = omega arith
 
 loop-again : tie.Need-loop-again Inv-loop μ-loop Inv-scan μ-scan
 loop-again c =
-    let e = c .before .before .before .before .before .before .before .before .before .before .before .before .before in
-    let l = c .before .before .before .before .loop in
+    let p = c .before .before .before .before in let e = block-of p in let l = p .loop in
     let right : unusedOrBelow (B e) (readLe 4 (S e) (l .entry)) ≡ true = sym (named (c .before)) ∙ not-false (c .before .may-name .result) (c .if5 .left) in
     (omega (arith, l .inv .0), word-passes (unusedOrBelow (B e)) (l .left) (S e) (l .entry) (omega arith) right ∙ l .inv .1)
 
 sealed-requires : tie.Need-sealed-requires Inv-loop μ-loop Inv-scan μ-scan
-sealed-requires c κs = let e = c .before .before .before in omega (arith, whole (e .before .before .before .before .before .before .before), told e .few, told e .sized .summed)
+sealed-requires c κs = let e = frame-of (c .before) in omega (arith, whole (framed-block e), told e .few, told e .sized .summed)
 
 scan-less-5 : tie.Need-scan-less-5 Inv-loop μ-loop Inv-scan μ-scan
 scan-less-5 c = omega arith
 
 scan-again-5 : tie.Need-scan-again-5 Inv-loop μ-loop Inv-scan μ-scan
-scan-again-5 c = on (c .before .before .before .before .before .before .before .before .before .before .before .before) (sums (c .before .before) ∙ sym (c .before .sealed .ensures) ∙ c .if6 .left)
+scan-again-5 c = on (block-of (c .before .before .before)) (sums (c .before .before) ∙ sym (c .before .sealed .ensures) ∙ c .if6 .left)
 
 returns : tie.Need-returns Inv-loop μ-loop Inv-scan μ-scan
 returns c =
@@ -194,9 +211,9 @@ returns c =
 
 returns-2 : tie.Need-returns-2 Inv-loop μ-loop Inv-scan μ-scan
 returns-2 c =
-    let e = c .before .before .before .before .before .before .before .before .before .before .before .before in
+    let e = block-of (c .before .before .before) in
     let found : tableAt (D e) (B e) ≡ true = here e true (sums (c .before .before) ∙ sym (c .before .sealed .ensures) ∙ c .if6 .taken) in
-    ap blockFound (sym (scan-ends (tableAt (D e)) (e .before .scan .b) (newestBelow (tableAt (D e)) (e .before .before .before .before .args .recorded)) (omega arith) found (e .before .scan .inv .1)))
+    ap blockFound (sym (scan-ends (tableAt (D e)) (e .before .scan .b) (newestBelow (tableAt (D e)) (start-of e .args .recorded)) (omega arith) found (e .before .scan .inv .1)))
 
 pub newest-spec : {M : Type 1} → statement M
 newest-spec =

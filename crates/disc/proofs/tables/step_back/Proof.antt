@@ -18,6 +18,10 @@ use borrow.Author.Needs.{needs}
 use Rattle.disc.proofs.tables.step_back.Statement.{statement}
 use Rattle.disc.proofs.tables.step_back.Tie as tie
 
+-- the entry of the function
+abbrev start-of : tie.After-previous → tie.Start
+start-of c = c .before .before .before .before
+
 -- the disc, and that the block lies on it
 abbrev D : tie.Start → Disc
 D s = lent (s .args .image .now) (s .args .kinds .now)
@@ -29,9 +33,9 @@ told : (s : tie.Start) → Recognised (kindAt (D s) (s .args .b)) (sectorAt (D s
 told s = recognised (kindAt (D s) (s .args .b)) (sectorAt (D s) (s .args .b)) (s .args .b) (s .pre .1)
 
 -- the previous table that was read
-read-back : (c : tie.After-previous) → c .previous .result ≡ previousAt (D (c .before .before .before .before)) (c .before .before .before .before .args .b)
+read-back : (c : tie.After-previous) → let s = start-of c in c .previous .result ≡ previousAt (D s) (s .args .b)
 read-back c =
-    let s = c .before .before .before .before in
+    let s = start-of c in
     c .previous .ensures ∙ ap previousOf (part-sector (D s) (s .args .b))
 
 mul-at : tie.Need-mul-at
@@ -57,28 +61,26 @@ previous-requires c κs =
 
 returns : tie.Need-returns
 returns c =
-    let s = c .before .before .before .before .before in
-    sym (step-ended (tableAt (D s)) (previousAt (D s)) (s .args .b) (sym (read-back (c .before)) ∙ c .if1 .taken))
+    let q = c .before in let s = start-of q in
+    sym (step-ended (tableAt (D s)) (previousAt (D s)) (s .args .b) (sym (read-back q) ∙ c .if1 .taken))
 
 table-at-requires : tie.Need-table-at-requires
 table-at-requires c κs = search needs
 
 returns-2 : tie.Need-returns-2
 returns-2 c =
-    let q = c .before .before .before in
-    let s = q .before .before .before .before in
+    let m = c .before .before in let q = m .before in let s = start-of q in
     let no : tableAt (D s) (previousAt (D s) (s .args .b)) ≡ false =
     ap (tableAt (D s)) (sym (read-back q)) ∙ sym (c .before .table-at .ensures) ∙ not-true (c .before .table-at .result) (c .if2 .taken) in
-    sym (step-broken (tableAt (D s)) (previousAt (D s)) (s .args .b) (λ e. c .before .before .if1 .left (read-back q ∙ e)) no)
+    sym (step-broken (tableAt (D s)) (previousAt (D s)) (s .args .b) (λ e. m .if1 .left (read-back q ∙ e)) no)
 
 returns-3 : tie.Need-returns-3
 returns-3 c =
-    let q = c .before .before .before in
-    let s = q .before .before .before .before in
+    let m = c .before .before in let q = m .before in let s = start-of q in
     let yes : tableAt (D s) (previousAt (D s) (s .args .b)) ≡ true =
     ap (tableAt (D s)) (sym (read-back q)) ∙ sym (c .before .table-at .ensures) ∙ not-false (c .before .table-at .result) (c .if2 .left) in
     ap Reached (read-back q)
-    ∙ sym (step-reached (tableAt (D s)) (previousAt (D s)) (s .args .b) (λ e. c .before .before .if1 .left (read-back q ∙ e)) yes)
+    ∙ sym (step-reached (tableAt (D s)) (previousAt (D s)) (s .args .b) (λ e. m .if1 .left (read-back q ∙ e)) yes)
 
 pub step-back-spec : {M : Type 1} → statement M
 step-back-spec =

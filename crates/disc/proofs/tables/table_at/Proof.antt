@@ -13,6 +13,10 @@ use borrow.Author.Needs.{needs}
 use Rattle.disc.proofs.tables.table_at.Statement.{statement}
 use Rattle.disc.proofs.tables.table_at.Tie as tie
 
+-- the entry of the function
+abbrev start-of : tie.Else1 → tie.Start
+start-of c = c .before .before .before
+
 returns : tie.Need-returns
 returns c =
     let s = c .before .before .before in
@@ -35,7 +39,7 @@ part-is-table-start c = search needs
 
 part-is-table-end : tie.Need-part-is-table-end
 part-is-table-end c =
-    let s = c .before .before .before .before in
+    let s = start-of (c .before) in
     let d : Disc = lent (s .args .image .now) (s .args .kinds .now) in
     omega (arith, sector-end d (sized-tells d (s .pre)) (s .args .b) (c .before .if1 .left))
 
@@ -44,7 +48,7 @@ is-table-requires c κs = search needs
 
 returns-2 : tie.Need-returns-2
 returns-2 c =
-    let s = c .before .before .before .before .before .before in
+    let s = start-of (c .before .before .before) in
     let d : Disc = lent (s .args .image .now) (s .args .kinds .now) in
     c .is-table .ensures ∙ ap (λ (l : List ℕ). isTable (getD (d .kinds) (s .args .b) 0) l (s .args .b)) (part-sector d (s .args .b))
 

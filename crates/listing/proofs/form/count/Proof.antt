@@ -15,16 +15,20 @@ Inv-loop input n₀ n = (n ≤ mostListed) × (countUpTo n input ≡ countUpTo m
 abbrev μ-loop : tie.MeasureT-loop
 μ-loop input n₀ n = n
 
+-- the entry of the function
+abbrev start-of : tie.At-loop Inv-loop μ-loop → tie.Start Inv-loop μ-loop
+start-of c = c .before .before
+
 loop-holds : tie.Need-loop-holds Inv-loop μ-loop
 loop-holds c = (omega arith, refl)
 
 gives-requires : tie.Need-gives-requires Inv-loop μ-loop
-gives-requires c κs = c .before .before .before .pre
+gives-requires c κs = start-of (c .before) .pre
 
 returns : tie.Need-returns Inv-loop μ-loop
 returns c =
-    let l = c .before .before .before .loop in
-    let s : List ℕ = c .before .before .before .before .before .args .input .now in
+    let p = c .before .before .before in let l = p .loop in
+    let s : List ℕ = start-of p .args .input .now in
     sym (count-this (l .n) s (omega arith) (sym (c .before .gives .ensures) ∙ c .if1 .taken)) ∙ l .inv .1
 
 sub-n : tie.Need-sub-n Inv-loop μ-loop
@@ -35,14 +39,14 @@ loop-less c = omega arith
 
 loop-again : tie.Need-loop-again Inv-loop μ-loop
 loop-again c =
-    let l = c .before .before .before .loop in
-    let s : List ℕ = c .before .before .before .before .before .args .input .now in
+    let p = c .before .before .before in let l = p .loop in
+    let s : List ℕ = start-of p .args .input .now in
     (omega arith, count-lower (l .n) s (omega arith) (sym (c .before .gives .ensures) ∙ c .if1 .left) ∙ l .inv .1)
 
 returns-2 : tie.Need-returns-2 Inv-loop μ-loop
 returns-2 c =
-    let l = c .before .loop in
-    let s : List ℕ = c .before .before .before .args .input .now in
+    let p = c .before in let l = p .loop in
+    let s : List ℕ = start-of p .args .input .now in
     let none : l .n ≡ 0 = omega arith in
     sym (ap (λ (k : ℕ). countUpTo k s) none ∙ count-none s) ∙ l .inv .1
 

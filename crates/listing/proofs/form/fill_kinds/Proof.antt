@@ -18,6 +18,10 @@ Inv-loop kinds₀ digits i₀ kinds i = (i ≤ length digits) × (length kinds �
 abbrev μ-loop : tie.MeasureT-loop
 μ-loop kinds₀ digits i₀ kinds i = length digits - i
 
+-- the entry of the function
+abbrev start-of : tie.At-loop Inv-loop μ-loop → tie.Start Inv-loop μ-loop
+start-of c = c .before .before .before
+
 loop-holds : tie.Need-loop-holds Inv-loop μ-loop
 loop-holds c = (omega arith, refl, refl)
 
@@ -28,7 +32,7 @@ kind-of-requires : tie.Need-kind-of-requires Inv-loop μ-loop
 kind-of-requires c κs = tt
 
 slice-write-kinds : tie.Need-slice-write-kinds Inv-loop μ-loop
-slice-write-kinds c = let l = c .before .before .before .loop in omega (arith, l .inv .1, c .before .before .before .before .before .before .pre)
+slice-write-kinds c = let p = c .before .before .before in let l = p .loop in omega (arith, l .inv .1, start-of p .pre)
 
 add-i : tie.Need-add-i Inv-loop μ-loop
 add-i c = omega arith
@@ -38,8 +42,8 @@ loop-less c = omega arith
 
 loop-again : tie.Need-loop-again Inv-loop μ-loop
 loop-again c =
-    let l = c .before .before .before .loop in
-    let digits : List ℕ = c .before .before .before .before .before .before .args .digits .now in (
+    let p = c .before .before .before in let l = p .loop in
+    let digits : List ℕ = start-of p .args .digits .now in (
       omega arith,
       length-set (l .kinds) (l .i) (c .kind-of .result) ∙ l .inv .1,
       ap (λ (x : ℕ). sets (set (l .kinds) (l .i) x) (l .i + 1) (kindsOf (drop (l .i + 1) digits))) (c .kind-of .ensures) ∙ kind-put (l .kinds) digits (l .i) (omega arith) ∙ l .inv .2,
@@ -51,10 +55,9 @@ same-length c = c .before .loop .inv .1
 returns : tie.Need-returns Inv-loop μ-loop
 unfolding kindsOf
 returns c =
-    let l = c .before .loop in
-    let a = c .before .before .before .before .args in
+    let p = c .before in let s = start-of p in let l = p .loop in let a = s .args in
     let digits : List ℕ = a .digits .now in
-    rw (drop-of-length-le digits (c .loop-test .left)) at (l .inv .2) ∙ sets-all (kindsOf digits) (a .kinds .now) (length-kinds digits ∙ sym (c .before .before .before .before .pre))
+    rw (drop-of-length-le digits (c .loop-test .left)) at (l .inv .2) ∙ sets-all (kindsOf digits) (a .kinds .now) (length-kinds digits ∙ sym (s .pre))
 
 pub fill-kinds-spec : {M : Type 1} → statement M
 fill-kinds-spec =

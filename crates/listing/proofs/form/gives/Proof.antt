@@ -21,8 +21,8 @@ holds-text-requires c κs = search needs
 
 returns : tie.Need-returns
 returns c =
-    let a = c .before .before .before .before .before .before .args in
-    c .holds-text .ensures ∙ ap (holdsText (a .input .now) 0) (c .before .before .before .put-column .ensures ∙ line-put (a .n))
+    let p = c .before .before .before in let a = p .before .before .before .args in
+    c .holds-text .ensures ∙ ap (holdsText (a .input .now) 0) (p .put-column .ensures ∙ line-put (a .n))
 
 pub gives-spec : {M : Type 1} → statement M
 gives-spec =

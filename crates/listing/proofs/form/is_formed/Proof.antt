@@ -50,11 +50,11 @@ shared-slice-read-result c = search needs
 returns-2 : tie.Need-returns-2
 unfolding formed
 returns-2 c =
-    let a = c .before .before .before .before .before .args in
+    let e = c .before .before .before in let a = e .before .before .args in
     let s : List ℕ = a .input .now in
     let some : 9 + a .n - 9 ≡ a .n = omega arith in
     let digits : c .before .every-digit .result ≡ every isKindDigit (take (a .n) (drop 9 s)) = c .before .every-digit .ensures ∙ ap (λ (k : ℕ). every isKindDigit (take k (drop 9 s))) some in
-    rw (eq-eqb (length s) (10 + a .n + 2048 * a .n) (c .before .before .before .if1 .left)) (ap (λ (t : Bool). t && eqb (getD s (9 + a .n) 0) 10) digits)
+    rw (eq-eqb (length s) (10 + a .n + 2048 * a .n) (e .if1 .left)) (ap (λ (t : Bool). t && eqb (getD s (9 + a .n) 0) 10) digits)
 
 pub is-formed-spec : {M : Type 1} → statement M
 is-formed-spec =

@@ -16,29 +16,45 @@ use borrow.Author.Needs.{needs}
 use Rattle.listing.proofs.list.list.Statement.{statement}
 use Rattle.listing.proofs.list.list.Tie as tie
 
+-- the places of the function, each found from a later one
+abbrev start-of : tie.After-count → tie.Start
+start-of c = c .before .before .before .before
+
+abbrev after-count : tie.Else3 → tie.After-count
+after-count c = c .before .before .before
+
+abbrev well-formed : tie.After-fill-kinds → tie.Else3
+well-formed c = c .before .before .before
+
+abbrev after-fill : tie.After-kinds3 → tie.After-fill-kinds
+after-fill c = c .before .before .before
+
 -- the three things that are promised
 told : {x y : List ℕ} {r : ℕ} (s : List ℕ) → x ≡ y → r ≡ length (listing s) → (x ≡ y) × (r ≡ length (listing s)) × (r ≤ 832)
 told s p q = (p, q, omega (arith, q, listing-short s))
 
 few : (c : tie.After-count) → c .count .result ≤ mostListed
-few c = omega (arith, c .count .ensures, count-few mostListed (c .before .before .before .before .args .input .now))
+few c = omega (arith, c .count .ensures, count-few mostListed (start-of c .args .input .now))
 
-right : (c : tie.Else3) → formed (c .before .before .before .count .result) (c .before .before .before .before .before .before .before .args .input .now) ≡ true
+right : (c : tie.Else3) → let m = after-count c in formed (m .count .result) (start-of m .args .input .now) ≡ true
 right c = sym (c .before .is-formed .ensures) ∙ not-false (c .before .is-formed .result) (c .if3 .left)
 
-long : (c : tie.Else3) → length (c .before .before .before .before .before .before .before .args .input .now) ≡ 10 + c .before .before .before .count .result + sectorLength * c .before .before .before .count .result
-long c = formed-length (c .before .before .before .count .result) (c .before .before .before .before .before .before .before .args .input .now) (right c)
+long : (c : tie.Else3) → let m = after-count c in length (start-of m .args .input .now) ≡ 10 + m .count .result + sectorLength * m .count .result
+long c = let m = after-count c in formed-length (m .count .result) (start-of m .args .input .now) (right c)
 
 -- the digits are as many as the count, and so are the kinds
-digits-long : (c : tie.Else3) → length (take (9 + c .before .before .before .count .result - 9) (drop 9 (c .before .before .before .before .before .before .before .args .input .now))) ≡ c .before .before .before .count .result
+digits-long : (c : tie.Else3) → let m = after-count c in length (take (9 + m .count .result - 9) (drop 9 (start-of m .args .input .now))) ≡ m .count .result
 digits-long c =
-    let s : List ℕ = c .before .before .before .before .before .before .before .args .input .now in
-    let n : ℕ = c .before .before .before .count .result in
+    let m = after-count c in
+    let s : List ℕ = start-of m .args .input .now in
+    let n : ℕ = m .count .result in
     let some : 9 + n - 9 ≡ n = omega arith in
     length-take-le (9 + n - 9) (drop 9 s) (rw (length-drop 9 s) (omega (arith, long c))) ∙ some
 
-filled-long : (c : tie.After-fill-kinds) → length (c .fill-kinds .last .0) ≡ c .before .before .before .before .before .before .count .result
-filled-long c = ap length (c .fill-kinds .ensures) ∙ length-kinds (take (9 + c .before .before .before .before .before .before .count .result - 9) (drop 9 (c .before .before .before .before .before .before .before .before .before .before .args .input .now))) ∙ digits-long (c .before .before .before)
+filled-long : (c : tie.After-fill-kinds) → length (c .fill-kinds .last .0) ≡ after-count (well-formed c) .count .result
+filled-long c =
+    let e = well-formed c in let m = after-count e in
+    ap length (c .fill-kinds .ensures) ∙ length-kinds (take (9 + m .count .result - 9) (drop 9 (start-of m .args .input .now))) ∙ digits-long e
 
 put-refused-requires : tie.Need-put-refused-requires
 put-refused-requires c κs = search needs
@@ -48,9 +64,9 @@ same-length c = search needs
 
 returns : tie.Need-returns
 returns c =
-    let a = c .before .before .before .before .before .before .before .args in
-    let line = too-short (a .input .now) (c .before .before .before .before .if1 .taken) in
-    told (a .input .now) (c .before .before .put-refused .ensures .0 ∙ ap (sets (a .out .now) 0) line) (c .before .before .put-refused .ensures .1 ∙ ap length line)
+    let p = c .before .before in let t = p .before .before in let a = t .before .before .before .args in
+    let line = too-short (a .input .now) (t .if1 .taken) in
+    told (a .input .now) (p .put-refused .ensures .0 ∙ ap (sets (a .out .now) 0) line) (p .put-refused .ensures .1 ∙ ap length line)
 
 count-requires : tie.Need-count-requires
 count-requires c κs = search needs
@@ -63,9 +79,9 @@ same-length-2 c = search needs
 
 returns-2 : tie.Need-returns-2
 returns-2 c =
-    let a = c .before .before .before .before .before .before .before .before .before .args in
-    let line = no-count (a .input .now) (sym (c .before .before .before .before .before .count .ensures) ∙ c .before .before .before .before .if2 .taken) in
-    told (a .input .now) (c .before .before .put-refused2 .ensures .0 ∙ ap (sets (a .out .now) 0) line) (c .before .before .put-refused2 .ensures .1 ∙ ap length line)
+    let p = c .before .before in let t = p .before .before in let m = t .before in let a = start-of m .args in
+    let line = no-count (a .input .now) (sym (m .count .ensures) ∙ t .if2 .taken) in
+    told (a .input .now) (p .put-refused2 .ensures .0 ∙ ap (sets (a .out .now) 0) line) (p .put-refused2 .ensures .1 ∙ ap length line)
 
 is-formed-requires : tie.Need-is-formed-requires
 is-formed-requires c κs = few (c .before)
@@ -78,9 +94,9 @@ same-length-3 c = search needs
 
 returns-3 : tie.Need-returns-3
 returns-3 c =
-    let a = c .before .before .before .before .before .before .before .before .before .before .before .args in
-    let line = not-formed (a .input .now) (ap (λ (n : ℕ). formed n (a .input .now)) (sym (c .before .before .before .before .before .before .before .count .ensures)) ∙ sym (c .before .before .before .before .before .is-formed .ensures) ∙ not-true (c .before .before .before .before .before .is-formed .result) (c .before .before .before .before .if3 .taken)) in
-    told (a .input .now) (c .before .before .put-refused3 .ensures .0 ∙ ap (sets (a .out .now) 0) line) (c .before .before .put-refused3 .ensures .1 ∙ ap length line)
+    let p = c .before .before in let t = p .before .before in let f = t .before in let m = f .before .before in let a = start-of m .args in
+    let line = not-formed (a .input .now) (ap (λ (n : ℕ). formed n (a .input .now)) (sym (m .count .ensures)) ∙ sym (f .is-formed .ensures) ∙ not-true (f .is-formed .result) (t .if3 .taken)) in
+    told (a .input .now) (p .put-refused3 .ensures .0 ∙ ap (sets (a .out .now) 0) line) (p .put-refused3 .ensures .1 ∙ ap length line)
 
 cast-count : tie.Need-cast-count
 cast-count c = search needs
@@ -98,7 +114,7 @@ part-kinds-start : tie.Need-part-kinds-start
 part-kinds-start c = search needs
 
 part-kinds-end : tie.Need-part-kinds-end
-part-kinds-end c = omega (arith, few (c .before .before .before))
+part-kinds-end c = omega (arith, few (after-count c))
 
 sub-fill-kinds-2 : tie.Need-sub-fill-kinds-2
 sub-fill-kinds-2 c = search needs
@@ -113,10 +129,10 @@ fill-kinds-requires : tie.Need-fill-kinds-requires
 fill-kinds-requires c κs = search needs
 
 sub-put-listed : tie.Need-sub-put-listed
-sub-put-listed c = omega (arith, long (c .before .before .before .before))
+sub-put-listed c = omega (arith, long (well-formed (c .before)))
 
 part-put-listed-start : tie.Need-part-put-listed-start
-part-put-listed-start c = omega (arith, long (c .before .before .before .before))
+part-put-listed-start c = omega (arith, long (well-formed (c .before)))
 
 part-put-listed-end : tie.Need-part-put-listed-end
 part-put-listed-end c = search needs
@@ -129,9 +145,9 @@ part-put-listed-start-2 c = search needs
 
 part-put-listed-end-2 : tie.Need-part-put-listed-end-2
 part-put-listed-end-2 c =
-    let e = c .before .before .before .before .before .before in
-    let n : ℕ = e .before .before .before .count .result in
-    omega (arith, front-long (replicate 31 0) (c .before .before .before .fill-kinds .last .0) n (n - 0) (omega (arith, filled-long (c .before .before .before))))
+    let f = after-fill c in let e = well-formed f in
+    let n : ℕ = after-count e .count .result in
+    omega (arith, front-long (replicate 31 0) (f .fill-kinds .last .0) n (n - 0) (omega (arith, filled-long f)))
 
 put-listed-requires : tie.Need-put-listed-requires
 put-listed-requires c κs = search needs
@@ -141,23 +157,23 @@ same-length-4 c = search needs
 
 returns-4 : tie.Need-returns-4
 returns-4 c =
-    let e = c .before .before .before .before .before .before .before .before .before .before .before in
-    let a = e .before .before .before .before .before .before .before .args in
+    let p = c .before .before in let f = after-fill (p .before .before .before) in let e = well-formed f in let m = after-count e in
+    let a = start-of m .args in
     let s : List ℕ = a .input .now in
-    let n : ℕ = e .before .before .before .count .result in
+    let n : ℕ = m .count .result in
     let some : 9 + n - 9 ≡ n = omega arith in
     let digits : List ℕ = take (9 + n - 9) (drop 9 s) in
     let zeros : List ℕ = replicate 31 0 in
     let image : take (length s - (10 + n)) (drop (10 + n) s) ≡ imageOf n s = behind s (10 + n) (length s) refl in
-    let kinds : take (n - 0) (drop 0 (take 0 zeros ++ (c .before .before .before .before .before .before .before .before .fill-kinds .last .0 ++ drop (n - 0) (drop 0 zeros)))) ≡ kindsOf (digitsOf n s) =
-    ap (λ (l : List ℕ). take (n - 0) (drop 0 (take 0 zeros ++ (l ++ drop (n - 0) (drop 0 zeros))))) (c .before .before .before .before .before .before .before .before .fill-kinds .ensures)
+    let kinds : take (n - 0) (drop 0 (take 0 zeros ++ (f .fill-kinds .last .0 ++ drop (n - 0) (drop 0 zeros)))) ≡ kindsOf (digitsOf n s) =
+    ap (λ (l : List ℕ). take (n - 0) (drop 0 (take 0 zeros ++ (l ++ drop (n - 0) (drop 0 zeros))))) (f .fill-kinds .ensures)
     ∙ front zeros digits n (digits-long e)
     ∙ ap (λ (k : ℕ). kindsOf (take k (drop 9 s))) some in
     let whole : listed (lent (imageOf n s) (kindsOf (digitsOf n s))) ≡ listing s =
-    ap (λ (k : ℕ). listed (lent (imageOf k s) (kindsOf (digitsOf k s)))) (e .before .before .before .count .ensures)
-    ∙ of-the-form s (λ z. e .before .before .if2 .left (e .before .before .before .count .ensures ∙ z)) (ap (λ (k : ℕ). formed k s) (sym (e .before .before .before .count .ensures)) ∙ right e) in
+    ap (λ (k : ℕ). listed (lent (imageOf k s) (kindsOf (digitsOf k s)))) (m .count .ensures)
+    ∙ of-the-form s (λ z. e .before .before .if2 .left (m .count .ensures ∙ z)) (ap (λ (k : ℕ). formed k s) (sym (m .count .ensures)) ∙ right e) in
     let all = ap₂ (λ (i k : List ℕ). listed (lent i k)) image kinds ∙ whole in
-    told (a .input .now) (c .before .before .put-listed .ensures .0 ∙ ap (sets (a .out .now) 0) all) (c .before .before .put-listed .ensures .1 ∙ ap length all)
+    told (a .input .now) (p .put-listed .ensures .0 ∙ ap (sets (a .out .now) 0) all) (p .put-listed .ensures .1 ∙ ap length all)
 
 pub list-spec : {M : Type 1} → statement M
 list-spec =

@@ -27,9 +27,9 @@ same-length c = search needs
 returns : tie.Need-returns
 unfolding brokenLine
 returns c =
-    let a = c .before .before .before .before .before .before .before .args in
-    let line : brokenLine ≡ lastLine (a .broken) (a .clean) = sym (ap (λ (t : Bool). lastLine t (a .clean)) (c .before .before .before .before .before .if1 .taken)) in
-    (c .before .before .put-text .ensures ∙ ap (sets (a .out .now) (a .at)) line, ap (λ (l : List ℕ). a .at + length l) line)
+    let p = c .before .before in let t = p .before .before .before in let a = t .before .before .args in
+    let line : brokenLine ≡ lastLine (a .broken) (a .clean) = sym (ap (λ (t : Bool). lastLine t (a .clean)) (t .if1 .taken)) in
+    (p .put-text .ensures ∙ ap (sets (a .out .now) (a .at)) line, ap (λ (l : List ℕ). a .at + length l) line)
 
 slice-aggregate-put-text-2 : tie.Need-slice-aggregate-put-text-2
 slice-aggregate-put-text-2 c = search needs
@@ -46,9 +46,9 @@ same-length-2 c = search needs
 returns-2 : tie.Need-returns-2
 unfolding cleanLine
 returns-2 c =
-    let a = c .before .before .before .before .before .before .before .before .args in
-    let line : cleanLine ≡ lastLine (a .broken) (a .clean) = sym (ap₂ lastLine (c .before .before .before .before .before .before .if1 .left) (c .before .before .before .before .before .if2 .taken)) in
-    (c .before .before .put-text2 .ensures ∙ ap (sets (a .out .now) (a .at)) line, ap (λ (l : List ℕ). a .at + length l) line)
+    let p = c .before .before in let t = p .before .before .before in let e = t .before in let a = e .before .before .args in
+    let line : cleanLine ≡ lastLine (a .broken) (a .clean) = sym (ap₂ lastLine (e .if1 .left) (t .if2 .taken)) in
+    (p .put-text2 .ensures ∙ ap (sets (a .out .now) (a .at)) line, ap (λ (l : List ℕ). a .at + length l) line)
 
 slice-aggregate-put-text-3 : tie.Need-slice-aggregate-put-text-3
 slice-aggregate-put-text-3 c = search needs
@@ -65,9 +65,9 @@ same-length-3 c = search needs
 returns-3 : tie.Need-returns-3
 unfolding dirtyLine
 returns-3 c =
-    let a = c .before .before .before .before .before .before .before .before .args in
-    let line : dirtyLine ≡ lastLine (a .broken) (a .clean) = sym (ap₂ lastLine (c .before .before .before .before .before .before .if1 .left) (c .before .before .before .before .before .if2 .left)) in
-    (c .before .before .put-text3 .ensures ∙ ap (sets (a .out .now) (a .at)) line, ap (λ (l : List ℕ). a .at + length l) line)
+    let p = c .before .before in let t = p .before .before .before in let e = t .before in let a = e .before .before .args in
+    let line : dirtyLine ≡ lastLine (a .broken) (a .clean) = sym (ap₂ lastLine (e .if1 .left) (t .if2 .left)) in
+    (p .put-text3 .ensures ∙ ap (sets (a .out .now) (a .at)) line, ap (λ (l : List ℕ). a .at + length l) line)
 
 pub put-last-spec : {M : Type 1} → statement M
 put-last-spec =

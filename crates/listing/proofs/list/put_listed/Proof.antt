@@ -16,7 +16,11 @@ use borrow.Author.Needs.{needs}
 use Rattle.listing.proofs.list.put_listed.Statement.{statement}
 use Rattle.listing.proofs.list.put_listed.Tie as tie
 
-answered : (c : tie.After-station-mount) → c .station-mount .result ≡ after (lent (c .before .before .before .before .before .args .image .now) (c .before .before .before .before .before .args .kinds .now)) spare mount .answer
+-- the entry of the function
+abbrev start-of : tie.After-station-mount → tie.Start
+start-of c = c .before .before .before .before .before
+
+answered : (c : tie.After-station-mount) → let s = start-of c in c .station-mount .result ≡ after (lent (s .args .image .now) (s .args .kinds .now)) spare mount .answer
 unfolding spare
 answered c = ap {A = After} (λ x. x .answer) (c .station-mount .ensures)
 
@@ -37,11 +41,11 @@ same-length c = search needs
 
 returns : tie.Need-returns
 returns c =
-    let a = c .before .before .before .before .before .before .before .before .before .before .before .args in
+    let p = c .before .before in let t = p .before .before in let m = t .before .before in let a = start-of m .args in
     let d : Disc = lent (a .image .now) (a .kinds .now) in
-    let line : refusedLine (c .before .before .before .before .before .before .station-mount .result / 4294967296) ≡ listed d =
-    ap (λ (x : ℕ). refusedLine (outcomeIn x)) (answered (c .before .before .before .before .before .before)) ∙ listed-refused d (λ e. c .before .before .before .before .if1 .taken (ap outcomeIn (answered (c .before .before .before .before .before .before)) ∙ e)) in
-    (c .before .before .put-refused .ensures .0 ∙ ap (sets (a .out .now) 0) line, c .before .before .put-refused .ensures .1 ∙ ap length line)
+    let line : refusedLine (m .station-mount .result / 4294967296) ≡ listed d =
+    ap (λ (x : ℕ). refusedLine (outcomeIn x)) (answered m) ∙ listed-refused d (λ e. t .if1 .taken (ap outcomeIn (answered m) ∙ e)) in
+    (p .put-refused .ensures .0 ∙ ap (sets (a .out .now) 0) line, p .put-refused .ensures .1 ∙ ap length line)
 
 slice-aggregate-put-text : tie.Need-slice-aggregate-put-text
 slice-aggregate-put-text c = search needs
@@ -58,15 +62,16 @@ same-length-2 c = search needs
 returns-2 : tie.Need-returns-2
 unfolding heading
 returns-2 c =
-    let a = c .before .before .before .before .before .before .before .before .before .before .before .before .before .before .before .before .args in
+    let p = c .before .before in let h = p .before .before .before .before in let e = h .before .before .before in let m = e .before .before in
+    let a = start-of m .args in
     let d : Disc = lent (a .image .now) (a .kinds .now) in
     let out : List ℕ = a .out .now in
-    let rows : List ℕ = rowsFrom d (eqb (c .before .before .before .before .before .before .before .before .before .before .before .station-mount .result % 4294967296) 1) (mostListed + 1) 0 in
+    let rows : List ℕ = rowsFrom d (eqb (m .station-mount .result % 4294967296) 1) (mostListed + 1) 0 in
     let all : heading ++ rows ≡ listed d =
-    ap (λ (x : ℕ). heading ++ rowsFrom d (eqb (secondIn x) 1) (mostListed + 1) 0) (answered (c .before .before .before .before .before .before .before .before .before .before .before)) ∙ listed-rows d (ap outcomeIn (sym (answered (c .before .before .before .before .before .before .before .before .before .before .before))) ∙ c .before .before .before .before .before .before .before .before .before .if1 .left) in
-    let titled : c .before .before .before .before .before .before .put-text .last .0 ≡ sets out 0 heading = c .before .before .before .before .before .before .put-text .ensures in (
-      c .before .before .put-rows .ensures .0 ∙ ap (λ (x : List ℕ). sets x 25 rows) titled ∙ heading-put out rows ∙ ap (sets out 0) all,
-      c .before .before .put-rows .ensures .1 ∙ heading-length rows ∙ ap length all,
+    ap (λ (x : ℕ). heading ++ rowsFrom d (eqb (secondIn x) 1) (mostListed + 1) 0) (answered m) ∙ listed-rows d (ap outcomeIn (sym (answered m)) ∙ e .if1 .left) in
+    let titled : h .put-text .last .0 ≡ sets out 0 heading = h .put-text .ensures in (
+      p .put-rows .ensures .0 ∙ ap (λ (x : List ℕ). sets x 25 rows) titled ∙ heading-put out rows ∙ ap (sets out 0) all,
+      p .put-rows .ensures .1 ∙ heading-length rows ∙ ap length all,
     )
 
 pub put-listed-spec : {M : Type 1} → statement M

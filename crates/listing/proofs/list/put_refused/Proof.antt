@@ -1,8 +1,8 @@
 -- `listing::list::put_refused` meets its contract: the word, a column and a newline.
 -- Assumes nothing.
 use Prim.Native.Nat.{ℕ}
-use mathlib.Core.Path.{_≡_, sym, _∙_}
-use mathlib.Core.List.{List, [], _∷_}
+use mathlib.Core.Path.{sym, ap, _∙_}
+use mathlib.Core.List.{List}
 use lib.Seq.{sets}
 use Rattle.le.specs.Field.{le}
 use Rattle.listing.specs.Text.{column}
@@ -10,6 +10,16 @@ use Rattle.listing.proofs.Lines.{refused-put, length-refused}
 use borrow.Author.Needs.{needs}
 use Rattle.listing.proofs.list.put_refused.Statement.{statement}
 use Rattle.listing.proofs.list.put_refused.Tie as tie
+
+-- the places of the function, from the last back
+abbrev after-outcome : tie.After-slice-known4 → tie.After-put-column
+after-outcome c = c .before .before .before .before .before .before
+
+abbrev after-word : tie.After-slice-known4 → tie.After-put-text
+after-word c = after-outcome c .before .before .before .before
+
+abbrev start-of : tie.After-slice-known4 → tie.Start
+start-of c = after-word c .before .before .before .before
 
 slice-aggregate-put-text : tie.Need-slice-aggregate-put-text
 slice-aggregate-put-text c = search needs
@@ -28,11 +38,12 @@ same-length c = search needs
 
 returns : tie.Need-returns
 returns c =
-    let a = c .before .before .before .before .before .before .before .before .before .before .before .before .before .before .args in
+    let a = start-of c .args in
     let out : List ℕ = a .out .now in
-    let put : c .before .before .put8 .last .0
-    ≡ sets (sets (sets out 0 (114 ∷ 101 ∷ 102 ∷ 117 ∷ 115 ∷ 101 ∷ 100 ∷ [])) 7 (column 3 (a .outcome))) 11 (le 1 10) = cc in
-    (put ∙ refused-put out (a .outcome), sym (length-refused (a .outcome)))
+    let word = after-word c .put-text .ensures in
+    let outcome = after-outcome c .put-column .ensures ∙ ap (λ (t : List ℕ). sets t 7 (column 3 (a .outcome))) word in
+    let ended = c .before .before .put8 .ensures ∙ ap (λ (t : List ℕ). sets t 11 (le 1 10)) outcome in
+    (ended ∙ refused-put out (a .outcome), sym (length-refused (a .outcome)))
 
 pub put-refused-spec : {M : Type 1} → statement M
 put-refused-spec =

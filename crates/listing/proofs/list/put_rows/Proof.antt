@@ -27,14 +27,27 @@ Inv-loop image kinds out₀ clean at₀ k₀ out at k =
 abbrev μ-loop : tie.MeasureT-loop
 μ-loop image kinds out₀ clean at₀ k₀ out at k = 32 - k
 
+-- the places of the function, each found from a later one
+abbrev start-of : tie.At-loop Inv-loop μ-loop → tie.Start Inv-loop μ-loop
+start-of c = c .before .before .before .before
+
+abbrev turn : tie.After-station-look-back Inv-loop μ-loop → tie.At-loop Inv-loop μ-loop
+turn c = c .before .before .before
+
+abbrev after-look-back : tie.Else1 Inv-loop μ-loop → tie.After-station-look-back Inv-loop μ-loop
+after-look-back c = c .before .before
+
+abbrev found : tie.After-put-row-arg Inv-loop μ-loop → tie.Else1 Inv-loop μ-loop
+found c = c .before .before .before .before .before
+
 -- what the call answered and left
 answered : (c : tie.After-station-look-back Inv-loop μ-loop)
-    → c .station-look-back .result ≡ after (lent (c .before .before .before .before .before .before .before .args .image .now) (c .before .before .before .before .before .before .before .args .kinds .now)) spare (lookBack (c .before .before .before .loop .k)) .answer
+    → let p = turn c in let s = start-of p in c .station-look-back .result ≡ after (lent (s .args .image .now) (s .args .kinds .now)) spare (lookBack (p .loop .k)) .answer
 unfolding spare
 answered c = ap {A = After} (λ x. x .answer) (c .station-look-back .ensures)
 
 shown : (c : tie.After-station-look-back Inv-loop μ-loop)
-    → c .station-look-back .last .1 .1 .0 ≡ after (lent (c .before .before .before .before .before .before .before .args .image .now) (c .before .before .before .before .before .before .before .args .kinds .now)) spare (lookBack (c .before .before .before .loop .k)) .ledger
+    → let p = turn c in let s = start-of p in c .station-look-back .last .1 .1 .0 ≡ after (lent (s .args .image .now) (s .args .kinds .now)) spare (lookBack (p .loop .k)) .ledger
 unfolding spare
 shown c = ap {A = After} (λ x. x .ledger) (c .station-look-back .ensures)
 
@@ -51,19 +64,19 @@ station-look-back-requires : tie.Need-station-look-back-requires Inv-loop μ-loo
 station-look-back-requires c κs = tt
 
 put-last-requires : tie.Need-put-last-requires Inv-loop μ-loop
-put-last-requires c κs = let l = c .before .before .before .before .before .before .loop in omega (arith, l .inv .0, l .inv .1, l .inv .2, c .before .before .before .before .before .before .before .before .before .before .pre)
+put-last-requires c κs = let p = turn (c .before .before .before) in let l = p .loop in omega (arith, l .inv .0, l .inv .1, l .inv .2, start-of p .pre)
 
 same-length : tie.Need-same-length Inv-loop μ-loop
 same-length c = search needs
 
 returns : tie.Need-returns Inv-loop μ-loop
 returns c =
-    let l = c .before .before .before .before .before .before .before .before .before .loop in
-    let a = c .before .before .before .before .before .before .before .before .before .before .before .before .before .args in
-    let line : lastLine (eqb (c .before .before .before .before .before .before .station-look-back .result / 4294967296) 8) (a .clean) ≡ rowsFrom (lent (a .image .now) (a .kinds .now)) (a .clean) (32 - l .k) (l .k) =
-    ap (λ (x : ℕ). lastLine (eqb (outcomeIn x) 8) (a .clean)) (answered (c .before .before .before .before .before .before))
-    ∙ rows-stop (lent (a .image .now) (a .kinds .now)) (a .clean) (32 - l .k) (l .k) (omega arith) (λ e. c .before .before .before .before .if1 .taken (ap outcomeIn (answered (c .before .before .before .before .before .before)) ∙ e)) in
-    (c .before .before .put-last .ensures .0 ∙ ap (sets (l .out) (l .at)) line ∙ l .inv .3, c .before .before .put-last .ensures .1 ∙ ap (λ (x : List ℕ). l .at + length x) line ∙ l .inv .4)
+    let o = c .before .before in let t = o .before .before in let b = t .before .before in let p = turn b in let l = p .loop in
+    let a = start-of p .args in
+    let line : lastLine (eqb (b .station-look-back .result / 4294967296) 8) (a .clean) ≡ rowsFrom (lent (a .image .now) (a .kinds .now)) (a .clean) (32 - l .k) (l .k) =
+    ap (λ (x : ℕ). lastLine (eqb (outcomeIn x) 8) (a .clean)) (answered b)
+    ∙ rows-stop (lent (a .image .now) (a .kinds .now)) (a .clean) (32 - l .k) (l .k) (omega arith) (λ e. t .if1 .taken (ap outcomeIn (answered b) ∙ e)) in
+    (o .put-last .ensures .0 ∙ ap (sets (l .out) (l .at)) line ∙ l .inv .3, o .put-last .ensures .1 ∙ ap (λ (x : List ℕ). l .at + length x) line ∙ l .inv .4)
 
 slice-aggregate-size : tie.Need-slice-aggregate-size Inv-loop μ-loop
 slice-aggregate-size c = search needs
@@ -81,7 +94,7 @@ cast-put-row : tie.Need-cast-put-row Inv-loop μ-loop
 cast-put-row c = omega arith
 
 put-row-requires : tie.Need-put-row-requires Inv-loop μ-loop
-put-row-requires c κs = let l = c .before .before .before .before .before .before .before .before .before .before .loop in omega (arith, l .inv .0, l .inv .1, l .inv .2, c .before .before .before .before .before .before .before .before .before .before .before .before .before .before .pre)
+put-row-requires c κs = let p = turn (after-look-back (found c)) in let l = p .loop in omega (arith, l .inv .0, l .inv .1, l .inv .2, start-of p .pre)
 
 add-at : tie.Need-add-at Inv-loop μ-loop
 add-at c = omega arith
@@ -94,20 +107,20 @@ loop-less c = omega arith
 
 loop-again : tie.Need-loop-again Inv-loop μ-loop
 loop-again c =
-    let l = c .before .before .before .before .before .before .before .before .before .before .before .before .before .loop in
-    let a = c .before .before .before .before .before .before .before .before .before .before .before .before .before .before .before .before .before .args in
+    let o = c .before .before in let u = o .before .before in let z = u .before .before in let e = z .before .before in let b = after-look-back e in
+    let p = turn b in let l = p .loop in let a = start-of p .args in
     let d : Disc = lent (a .image .now) (a .kinds .now) in
-    let done : outcomeIn (after d spare (lookBack (l .k)) .answer) ≡ 0 = ap outcomeIn (sym (answered (c .before .before .before .before .before .before .before .before .before .before))) ∙ c .before .before .before .before .before .before .before .before .if1 .left in
-    let second : c .before .before .before .before .before .before .before .before .before .before .station-look-back .result % 4294967296 ≡ secondIn (after d spare (lookBack (l .k)) .answer) = ap secondIn (answered (c .before .before .before .before .before .before .before .before .before .before)) in
-    let size : c .before .before .before .before .before .before .size .result ≡ unpack (after d spare (lookBack (l .k)) .ledger) .size = c .before .before .before .before .before .before .size .ensures ∙ ap (λ (x : List ℕ). unpack x .size) (shown (c .before .before .before .before .before .before .before .before .before .before)) in
-    let count : c .before .before .before .before .used .result ≡ used (unpack (after d spare (lookBack (l .k)) .ledger) .entries) = c .before .before .before .before .used .ensures ∙ ap (λ (x : List ℕ). used (unpack x .entries)) (shown (c .before .before .before .before .before .before .before .before .before .before)) in
-    let one : List ℕ = rowLine (l .k) (c .before .before .before .before .before .before .before .before .before .before .station-look-back .result % 4294967296) (c .before .before .before .before .before .before .size .result) (c .before .before .before .before .used .result) in
+    let done : outcomeIn (after d spare (lookBack (l .k)) .answer) ≡ 0 = ap outcomeIn (sym (answered b)) ∙ e .if1 .left in
+    let second : b .station-look-back .result % 4294967296 ≡ secondIn (after d spare (lookBack (l .k)) .answer) = ap secondIn (answered b) in
+    let size : z .size .result ≡ unpack (after d spare (lookBack (l .k)) .ledger) .size = z .size .ensures ∙ ap (λ (x : List ℕ). unpack x .size) (shown b) in
+    let count : u .used .result ≡ used (unpack (after d spare (lookBack (l .k)) .ledger) .entries) = u .used .ensures ∙ ap (λ (x : List ℕ). used (unpack x .entries)) (shown b) in
+    let one : List ℕ = rowLine (l .k) (b .station-look-back .result % 4294967296) (z .size .result) (u .used .result) in
     let is : one ≡ rowOf (l .k) (after d spare (lookBack (l .k))) = same-row (l .k) second size count ∙ row-of (l .k) (after d spare (lookBack (l .k))) in
     let left : 32 - (l .k + 1) ≡ 32 - l .k - 1 = omega arith in (
       omega arith,
       omega (arith, l .inv .1),
-      ap length (c .before .before .put-row .ensures) ∙ length-sets (l .out) (l .at) one ∙ l .inv .2,
-      ap₂ (λ (x : List ℕ) (n : ℕ). sets x (l .at + 25) (rowsFrom d (a .clean) n (l .k + 1))) (c .before .before .put-row .ensures) left
+      ap length (o .put-row .ensures) ∙ length-sets (l .out) (l .at) one ∙ l .inv .2,
+      ap₂ (λ (x : List ℕ) (n : ℕ). sets x (l .at + 25) (rowsFrom d (a .clean) n (l .k + 1))) (o .put-row .ensures) left
           ∙ row-put-on d (a .clean) (32 - l .k) (l .k) (omega arith) done one is (l .out) (l .at)
           ∙ l .inv .3,
       ap (λ (n : ℕ). l .at + 25 + length (rowsFrom d (a .clean) n (l .k + 1))) left
@@ -116,17 +129,16 @@ loop-again c =
     )
 
 put-last-requires-2 : tie.Need-put-last-requires-2 Inv-loop μ-loop
-put-last-requires-2 c κs = let l = c .before .before .loop in omega (arith, l .inv .0, l .inv .1, l .inv .2, c .before .before .before .before .before .before .pre)
+put-last-requires-2 c κs = let p = c .before .before in let l = p .loop in omega (arith, l .inv .0, l .inv .1, l .inv .2, start-of p .pre)
 
 same-length-2 : tie.Need-same-length-2 Inv-loop μ-loop
 same-length-2 c = search needs
 
 returns-2 : tie.Need-returns-2 Inv-loop μ-loop
 returns-2 c =
-    let l = c .before .before .before .before .before .loop in
-    let a = c .before .before .before .before .before .before .before .before .before .args in
+    let o = c .before .before in let p = o .before .before .before in let l = p .loop in let a = start-of p .args in
     let line : lastLine false (a .clean) ≡ rowsFrom (lent (a .image .now) (a .kinds .now)) (a .clean) (32 - l .k) (l .k) = rows-end (lent (a .image .now) (a .kinds .now)) (a .clean) (32 - l .k) (l .k) (omega arith) in
-    (c .before .before .put-last2 .ensures .0 ∙ ap (sets (l .out) (l .at)) line ∙ l .inv .3, c .before .before .put-last2 .ensures .1 ∙ ap (λ (x : List ℕ). l .at + length x) line ∙ l .inv .4)
+    (o .put-last2 .ensures .0 ∙ ap (sets (l .out) (l .at)) line ∙ l .inv .3, o .put-last2 .ensures .1 ∙ ap (λ (x : List ℕ). l .at + length x) line ∙ l .inv .4)
 
 pub put-rows-spec : {M : Type 1} → statement M
 put-rows-spec =

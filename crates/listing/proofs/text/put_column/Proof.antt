@@ -18,6 +18,10 @@ Inv-loop out₀ at w n last m₀ place₀ out m place =
 abbrev μ-loop : tie.MeasureT-loop
 μ-loop out₀ at w n last m₀ place₀ out m place = place - at
 
+-- the entry of the function
+abbrev start-of : tie.At-loop Inv-loop μ-loop → tie.Start Inv-loop μ-loop
+start-of c = c .before .before .before
+
 add-last : tie.Need-add-last Inv-loop μ-loop
 add-last c = omega (arith, c .before .pre)
 
@@ -37,15 +41,17 @@ digit-or-blank-requires : tie.Need-digit-or-blank-requires Inv-loop μ-loop
 digit-or-blank-requires c κs = tt
 
 slice-write-out-2 : tie.Need-slice-write-out-2 Inv-loop μ-loop
-slice-write-out-2 c = let l = c .before .before .loop in let a = c .before .before .before .before .before .args in omega (arith, l .inv .1, l .inv .2, length-set (a .out .now) (a .at + a .w) (c .before .before .before .digit .result), c .before .before .before .before .before .pre)
+slice-write-out-2 c =
+    let p = c .before .before in let l = p .loop in let s = start-of p in let a = s .args in
+    omega (arith, l .inv .1, l .inv .2, length-set (a .out .now) (a .at + a .w) (p .before .digit .result), s .pre)
 
 loop-less : tie.Need-loop-less Inv-loop μ-loop
 loop-less c = omega arith
 
 loop-again : tie.Need-loop-again Inv-loop μ-loop
 loop-again c =
-    let l = c .before .before .loop in
-    let a = c .before .before .before .before .before .args in (
+    let p = c .before .before in let l = p .loop in
+    let a = start-of p .args in (
       omega arith,
       omega arith,
       length-set (l .out) (l .place - 1) (c .digit-or-blank .result) ∙ l .inv .2,
@@ -55,16 +61,17 @@ loop-again c =
     )
 
 same-length : tie.Need-same-length Inv-loop μ-loop
-same-length c = let a = c .before .before .before .before .args in c .before .loop .inv .2 ∙ length-set (a .out .now) (a .at + a .w) (c .before .before .digit .result)
+same-length c =
+    let p = c .before in let a = start-of p .args in
+    p .loop .inv .2 ∙ length-set (a .out .now) (a .at + a .w) (p .before .digit .result)
 
 returns : tie.Need-returns Inv-loop μ-loop
 returns c =
-    let l = c .before .loop in
-    let a = c .before .before .before .before .args in
+    let p = c .before in let l = p .loop in let a = start-of p .args in
     let out : List ℕ = a .out .now in
     sym (column-ends (l .out) (a .at) (l .place) (l .m) (omega arith))
     ∙ l .inv .3
-    ∙ ap (λ (x : ℕ). sets (set out (a .at + a .w) x) (a .at) (ahead (a .at + a .w - a .at) (a .n / 10))) (c .before .before .digit .ensures)
+    ∙ ap (λ (x : ℕ). sets (set out (a .at + a .w) x) (a .at) (ahead (a .at + a .w - a .at) (a .n / 10))) (p .before .digit .ensures)
     ∙ column-starts out (a .at) (a .w) (a .n)
 
 pub put-column-spec : {M : Type 1} → statement M

@@ -27,6 +27,10 @@ Inv-loop ledger count₀ i₀ count i = (i ≤ 458) × (count ≡ used (drop i (
 abbrev μ-loop : tie.MeasureT-loop
 μ-loop ledger count₀ i₀ count i = i
 
+-- the entry of the function
+abbrev start-of : tie.At-loop Inv-loop μ-loop → tie.Start Inv-loop μ-loop
+start-of c = c .before .before
+
 loop-holds : tie.Need-loop-holds Inv-loop μ-loop
 loop-holds c = (omega arith, sym (none-used (entries (c .before .args .ledger .now)) 458 (omega (arith, long (c .before .args .ledger .now)))))
 
@@ -34,28 +38,28 @@ sub-i : tie.Need-sub-i Inv-loop μ-loop
 sub-i c = omega arith
 
 entry-requires : tie.Need-entry-requires Inv-loop μ-loop
-entry-requires c κs = (c .before .before .before .pre, omega arith)
+entry-requires c κs = (start-of (c .before) .pre, omega arith)
 
 counted-requires : tie.Need-counted-requires Inv-loop μ-loop
 counted-requires c κs =
-    let l = c .before .before .loop in
-    let e : List ℕ = entries (c .before .before .before .before .args .ledger .now) in
-    omega (arith, l .inv .1, used-few (drop (l .i) e), length-drop (l .i) e, long (c .before .before .before .before .args .ledger .now))
+    let p = c .before .before in let s = start-of p in let l = p .loop in
+    let e : List ℕ = entries (s .args .ledger .now) in
+    omega (arith, l .inv .1, used-few (drop (l .i) e), length-drop (l .i) e, long (s .args .ledger .now))
 
 loop-less : tie.Need-loop-less Inv-loop μ-loop
 loop-less c = omega arith
 
 loop-again : tie.Need-loop-again Inv-loop μ-loop
 loop-again c =
-    let l = c .before .before .before .loop in
-    let e : List ℕ = entries (c .before .before .before .before .before .args .ledger .now) in
-    (omega arith, c .counted .ensures ∙ ap₂ (λ (x n : ℕ). counting (eqb x unused) n) (c .before .entry .ensures) (l .inv .1) ∙ sym (used-turn e (l .i) (omega arith) (omega (arith, long (c .before .before .before .before .before .args .ledger .now)))))
+    let p = c .before .before .before in let s = start-of p in let l = p .loop in
+    let e : List ℕ = entries (s .args .ledger .now) in
+    (omega arith, c .counted .ensures ∙ ap₂ (λ (x n : ℕ). counting (eqb x unused) n) (c .before .entry .ensures) (l .inv .1) ∙ sym (used-turn e (l .i) (omega arith) (omega (arith, long (s .args .ledger .now)))))
 
 returns : tie.Need-returns Inv-loop μ-loop
 returns c =
-    let l = c .before .loop in
+    let p = c .before in let l = p .loop in
     let none : l .i ≡ 0 = omega arith in
-    l .inv .1 ∙ ap (λ (k : ℕ). used (drop k (entries (c .before .before .before .args .ledger .now)))) none
+    l .inv .1 ∙ ap (λ (k : ℕ). used (drop k (entries (start-of p .args .ledger .now)))) none
 
 pub used-spec : {M : Type 1} → statement M
 used-spec =

@@ -1,16 +1,32 @@
 -- `vat::sector::put_table` meets its contract: the table, put part by part.
 -- Assumes nothing.
 use Prim.Native.Nat.{ℕ, _+_}
-use mathlib.Core.Path.{_≡_, refl, _∙_}
+use mathlib.Core.Path.{refl, ap, _∙_}
 use mathlib.Core.List.{List}
 use lib.ListN.{length}
 use lib.Seq.{sets}
-use Rattle.le.specs.Field.{le, leWords}
-use Rattle.vat.specs.Table.{tableStart, regidAt, tableName}
+use Rattle.le.specs.Field.{le}
+use Rattle.vat.specs.Table.{regidAt, tableName}
 use Rattle.vat.proofs.Record.{table-put}
 use borrow.Author.Needs.{needs}
 use Rattle.vat.proofs.sector.put_table.Statement.{statement}
 use Rattle.vat.proofs.sector.put_table.Tie as tie
+
+-- the places of the function, from the last back
+abbrev after-suffix : tie.After-slice-known6 → tie.After-put64
+after-suffix c = c .before .before .before .before .before .before
+
+abbrev after-name : tie.After-slice-known6 → tie.After-put-text
+after-name c = after-suffix c .before .before .before .before
+
+abbrev after-flags : tie.After-slice-known6 → tie.After-put8
+after-flags c = after-name c .before .before .before .before .before
+
+abbrev after-words : tie.After-slice-known6 → tie.After-put-words
+after-words c = after-flags c .before .before .before .before
+
+abbrev start-of : tie.After-slice-known6 → tie.Start
+start-of c = after-words c .before .before .before .before
 
 mul-regid : tie.Need-mul-regid
 mul-regid c = search needs
@@ -51,17 +67,15 @@ same-length c = search needs
 returns : tie.Need-returns
 unfolding tableName
 returns c =
-    let a = c .before .before .before .before .before .before .before .before .before .before .before .before .before .before .before .before .before .before .before .before .before .before .before .args in
+    let a = start-of c .args in
     let s : List ℕ = a .s .now in
     let map : List ℕ = a .map .now in
-    let words = c .before .before .before .before .before .before .before .before .before .before .before .before .before .before .before .before .before .before .before .put-words in
-    let flags = c .before .before .before .before .before .before .before .before .before .before .before .before .before .before .before .put8 in
-    let text = c .before .before .before .before .before .before .before .before .before .before .put-text in
-    let suffix = c .before .before .before .before .before .before .put64 in
     let r : ℕ = regidAt (length map) in
-    let put : c .before .before .put32 .last .0
-    ≡ sets (sets (sets (sets (sets s tableStart (leWords map)) r (le 1 0)) (r + 1) tableName) (r + 24) (le 8 0x0150)) (r + 32) (le 4 (a .previous)) = cc in
-    put ∙ table-put s map (a .previous) r refl
+    let words = after-words c .put-words .ensures in
+    let flags = after-flags c .put8 .ensures ∙ ap (λ (t : List ℕ). sets t r (le 1 0)) words in
+    let name = after-name c .put-text .ensures ∙ ap (λ (t : List ℕ). sets t (r + 1) tableName) flags in
+    let suffix = after-suffix c .put64 .ensures ∙ ap (λ (t : List ℕ). sets t (r + 24) (le 8 0x0150)) name in
+    c .before .before .put32 .ensures ∙ ap (λ (t : List ℕ). sets t (r + 32) (le 4 (a .previous))) suffix ∙ table-put s map (a .previous) r refl
 
 pub put-table-spec : {M : Type 1} → statement M
 put-table-spec =

@@ -4,27 +4,59 @@ use Prim.Native.Nat.{ℕ}
 use native.Mathlib.Omega.{arith}
 use mathlib.Core.Path.{_≡_, ap, _∙_}
 use mathlib.Core.List.{List}
-use lib.ListN.{length}
+use lib.ListN.{length, replicate}
+use lib.Seq.{sets}
 use Rattle.le.specs.Field.{lay}
 use Rattle.le.proofs.Rows.{length-lay}
 use Rattle.tag.specs.Tag.{seal}
-use Rattle.vat.specs.Table.{plainRows, lengthRows}
-use Rattle.vat.specs.Sector.{ownRows, stationName, body, sector}
+use Rattle.vat.specs.Table.{tableStart, plainRows, lengthRows}
+use Rattle.vat.specs.Sector.{ownRows, tableBytes, stationAt, stationName, body, sector}
 use Rattle.vat.proofs.Frame.{Lengths}
 use Rattle.vat.proofs.Record.{header, header-lengths, header-laid, length-body}
 use borrow.Author.Needs.{needs}
 use Rattle.vat.proofs.sector.record.Statement.{statement}
 use Rattle.vat.proofs.sector.record.Tie as tie
 
+-- the places of the function, from the last back
+abbrev after-own : tie.After-seal-arg → tie.After-put-own
+after-own c = c .before .before .before
+
+abbrev after-lengths : tie.After-seal-arg → tie.After-put-lengths
+after-lengths c = after-own c .before .before .before .before
+
+abbrev after-plain : tie.After-seal-arg → tie.After-put-plain
+after-plain c = after-lengths c .before .before .before .before
+
+abbrev after-station : tie.After-seal-arg → tie.After-put-text
+after-station c = after-plain c .before .before .before .before
+
+abbrev after-table : tie.After-seal-arg → tie.After-put-table
+after-table c = after-station c .before .before .before .before .before
+
+abbrev after-clear : tie.After-seal-arg → tie.After-clear
+after-clear c = after-table c .before .before .before .before
+
+abbrev start-of : tie.After-seal-arg → tie.Start
+start-of c = after-clear c .before .before .before .before
+
+-- zeros, the table and the station's name make the body
+filled : (c : tie.After-seal-arg) → let s = start-of c in after-station c .put-text .last .0 ≡ body (s .args .map .now) (s .args .previous)
+unfolding body stationName
+filled c =
+    let s = start-of c in let a = s .args in
+    let zeros = after-clear c .clear .ensures ∙ ap (λ (n : ℕ). replicate n 0) (s .pre .0) in
+    let table = after-table c .put-table .ensures ∙ ap (λ (l : List ℕ). sets l tableStart (tableBytes (a .map .now) (a .previous))) zeros in
+    after-station c .put-text .ensures ∙ ap (λ (l : List ℕ). sets l stationAt stationName) table
+
 -- what is sealed: the header laid over the body
 laid : (c : tie.After-seal-arg)
-    → c .before .before .before .put-own .last .0 ≡ lay (body (c .before .before .before .before .before .before .before .before .before .before .before .before .before .before .before .before .before .before .before .before .before .before .before .before .before .before .before .before .args .map .now) (c .before .before .before .before .before .before .before .before .before .before .before .before .before .before .before .before .before .before .before .before .before .before .before .before .before .before .before .before .args .previous)) (header (c .before .before .before .before .before .before .before .before .before .before .before .before .before .before .before .before .before .before .before .before .before .before .before .before .before .before .before .before .args .b) (length (c .before .before .before .before .before .before .before .before .before .before .before .before .before .before .before .before .before .before .before .before .before .before .before .before .before .before .before .before .args .map .now)))
-unfolding body stationName
+    → let s = start-of c in after-own c .put-own .last .0 ≡ lay (body (s .args .map .now) (s .args .previous)) (header (s .args .b) (length (s .args .map .now)))
 laid c =
-    let a = c .before .before .before .before .before .before .before .before .before .before .before .before .before .before .before .before .before .before .before .before .before .before .before .before .before .before .before .before .args in
+    let a = start-of c .args in
     let n : ℕ = length (a .map .now) in
-    let parts : c .before .before .before .put-own .last .0 ≡ lay (lay (lay (body (a .map .now) (a .previous)) (plainRows (a .b))) (lengthRows n)) ownRows = cc in
-    parts ∙ header-laid (a .b) n (body (a .map .now) (a .previous))
+    let plain = after-plain c .put-plain .ensures ∙ ap (λ (l : List ℕ). lay l (plainRows (a .b))) (filled c) in
+    let lengths = after-lengths c .put-lengths .ensures ∙ ap (λ (l : List ℕ). lay l (lengthRows n)) plain in
+    after-own c .put-own .ensures ∙ ap (λ (l : List ℕ). lay l ownRows) lengths ∙ header-laid (a .b) n (body (a .map .now) (a .previous))
 
 clear-requires : tie.Need-clear-requires
 clear-requires c κs = search needs
@@ -52,11 +84,11 @@ put-own-requires c κs = search needs
 
 seal-requires : tie.Need-seal-requires
 seal-requires c κs =
-    let a = c .before .before .before .before .before .before .before .before .before .before .before .before .before .before .before .before .before .before .before .before .before .before .before .before .before .before .before .before .args in
+    let p = start-of c in let a = p .args in
     let n : ℕ = length (a .map .now) in
     let s : List ℕ = body (a .map .now) (a .previous) in
-    let told : Lengths (lay s (header (a .b) n)) n = header-lengths (a .b) n s (c .before .before .before .before .before .before .before .before .before .before .before .before .before .before .before .before .before .before .before .before .before .before .before .before .before .before .before .before .fits .b .fits) (c .before .before .before .before .before .before .before .before .before .before .before .before .before .before .before .before .before .before .before .before .before .before .before .before .before .before .before .before .pre .1) (length-body (a .map .now) (a .previous)) in
-    rw (laid c) (omega (arith, told .summed, c .before .before .before .before .before .before .before .before .before .before .before .before .before .before .before .before .before .before .before .before .before .before .before .before .before .before .before .before .pre .1, length-lay (header (a .b) n) s, length-body (a .map .now) (a .previous)))
+    let told : Lengths (lay s (header (a .b) n)) n = header-lengths (a .b) n s (p .fits .b .fits) (p .pre .1) (length-body (a .map .now) (a .previous)) in
+    rw (laid c) (omega (arith, told .summed, p .pre .1, length-lay (header (a .b) n) s, length-body (a .map .now) (a .previous)))
 
 same-length : tie.Need-same-length
 same-length c = search needs

@@ -14,6 +14,10 @@ use borrow.Author.Needs.{needs}
 use Rattle.vat.proofs.table.framed.Statement.{statement}
 use Rattle.vat.proofs.table.framed.Tie as tie
 
+-- the entry of the function
+abbrev start-of : tie.Else1 → tie.Start
+start-of c = c .before .before .before
+
 plain-held-requires : tie.Need-plain-held-requires
 plain-held-requires c κs = search needs
 
@@ -33,8 +37,7 @@ entry-count-requires c κs = search needs
 returns-2 : tie.Need-returns-2
 unfolding framed
 returns-2 c =
-    let at = c .before .before .before in
-    let a = at .before .before .before .args in
+    let at = c .before .before .before in let a = start-of at .args in
     let s : List ℕ = a .s .now in
     let plain : holds s (plainRows (a .b)) ≡ true = sym (at .before .plain-held .ensures) ∙ not-false (at .before .plain-held .result) (at .if1 .left) in
     let many : leb (entryCount s) limit ≡ false = lt-leb (entryCount s) limit (omega (arith, c .before .entry-count .ensures)) in
@@ -70,9 +73,7 @@ may-name-requires c κs = search needs
 returns-3 : tie.Need-returns-3
 unfolding framed tableName
 returns-3 c =
-    let counted = c .before .before .before .before .before .before in
-    let at = counted .before .before in
-    let a = at .before .before .before .args in
+    let counted = c .before .before .before .before .before .before in let at = counted .before .before in let a = start-of at .args in
     let s : List ℕ = a .s .now in
     let plain : holds s (plainRows (a .b)) ≡ true = sym (at .before .plain-held .ensures) ∙ not-false (at .before .plain-held .result) (at .if1 .left) in
     let few : leb (entryCount s) limit ≡ true = le-leb (entryCount s) limit (omega (arith, counted .entry-count .ensures)) in

@@ -16,30 +16,40 @@ use borrow.Author.Needs.{needs}
 use Rattle.vat.proofs.table.is_table.Statement.{statement}
 use Rattle.vat.proofs.table.is_table.Tie as tie
 
-data-sector : (c : tie.Else1) → eqb (c .before .before .args .kind) 1 ≡ true
-data-sector c = eq-eqb (c .before .before .args .kind) 1 (c .if1 .left)
+-- the places of the function, each found from a later one
+abbrev start-of : tie.Else1 → tie.Start
+start-of c = c .before .before
+
+abbrev sector-of : tie.Else3 → tie.Else2
+sector-of c = c .before .before
+
+abbrev frame-of : tie.After-words-held → tie.Else3
+frame-of c = c .before .before
+
+data-sector : (c : tie.Else1) → eqb (start-of c .args .kind) 1 ≡ true
+data-sector c = eq-eqb (start-of c .args .kind) 1 (c .if1 .left)
 
 -- past the tests of kind and length: the sector and its block
 abbrev S : tie.Else2 → List ℕ
-S c = c .before .before .before .args .s .now
+S c = start-of (c .before) .args .s .now
 
 abbrev B : tie.Else2 → ℕ
-B c = c .before .before .before .args .b
+B c = start-of (c .before) .args .b
 
 whole : (c : tie.Else2) → eqb (length (S c)) sectorLength ≡ true
 whole c = eq-eqb (length (S c)) sectorLength (c .if2 .left)
 
-frame : (c : tie.Else3) → framed (S (c .before .before)) (B (c .before .before)) (entryCount (S (c .before .before))) ≡ true
+frame : (c : tie.Else3) → let e = sector-of c in framed (S e) (B e) (entryCount (S e)) ≡ true
 frame c = sym (c .before .framed .ensures) ∙ not-false (c .before .framed .result) (c .if3 .left)
 
-told : (c : tie.Else3) → Framed (S (c .before .before)) (B (c .before .before)) (entryCount (S (c .before .before)))
-told c = framed-tells (S (c .before .before)) (B (c .before .before)) (entryCount (S (c .before .before))) (frame c)
+told : (c : tie.Else3) → let e = sector-of c in Framed (S e) (B e) (entryCount (S e))
+told c = let e = sector-of c in framed-tells (S e) (B e) (entryCount (S e)) (frame c)
 
 listed : (c : tie.After-words-held)
-    → c .words-held .result ≡ every (unusedOrBelow (B (c .before .before .before .before))) (entriesOf (S (c .before .before .before .before)))
+    → let e = sector-of (frame-of c) in c .words-held .result ≡ every (unusedOrBelow (B e)) (entriesOf (S e))
 unfolding entriesOf
 listed c =
-    let e = c .before .before .before .before in
+    let e = sector-of (frame-of c) in
     c .words-held .ensures ∙ ap (λ (n : ℕ). every (unusedOrBelow (B e)) (words n (S e) tableStart)) (c .before .entry-count .ensures)
 
 returns : tie.Need-returns
@@ -51,7 +61,7 @@ returns c =
 returns-2 : tie.Need-returns-2
 unfolding isTable
 returns-2 c =
-    let s : List ℕ = c .before .before .before .args .s .now in
+    let s : List ℕ = start-of (c .before) .args .s .now in
     let wrong : eqb (length s) sectorLength ≡ false = ne-eqb (length s) sectorLength (c .if2 .taken) in
     rw (data-sector (c .before), wrong)
 
@@ -61,35 +71,36 @@ framed-requires c κs = search needs
 returns-3 : tie.Need-returns-3
 unfolding isTable
 returns-3 c =
-    let wrong : framed (S (c .before .before)) (B (c .before .before)) (entryCount (S (c .before .before))) ≡ false = sym (c .before .framed .ensures) ∙ not-true (c .before .framed .result) (c .if3 .taken) in
-    rw (data-sector (c .before .before .before), whole (c .before .before), wrong)
+    let e = c .before .before in
+    let wrong : framed (S e) (B e) (entryCount (S e)) ≡ false = sym (c .before .framed .ensures) ∙ not-true (c .before .framed .result) (c .if3 .taken) in
+    rw (data-sector (e .before), whole e, wrong)
 
 entry-count-requires : tie.Need-entry-count-requires
 entry-count-requires c κs = search needs
 
 words-held-requires : tie.Need-words-held-requires
-words-held-requires c κs = omega (arith, c .before .before .before .if2 .left, c .entry-count .ensures, told (c .before) .few)
+words-held-requires c κs = omega (arith, sector-of (c .before) .if2 .left, c .entry-count .ensures, told (c .before) .few)
 
 returns-4 : tie.Need-returns-4
 unfolding isTable
 returns-4 c =
-    let e = c .before .before .before in
-    let wrong : every (unusedOrBelow (B (e .before .before))) (entriesOf (S (e .before .before))) ≡ false =
-    sym (listed (c .before)) ∙ not-true (c .before .words-held .result) (c .if4 .taken) in
-    rw (data-sector (e .before .before .before), whole (e .before .before), frame e, wrong)
+    let w = c .before in let e = frame-of w in
+    let wrong : every (unusedOrBelow (B (sector-of e))) (entriesOf (S (sector-of e))) ≡ false =
+    sym (listed w) ∙ not-true (w .words-held .result) (c .if4 .taken) in
+    rw (data-sector (sector-of e .before), whole (sector-of e), frame e, wrong)
 
 sealed-requires : tie.Need-sealed-requires
 sealed-requires c κs =
-    let e = c .before .before .before in
-    omega (arith, e .before .before .if2 .left, told e .few, told e .sized .summed)
+    let e = frame-of (c .before) in
+    omega (arith, sector-of e .if2 .left, told e .few, told e .sized .summed)
 
 returns-5 : tie.Need-returns-5
 unfolding isTable
 returns-5 c =
-    let e = c .before .before .before .before in
-    let right : every (unusedOrBelow (B (e .before .before))) (entriesOf (S (e .before .before))) ≡ true =
-    sym (listed (c .before .before)) ∙ not-false (c .before .before .words-held .result) (c .before .if4 .left) in
-    rw (data-sector (e .before .before .before), whole (e .before .before), frame e, right) (c .sealed .ensures)
+    let w = c .before .before in let e = frame-of w in
+    let right : every (unusedOrBelow (B (sector-of e))) (entriesOf (S (sector-of e))) ≡ true =
+    sym (listed w) ∙ not-false (w .words-held .result) (c .before .if4 .left) in
+    rw (data-sector (sector-of e .before), whole (sector-of e), frame e, right) (c .sealed .ensures)
 
 pub is-table-spec : {M : Type 1} → statement M
 is-table-spec =

@@ -13,6 +13,13 @@ use Rattle.le.specs.Field.{readLe}
 use Rattle.vat.proofs.table.plain_held.Statement.{statement}
 use Rattle.vat.proofs.table.plain_held.Tie as tie
 
+-- the places of the function, each found from a later one
+abbrev start-of : tie.Else1 → tie.Start
+start-of c = c .before .before .before
+
+abbrev identified : tie.After-read32 → tie.Else1
+identified c = c .before .before .before
+
 -- a place below 2048 is within the sector
 inside : (c : tie.Start) {k : ℕ} → k ≤ sectorLength → k ≤ length (c .args .s .now)
 inside c {k} h = subst⁻¹ (λ (n : ℕ). k ≤ n) (c .pre) h
@@ -28,31 +35,31 @@ returns c =
     rw wrong
 
 read16-requires-2 : tie.Need-read16-requires-2
-read16-requires-2 c κs = inside (c .before .before .before) (lit≤ tt)
+read16-requires-2 c κs = inside (start-of c) (lit≤ tt)
 
 read8-requires : tie.Need-read8-requires
-read8-requires c κs = inside (c .before .before .before .before) (lit≤ tt)
+read8-requires c κs = inside (start-of (c .before)) (lit≤ tt)
 
 read32-requires : tie.Need-read32-requires
-read32-requires c κs = inside (c .before .before .before .before .before) (lit≤ tt)
+read32-requires c κs = inside (start-of (c .before .before)) (lit≤ tt)
 
 read16-requires-3 : tie.Need-read16-requires-3
-read16-requires-3 c κs = inside (c .before .before .before .before .before .before) (lit≤ tt)
+read16-requires-3 c κs = inside (start-of (identified c)) (lit≤ tt)
 
 read8-requires-2 : tie.Need-read8-requires-2
-read8-requires-2 c κs = inside (c .before .before .before .before .before .before .before) (lit≤ tt)
+read8-requires-2 c κs = inside (start-of (identified (c .before))) (lit≤ tt)
 
 read16-requires-4 : tie.Need-read16-requires-4
-read16-requires-4 c κs = inside (c .before .before .before .before .before .before .before .before) (lit≤ tt)
+read16-requires-4 c κs = inside (start-of (identified (c .before .before))) (lit≤ tt)
 
 read32-requires-2 : tie.Need-read32-requires-2
-read32-requires-2 c κs = inside (c .before .before .before .before .before .before .before .before .before) (lit≤ tt)
+read32-requires-2 c κs = inside (start-of (identified (c .before .before .before))) (lit≤ tt)
 
 returns-2 : tie.Need-returns-2
 unfolding holds plainRows
 returns-2 c =
-    let at = c .before .before .before .before .before .before .before in
-    let s : List ℕ = at .before .before .before .args .s .now in
+    let at = identified (c .before .before .before .before) in
+    let s : List ℕ = start-of at .args .s .now in
     let right : eqb (readLe 2 s 0) 261 ≡ true = eq-eqb (readLe 2 s 0) 261 (sym (at .before .read16 .ensures) ∙ at .if1 .left) in
     simp (right, and-true) (cc)
 

@@ -2,11 +2,11 @@
 -- Assumes nothing.
 use Prim.Native.Nat.{ℕ, _+_}
 use native.Mathlib.Omega.{arith}
-use mathlib.Core.Path.{_≡_, sym, _∙_}
+use mathlib.Core.Path.{_≡_, sym, ap, _∙_}
 use mathlib.Core.List.{List}
 use lib.ListN.{length}
 use lib.Seq.{sets}
-use Rattle.le.specs.Field.{le, leWords}
+use Rattle.le.specs.Field.{le}
 use Rattle.volume.specs.declared.Volume.{Volume}
 use Rattle.volume.specs.Volume.{entriesLength}
 use Rattle.volume.proofs.State.{pack-put}
@@ -14,13 +14,30 @@ use borrow.Author.Needs.{needs}
 use Rattle.volume.proofs.Volume.store.Statement.{statement}
 use Rattle.volume.proofs.Volume.store.Tie as tie
 
+-- the places of the function, from the last back
+abbrev after-last : tie.After-slice-known6 → tie.After-put323
+after-last c = c .before .before .before .before .before .before
+
+abbrev after-recorded : tie.After-slice-known6 → tie.After-put322
+after-recorded c = after-last c .before .before .before .before
+
+abbrev after-size : tie.After-slice-known6 → tie.After-put32
+after-size c = after-recorded c .before .before .before .before
+
+abbrev after-entries : tie.After-slice-known6 → tie.After-put-words
+after-entries c = after-size c .before .before .before .before
+
+abbrev start-of : tie.After-entries2 → tie.Start
+start-of c = c .before .before .before .before
+
 slice-aggregate-put-words : tie.Need-slice-aggregate-put-words
 slice-aggregate-put-words c = search needs
 
 put-words-requires : tie.Need-put-words-requires
 put-words-requires c κs =
-    let counted : 458 ≡ length (c .before .before .before .before .args .self .entries) = slice-aggregate-put-words c in
-    omega (arith, c .before .before .before .before .pre)
+    let s = start-of c in
+    let counted : 458 ≡ length (s .args .self .entries) = slice-aggregate-put-words c in
+    omega (arith, s .pre)
 
 put32-requires : tie.Need-put32-requires
 put32-requires c κs = search needs
@@ -48,13 +65,15 @@ same-length c = search needs
 
 returns : tie.Need-returns
 returns c =
-    let a = c .before .before .before .before .before .before .before .before .before .before .before .before .before .before .before .before .before .before .before .before .before .before .before .args in
+    let e = after-entries c .before in let s = start-of e in let a = s .args in
     let v : Volume = a .self in
     let l : List ℕ = a .l .now in
-    let counted : 458 ≡ length (v .entries) = slice-aggregate-put-words (c .before .before .before .before .before .before .before .before .before .before .before .before .before .before .before .before .before .before .before) in
-    let put : c .before .before .put324 .last .0
-    ≡ sets (sets (sets (sets (sets l 0 (leWords (v .entries))) entriesLength (le 4 (v .size))) (entriesLength + 4) (le 4 (v .recorded))) (entriesLength + 8) (le 4 (v .last))) (entriesLength + 12) (le 4 (v .mode)) = cc in
-    put ∙ pack-put v l (sym counted) (c .before .before .before .before .before .before .before .before .before .before .before .before .before .before .before .before .before .before .before .before .before .before .before .pre)
+    let counted : 458 ≡ length (v .entries) = slice-aggregate-put-words e in
+    let entries = after-entries c .put-words .ensures in
+    let size = after-size c .put32 .ensures ∙ ap (λ (t : List ℕ). sets t entriesLength (le 4 (v .size))) entries in
+    let recorded = after-recorded c .put322 .ensures ∙ ap (λ (t : List ℕ). sets t (entriesLength + 4) (le 4 (v .recorded))) size in
+    let last = after-last c .put323 .ensures ∙ ap (λ (t : List ℕ). sets t (entriesLength + 8) (le 4 (v .last))) recorded in
+    c .before .before .put324 .ensures ∙ ap (λ (t : List ℕ). sets t (entriesLength + 12) (le 4 (v .mode))) last ∙ pack-put v l (sym counted) (s .pre)
 
 pub store-spec : {M : Type 1} → statement M
 store-spec =

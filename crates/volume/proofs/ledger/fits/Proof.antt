@@ -20,6 +20,16 @@ use borrow.Author.Needs.{needs}
 use Rattle.volume.proofs.ledger.fits.Statement.{statement}
 use Rattle.volume.proofs.ledger.fits.Tie as tie
 
+-- the places of the function, each found from a later one
+abbrev start-of : tie.After-size → tie.Start
+start-of c = c .before .before .before .before
+
+abbrev after-size : tie.After-recorded → tie.After-size
+after-size c = c .before .before .before
+
+abbrev after-recorded : tie.After-mode → tie.After-recorded
+after-recorded c = c .before .before .before .before .before
+
 -- the disc and the state
 abbrev D : tie.Start → Disc
 D s = lent (s .args .image .now) (s .args .kinds .now)
@@ -32,7 +42,7 @@ size-requires c κs = search needs
 
 returns : tie.Need-returns
 returns c =
-    let s = c .before .before .before .before .before in
+    let s = start-of (c .before) in
     sym (too-many (D s) (W s) (subst (λ (n : ℕ). limit < n) (c .before .size .ensures) (c .if1 .taken)))
 
 cast-words-held : tie.Need-cast-words-held
@@ -52,8 +62,8 @@ words-held-requires-2 c κs = search needs
 
 returns-2 : tie.Need-returns-2
 returns-2 c =
-    let s = c .before .before .before .before .before .before .before .before .before in
-    sym (other-count (D s) (W s) (λ e. c .if2 .taken (c .before .before .recorded .ensures ∙ e ∙ sym (s .pre .2))))
+    let r = c .before .before in let s = start-of (after-size r) in
+    sym (other-count (D s) (W s) (λ e. c .if2 .taken (r .recorded .ensures ∙ e ∙ sym (s .pre .2))))
 
 last-requires : tie.Need-last-requires
 last-requires c κs = search needs
@@ -66,28 +76,29 @@ mode-requires c κs = search needs
 
 mode-fits-requires : tie.Need-mode-fits-requires
 mode-fits-requires c κs =
-    let s = c .before .before .before .before .before .before .before .before .before .before .before .before in
+    let s = start-of (after-size (after-recorded c)) in
     omega (arith, s .pre .2, leading-le (s .args .kinds .now))
 
 returns-3 : tie.Need-returns-3
 returns-3 c =
-    let s = c .before .before .before .before .before .before .before .before .before .before .before .before .before in
+    let m = c .before in let t = m .before in let g = t .before .before in let w = g .before in let r = w .before in let h = r .before in
+    let e = h .before in let z = e .before in let s = start-of z in
     let l : List ℕ = s .args .l .now in
     let v : Volume = W s in
-    let size : c .before .before .before .before .before .before .before .before .before .size .result ≡ v .size = c .before .before .before .before .before .before .before .before .before .size .ensures in
-    let few : v .size ≤ limit = omega (arith, size, c .before .before .before .before .before .before .before .before .if1 .left) in
-    let own : c .before .before .before .before .before .before .recorded .result ≡ v .recorded = c .before .before .before .before .before .before .recorded .ensures in
-    let counted : c .before .before .before .before .before .before .recorded .result ≡ s .args .counted = c .before .before .before .before .if2 .left in
-    let beyond : c .before .before .before .before .before .before .before .words-held .result ≡ every isUnused (drop (v .size) (v .entries)) =
-    c .before .before .before .before .before .before .before .words-held .ensures ∙ ap (λ (n : ℕ). every (unusedOrBelow 0) (words (limit - n) l (4 * n))) size
+    let size : z .size .result ≡ v .size = z .size .ensures in
+    let few : v .size ≤ limit = omega (arith, size, e .if1 .left) in
+    let own : r .recorded .result ≡ v .recorded = r .recorded .ensures in
+    let counted : r .recorded .result ≡ s .args .counted = g .if2 .left in
+    let beyond : h .words-held .result ≡ every isUnused (drop (v .size) (v .entries)) =
+    h .words-held .ensures ∙ ap (λ (n : ℕ). every (unusedOrBelow 0) (words (limit - n) l (4 * n))) size
     ∙ ap (every (unusedOrBelow 0)) (sym (entries-beyond l (v .size) few)) ∙ all-below-zero (drop (v .size) (v .entries)) in
-    let below : c .before .before .before .before .before .words-held2 .result ≡ every (unusedOrBelow (v .recorded)) (mapOf v) =
-    c .before .before .before .before .before .words-held2 .ensures ∙ ap₂ (λ (r n : ℕ). every (unusedOrBelow r) (words n l 0)) own size
+    let below : w .words-held2 .result ≡ every (unusedOrBelow (v .recorded)) (mapOf v) =
+    w .words-held2 .ensures ∙ ap₂ (λ (r n : ℕ). every (unusedOrBelow r) (words n l 0)) own size
     ∙ ap (every (unusedOrBelow (v .recorded))) (sym (entries-below l (v .size) few)) in
-    let table : c .before .before .last-fits .result ≡ (eqb (v .last) unused || tableAt (D s) (v .last)) =
-    c .before .before .last-fits .ensures ∙ ap (λ (b : ℕ). eqb b unused || tableAt (D s) b) (c .before .before .before .last .ensures) in
+    let table : t .last-fits .result ≡ (eqb (v .last) unused || tableAt (D s) (v .last)) =
+    t .last-fits .ensures ∙ ap (λ (b : ℕ). eqb b unused || tableAt (D s) b) (t .before .last .ensures) in
     let mode : c .mode-fits .result ≡ modeFits (D s .kinds) (v .mode) (v .recorded) =
-    c .mode-fits .ensures ∙ ap₂ (modeFits (D s .kinds)) (c .before .mode .ensures) (sym counted ∙ own) in
+    c .mode-fits .ensures ∙ ap₂ (modeFits (D s .kinds)) (m .mode .ensures) (sym counted ∙ own) in
     ap₂ _&&_ beyond (ap₂ _&&_ below (ap₂ _&&_ table mode)) ∙ sym (fits-parts (D s) v few (sym own ∙ counted ∙ s .pre .2))
 
 pub fits-spec : {M : Type 1} → statement M
