@@ -3,7 +3,7 @@
 # an operator would type it. Proves and builds what it needs first. With --keep FOLDER the disc stays there.
 set -eu
 cd "$(dirname "$0")"
-if [ ! -e target/staticlib/libstation.a ]; then
-    rt staticlib station >&2
-fi
+. host/setup.sh
+need_rust host/Cargo.toml
+fresh_archive
 exec cargo run --quiet --release --offline --manifest-path host/Cargo.toml -p station-cli -- demo "$@"

@@ -27,6 +27,16 @@
  *
  * In mode 0 with recorded above 0, write and commit first record seven link
  * sectors; of a link sector only its kind changes, to 2.
+ *
+ * What the buffers hold at the end of a call is proved. The order of a call's
+ * stores is not: the compiler merges and reorders them, and a program that stops
+ * inside a call can leave what no power cut leaves, such as a recorded sector
+ * after a blank one. So a host must not lend the core the only copy of a disc
+ * that must outlive a crash of the host itself, such as a mapped file. It lends
+ * working buffers, and burns the sectors that the call recorded in ascending
+ * order: those from recorded before the call up to recorded after it, of a data
+ * sector (kind 1) its bytes and its kind, of a link sector its kind alone.
+ * Buffers that die with the process are no matter.
  */
 #ifndef STATION_H
 #define STATION_H

@@ -46,14 +46,27 @@
 //! assert_eq!(missing, Err(Refusal::NotInUse));
 //! # Ok::<(), Refusal>(())
 //! ```
+//!
+//! # A disc that must outlive the program
+//!
+//! What a call's buffers hold at its end is proved. The order of its stores is
+//! not: the compiler merges and reorders them, and a program that stops inside a
+//! call can leave what no power cut leaves, such as a recorded sector after a
+//! blank one. So a host must not lend the core the only copy of a disc that must
+//! outlive a crash of the host itself, such as a mapped file. It lends working
+//! buffers, and burns the sectors that the call recorded in ascending order:
+//! [`recorded_since`] gives exactly these. Buffers that die with the process are
+//! no matter.
 
 #![deny(unsafe_code)]
 #![warn(missing_docs)]
 
 #[allow(unsafe_code)]
 mod ffi;
+mod recorded;
 mod refusal;
 
+pub use recorded::{recorded, recorded_since, Sector};
 pub use refusal::Refusal;
 
 /// The eight calls with the two numbers as the core answers them: outcome ×

@@ -87,6 +87,7 @@ fn broken_kinds_at_each_place() {
                 }
                 pair.put_sector(at as u32, station.kinds[at], &[0; SECTOR]);
             }
+            pair.compare_whole();
         }
     }
     tell_compared("broken_kinds_at_each_place");

@@ -129,9 +129,9 @@ impl FullSize {
 
     /// Every sector of the image, the one that is not lent too.
     fn compare_image(&self, expected: impl Fn(u32) -> [u8; SECTOR]) {
-        let sectors = self.core.image.as_chunks::<SECTOR>().0;
+        let sectors = self.core.image.chunks_exact(SECTOR);
         for (block, bytes) in (0..).zip(sectors) {
-            assert!(*bytes == expected(block), "bytes of block {block}");
+            assert!(bytes == expected(block), "bytes of block {block}");
         }
     }
 }

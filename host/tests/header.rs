@@ -38,7 +38,8 @@ fn scratch(name: &str) -> PathBuf {
 
 /// Runs the command and gives what it said; it must succeed.
 fn run(command: &mut Command) -> String {
-    let output = command.output().expect("the command is there");
+    let output = command.output();
+    let output = output.unwrap_or_else(|error| panic!("{command:?} does not run: {error}"));
     let said = String::from_utf8_lossy(&output.stdout).into_owned();
     let complaint = String::from_utf8_lossy(&output.stderr);
     assert!(output.status.success(), "{command:?}: {said}{complaint}");
@@ -65,7 +66,7 @@ fn a_c_program_records_and_mounts() {
     assert_eq!(said, "recorded, mounted, read and looked back\n");
 }
 
-/// The header twice in one file: in C, and in C++ where there is a compiler.
+/// The header twice in one file, in C and in C++.
 #[test]
 fn the_header_alone() {
     let text = "#include \"station.h\"\n#include \"station.h\"\n";
@@ -73,10 +74,6 @@ fn the_header_alone() {
         ("cc", "-std=c99", "twice.c"),
         ("c++", "-std=c++11", "twice.cpp"),
     ] {
-        if name == "c++" && Command::new(name).arg("--version").output().is_err() {
-            println!("not tried: there is no c++");
-            continue;
-        }
         std::fs::write(scratch(file), text).expect("a file beside the tests");
         let mut check = compiler(name, standard);
         run(check.arg("-fsyntax-only").arg(scratch(file)));

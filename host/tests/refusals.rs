@@ -212,7 +212,8 @@ fn fewest_sectors() {
     tell_compared("fewest_sectors");
 }
 
-/// Load and store are inverse on any 1,848 bytes, and other lengths are none.
+/// The model's own ledger, by which these tests edit the lent one: load and store
+/// are inverse on any 1,848 bytes, and other lengths are none.
 #[test]
 fn ledger_bytes() {
     let mut random = Random::seeded(seed());

@@ -70,7 +70,7 @@ impl Arguments {
             .iter()
             .find(|(known, _)| name == *known);
         let Some((known, takes_value)) = known else {
-            let name = name.display();
+            let name = name.to_string_lossy();
             return Err(self.wrong(format!("{} has no option {name}", self.command.name)));
         };
         let value = match (takes_value, joined) {
@@ -96,7 +96,7 @@ impl Arguments {
         }
         match self.operands.get(wanted.len()) {
             Some(extra) => {
-                let extra = extra.display();
+                let extra = extra.to_string_lossy();
                 Err(self.wrong(format!("{name} has no use for {extra}")))
             }
             None => Ok(()),

@@ -9,6 +9,7 @@ use std::path::{Path, PathBuf};
 use std::process;
 
 use crate::failure::Failure;
+use crate::lock;
 
 /// A disc file and its ledger, by their real names: a link to a disc file stays
 /// a link, and the ledger is the same whichever name the operator types.
@@ -55,7 +56,7 @@ pub fn folder_of(path: &Path) -> &Path {
 /// folder is locked and not the disc file, which every recording replaces.
 pub fn lock_folder(folder: &Path) -> Result<File, Failure> {
     let file = File::open(folder).map_err(|error| Failure::unreadable(folder, error))?;
-    match file.lock() {
+    match lock::exclusive(&file) {
         Ok(()) => Ok(file),
         Err(error) => Err(Failure::unwritable(folder, format!("no lock: {error}"))),
     }

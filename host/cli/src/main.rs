@@ -5,12 +5,13 @@
 //! tells what the core answers. Bottom to top:
 //!
 //! - `failure`, `advice`: what can go wrong, in words and as an exit status;
-//! - `form`: the disc file's form; `files`: replacing a file in one step;
+//! - `form`: the disc file's form; `lock`: one command at a time in a folder;
+//! - `files`: replacing a file in one step;
 //! - `map`: what the ledger says; `session`: disc and ledger of one command;
 //! - `calls`, `listing`, `cut`, `demo`: the commands;
 //! - `arguments`, `commands`, `help`: the command line.
 
-#![forbid(unsafe_code)]
+#![deny(unsafe_code)]
 
 mod advice;
 mod arguments;
@@ -23,6 +24,8 @@ mod files;
 mod form;
 mod help;
 mod listing;
+#[allow(unsafe_code)]
+mod lock;
 mod map;
 mod session;
 

@@ -19,7 +19,7 @@ pub const MOST_SECTORS: usize = 360_000;
 /// A disc of right size, not yet known to be sound.
 #[derive(Clone, Copy)]
 pub struct Disc<'a> {
-    sectors: &'a [[u8; SECTOR]],
+    image: &'a [u8],
     kinds: &'a [u8],
 }
 
@@ -34,12 +34,10 @@ impl<'a> Disc<'a> {
     /// Refusal 1: "no sectors, more than 360,000, or image length is not
     /// 2048 × kinds length".
     pub fn lent(image: &'a [u8], kinds: &'a [u8]) -> Result<Disc<'a>, Refusal> {
-        let (sectors, rest) = image.as_chunks::<SECTOR>();
-        let right_size = (1..=MOST_SECTORS).contains(&kinds.len())
-            && sectors.len() == kinds.len()
-            && rest.is_empty();
+        let right_size =
+            (1..=MOST_SECTORS).contains(&kinds.len()) && image.len() == SECTOR * kinds.len();
         if right_size {
-            Ok(Disc { sectors, kinds })
+            Ok(Disc { image, kinds })
         } else {
             Err(Refusal::DiscSize)
         }
@@ -73,7 +71,7 @@ impl<'a> Disc<'a> {
     /// mean nothing."
     pub fn data(&self, block: u32) -> Option<&'a [u8; SECTOR]> {
         if self.kind(block) == Some(DATA) {
-            self.sectors.get(block as usize)
+            self.image[block as usize * SECTOR..].first_chunk()
         } else {
             None
         }
@@ -128,14 +126,14 @@ pub enum Sector {
 /// as many as the disc has blank sectors for.
 pub fn record(image: &mut [u8], kinds: &mut [u8], sectors: &[Sector]) {
     let first = recorded(kinds);
-    let places = image.as_chunks_mut::<SECTOR>().0.iter_mut().zip(kinds);
+    let places = image.chunks_exact_mut(SECTOR).zip(kinds);
     for ((bytes, kind), sector) in places.skip(first).zip(sectors) {
         match sector {
             // "For a link sector only its kind changes, to 2; its image bytes stay."
             Sector::Link => *kind = LINK,
             Sector::Data(data) => {
                 *kind = DATA;
-                *bytes = **data;
+                bytes.copy_from_slice(&**data);
             }
         }
     }
@@ -160,9 +158,9 @@ pub fn fail_power(
 
 fn tear(image: &mut [u8], kinds: &mut [u8], torn: &[u8; SECTOR]) {
     let next = recorded(kinds);
-    let mut places = image.as_chunks_mut::<SECTOR>().0.iter_mut().zip(kinds);
+    let mut places = image.chunks_exact_mut(SECTOR).zip(kinds);
     if let Some((bytes, kind)) = places.nth(next) {
         *kind = UNREADABLE;
-        *bytes = *torn;
+        bytes.copy_from_slice(torn);
     }
 }

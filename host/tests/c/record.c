@@ -16,6 +16,11 @@ static uint8_t kinds[SECTORS];
 static uint8_t ledger[STATION_LEDGER];
 static uint8_t block[STATION_SECTOR];
 
+/* The medium, and how many of its sectors are burned. */
+static uint8_t burned_image[SECTORS * STATION_SECTOR];
+static uint8_t burned_kinds[SECTORS];
+static size_t burned;
+
 #define DISC image, sizeof image, kinds, sizeof kinds
 #define LENT DISC, ledger, sizeof ledger
 
@@ -55,20 +60,46 @@ static uint32_t entry(size_t at)
            (uint32_t)bytes[3] << 24;
 }
 
-/* The disc of 31 of document 01's listing. */
+/* Burns what was recorded since the last time, in ascending order: whenever this
+ * program stops, the medium holds what a power cut may leave. */
+static void burn(void)
+{
+    for (; burned < SECTORS && kinds[burned] != 0; burned++) {
+        size_t start = burned * STATION_SECTOR;
+        if (kinds[burned] == 1)
+            memcpy(burned_image + start, image + start, STATION_SECTOR);
+        burned_kinds[burned] = kinds[burned];
+    }
+}
+
+/* The disc of 31 of document 01's listing, burned after each call. */
 static void record(void)
 {
     expect("begin", station_begin(LENT), STATION_DONE, 0);
     expect("write 1 at size 0", write_number(1, 0x11), STATION_ABOVE_SIZE, 0);
     expect("write 0", write_number(0, 0x11), STATION_DONE, 0);
+    burn();
     expect("commit", station_commit(LENT), STATION_DONE, 1);
+    burn();
+    hold("burned as far as recorded", burned == 2);
     expect("write 1", write_number(1, 0x22), STATION_DONE, 2);
+    burn();
     expect("release 0", station_release(LENT, 0), STATION_DONE, 0);
     expect("release 0 again", station_release(LENT, 0), STATION_NOT_IN_USE, 0);
     expect("commit", station_commit(LENT), STATION_DONE, 3);
+    burn();
     expect("close packet", station_close_packet(LENT), STATION_DONE, 0);
     expect("commit", station_commit(LENT), STATION_DONE, 11);
+    burn();
     hold("seven links", memcmp(kinds, "\1\1\1\1\2\2\2\2\2\2\2\1\0", 13) == 0);
+}
+
+/* The working buffers are gone: what follows is read from the medium. */
+static void take_the_burned_disc(void)
+{
+    hold("all is burned", memcmp(burned_kinds, kinds, sizeof kinds) == 0);
+    memcpy(image, burned_image, sizeof image);
+    memcpy(kinds, burned_kinds, sizeof kinds);
 }
 
 static void mount_and_read(void)
@@ -111,6 +142,7 @@ static void lend_wrongly(void)
 int main(void)
 {
     record();
+    take_the_burned_disc();
     mount_and_read();
     look_back();
     lend_wrongly();

@@ -1,9 +1,9 @@
 //! The core on a disc and a ledger of its own, each between canaries.
 
-use station::raw;
+use station::{raw, Sector};
 use station_model::answer::Answer;
 use station_model::calls::Call;
-use station_model::disc::Disc;
+use station_model::disc::{Disc, UNREADABLE};
 use station_model::ledger::Volume;
 use station_model::table::SECTOR;
 
@@ -105,17 +105,29 @@ impl Core {
     }
 
     /// The disc that a cut leaves, from the one that the whole call left: the
-    /// first j sectors that the call recorded are kept, and the next stays as
-    /// it was or is torn.
+    /// first j sectors that the call recorded are burned, and the next, if there
+    /// is one, stays as it was or is torn.
     pub fn cut(&mut self, whole: &Core, j: usize, torn: Option<&[u8; SECTOR]>) {
-        let first = self.disc().recorded() as usize;
-        let kept = first..first + j;
-        self.kinds[kept.clone()].copy_from_slice(&whole.kinds[kept.clone()]);
-        let bytes = kept.start * SECTOR..kept.end * SECTOR;
-        self.image[bytes.clone()].copy_from_slice(&whole.image[bytes]);
-        if let Some(torn) = torn {
-            self.kinds[kept.end] = 3;
-            self.image[kept.end * SECTOR..][..SECTOR].copy_from_slice(torn);
+        let before = station::recorded(&self.kinds);
+        let mut sectors = station::recorded_since(&whole.image, &whole.kinds, before);
+        for sector in sectors.by_ref().take(j) {
+            self.burn(sector);
+        }
+        if let (Some(next), Some(_)) = (sectors.next(), torn) {
+            self.burn(Sector {
+                kind: UNREADABLE,
+                bytes: torn,
+                ..next
+            });
+        }
+    }
+
+    /// As a host burns a sector that a call recorded.
+    pub fn burn(&mut self, sector: Sector) {
+        let block = sector.block as usize;
+        self.kinds[block] = sector.kind;
+        if let Some(bytes) = sector.bytes {
+            self.image[block * SECTOR..][..SECTOR].copy_from_slice(bytes);
         }
     }
 }

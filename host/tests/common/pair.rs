@@ -205,22 +205,26 @@ impl Pair {
     }
 }
 
-/// Says how many calls the test has compared.
+/// Says how many calls the test has compared; none is a failure.
 pub fn tell_compared(test: &str) {
-    println!("{test}: {} calls compared", COMPARED.get());
+    let compared = COMPARED.get();
+    assert!(compared > 0, "{test} compared nothing");
+    println!("{test}: {compared} calls compared");
 }
 
-/// The first byte that differs, and what either side has there.
+/// The first byte that differs, and what either side has there: nothing, where
+/// one is longer.
 fn first_difference(name: &str, start: usize, model: &[u8], core: &[u8]) -> Option<String> {
     if model == core {
         return None;
     }
-    let at = (0..model.len()).find(|at| model[*at] != core[*at])?;
+    let longer = model.len().max(core.len());
+    let at = (0..longer).find(|at| model.get(*at) != core.get(*at))?;
     Some(format!(
-        "{name} byte {}: the model has {:02X}, the core {:02X}",
+        "{name} byte {}: the model has {:02X?}, the core {:02X?}",
         start + at,
-        model[at],
-        core[at]
+        model.get(at),
+        core.get(at)
     ))
 }
 

@@ -7,6 +7,7 @@ use station_model::disc::{fail_power, Disc};
 use station_model::ledger::{Volume, LEDGER};
 use station_model::table::SECTOR;
 
+use super::core::Core;
 use super::pair::Pair;
 
 #[derive(Clone, PartialEq)]
@@ -47,12 +48,13 @@ impl Station {
     }
 
     pub fn sector(&self, block: u32) -> &[u8; SECTOR] {
-        &self.image.as_chunks::<SECTOR>().0[block as usize]
+        let bytes = self.image[block as usize * SECTOR..].first_chunk();
+        bytes.expect("a block of the disc")
     }
 
     pub fn put_sector(&mut self, block: u32, kind: u8, bytes: &[u8; SECTOR]) {
         self.kinds[block as usize] = kind;
-        self.image.as_chunks_mut::<SECTOR>().0[block as usize] = *bytes;
+        self.image[block as usize * SECTOR..][..SECTOR].copy_from_slice(bytes);
     }
 
     /// A call that is lent no block.
@@ -90,10 +92,17 @@ impl Station {
         effect(&lent, call).ok()
     }
 
-    /// The call cut after j sectors; the ledger is lost.
+    /// The call cut after j sectors, of those that the core records and of those
+    /// that the model does; the discs left are compared, and the ledger is lost.
     pub fn cut(&mut self, call: Call, block: &[u8], j: usize, torn: Option<&[u8; SECTOR]>) {
+        let mut core = Core::holding(self, 0);
+        let mut whole = core.clone();
+        whole.call_lent(call, &mut block.to_vec());
+        core.cut(&whole, j, torn);
         let sectors = self.effect(call, block).map_or(Vec::new(), |e| e.sectors);
         fail_power(&mut self.image, &mut self.kinds, &sectors, j, torn);
+        let same = core.image[..] == self.image && core.kinds[..] == self.kinds;
+        assert!(same, "core and model differ, {call:?} cut after {j}");
         self.ledger.fill(0xA5);
     }
 }

@@ -7,6 +7,8 @@ use std::collections::BTreeMap;
 use std::env;
 use std::fs;
 use std::io::{ErrorKind, Write};
+use std::os::unix::fs::{MetadataExt, PermissionsExt};
+use std::os::unix::process::CommandExt;
 use std::path::{Path, PathBuf};
 use std::process::{self, Command, Stdio};
 use std::sync::atomic::{AtomicUsize, Ordering};
@@ -28,6 +30,11 @@ pub struct Folder(pub PathBuf);
 
 /// Tests of one run stand side by side, so each folder has its own number.
 static FOLDERS: AtomicUsize = AtomicUsize::new(0);
+
+/// The superuser, who may do anything to any file, and the user and group that
+/// Debian gives to those who own none.
+const SUPERUSER: u32 = 0;
+const NOBODY: u32 = 65_534;
 
 /// What a command told.
 #[derive(Debug)]
@@ -65,6 +72,28 @@ impl Folder {
 
     pub fn run(&self, line: &str) -> Told {
         self.run_with(line, b"")
+    }
+
+    /// The same by somebody whom permissions bind: if the tests are run by the
+    /// superuser, by nobody. Nobody may not look where the program was built, so
+    /// a copy is run, in a folder that is open to all.
+    pub fn run_without_privileges(&self, line: &str) -> Told {
+        let owner = fs::metadata(&self.0).expect("the folder").uid();
+        if owner != SUPERUSER {
+            return self.run(line);
+        }
+        let program = Folder::new();
+        for folder in [self, &program] {
+            let open = fs::Permissions::from_mode(0o755);
+            fs::set_permissions(&folder.0, open).expect("permissions");
+        }
+        // By another process: a child that a test beside this one has just made would
+        // have a copy of ours open for writing, and what is so open cannot be run.
+        let copied = Command::new("cp").arg(STATION).arg(&program.0).status();
+        assert!(copied.is_ok_and(|status| status.success()), "no copy");
+        let mut command = Command::new(program.path("station"));
+        command.args(line.split_whitespace()).current_dir(&self.0);
+        finish(command.uid(NOBODY).gid(NOBODY), b"")
     }
 
     /// A command that must be done, and what it tells.
@@ -189,7 +218,8 @@ impl Drop for Folder {
 fn finish(command: &mut Command, input: &[u8]) -> Told {
     command.stdin(Stdio::piped());
     command.stdout(Stdio::piped()).stderr(Stdio::piped());
-    let mut child = command.spawn().expect("the program starts");
+    let child = command.spawn();
+    let mut child = child.unwrap_or_else(|error| panic!("{command:?} does not start: {error}"));
     let mut stdin = child.stdin.take().expect("a pipe");
     // A command that takes no input may be gone already.
     let _ = stdin.write_all(input);

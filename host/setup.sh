@@ -1,0 +1,70 @@
+# What the scripts at the top of the repository share: the tools that they need, and an archive that is not older than its sources.
+# Sourced there, with the top as the current folder.
+
+# A variable left in the shell must not change what is built or tested. STATION_SEED and the others are for cargo by hand.
+unset ${!STATION_@}
+
+missing=()
+
+# need COMMAND PACKAGE...: notes Debian's packages for a command that is missing
+need() {
+    PATH=$PATH:/usr/sbin command -v "$1" >/dev/null || missing+=("${@:2}")
+}
+
+# Installs what was noted, and nothing else: no recommended packages, no newer version of what is there.
+install_missing() {
+    [ "${#missing[@]}" -ne 0 ] || return 0
+    echo "Installing ${missing[*]}." >&2
+    if ! { apt-get update && DEBIAN_FRONTEND=noninteractive apt-get install -y --no-install-recommends --no-upgrade "${missing[@]}"; } >&2; then
+        echo "Missing, and not installed: ${missing[*]}." >&2
+        exit 2
+    fi
+    missing=()
+}
+
+# The kit is no package.
+need_kit() {
+    if ! command -v rt >/dev/null; then
+        echo "The Rattle kit is missing: put its bin folder, with rt, on the PATH." >&2
+        exit 2
+    fi
+}
+
+version_of() {
+    "$1" --version 2>/dev/null | awk 'NR == 1 { print $2 }'
+}
+
+# is_at_least VERSION COMMAND: the command is there and says that it is of this version or a newer one
+is_at_least() {
+    local found
+    found=$(version_of "$2")
+    [ -n "$found" ] && printf '%s\n' "$1" "$found" | sort -V -C
+}
+
+# need_rust MANIFEST: cargo and rustc of the rust-version that the manifest asks for, and a linker. Debian 12 has newer ones as cargo-web and rustc-web, which
+# take the place of its plain cargo.
+need_rust() {
+    local version tool
+    version=$(sed -n 's/^rust-version = "\(.*\)"$/\1/p' "$1")
+    need cc gcc libc6-dev
+    if ! is_at_least "$version" cargo || ! is_at_least "$version" rustc; then
+        missing+=(cargo-web rustc-web)
+    fi
+    install_missing
+    hash -r
+    for tool in cargo rustc; do
+        if ! is_at_least "$version" "$tool"; then
+            echo "Missing: $tool $version or newer. The first on the PATH: $(command -v "$tool" || echo none) $(version_of "$tool")" >&2
+            exit 2
+        fi
+    done
+}
+
+# The archive, made anew if a source is newer. It takes some 20 s, also where nothing changed, so not at every start.
+fresh_archive() {
+    local archive=target/staticlib/libstation.a
+    if [ ! -e "$archive" ] || [ -n "$(find crates crates.txt -newer "$archive" -print -quit)" ]; then
+        need_kit
+        rt staticlib station >&2
+    fi
+}
