@@ -139,10 +139,10 @@ def expect(label, told, status, text):
     global passed, failed
     if told[0] == status and text in told[1]:
         passed += 1
-        print(f"edit {label}: {'refused, as it must be' if status else 'accepted, as it must be'}")
+        print(f"{label}: {'refused' if status else 'accepted'}, as it must be")
     else:
         failed += 1
-        print(f"edit {label}: status {told[0]}, and not {status} with '{text}':\n{told[1]}")
+        print(f"{label}: FAILED: status {told[0]}, and not {status} with '{text}':\n{told[1]}")
 
 
 def archive_of(folder, names):
