@@ -42,24 +42,25 @@ def folded(text):
 
 
 def without_comments(text):
-    """Rattle's and C's: from // to the end of the line, and from /* to */."""
-    return re.sub(r"/\*.*?\*/|//[^\n]*", " ", text, flags=re.DOTALL)
+    """Rattle's and C's, from // to the end of the line and from /* to */, made blank: every other place stays."""
+    return re.sub(r"/\*.*?\*/|//[^\n]*", lambda found: re.sub(r"[^\n]", " ", found[0]), text, flags=re.DOTALL)
 
 
-def in_braces(text, at):
-    """What stands between the brace at a place and its partner, and the place behind it."""
+def closing(text, at):
+    """The place of the brace that closes the one at a place."""
     depth = 0
     for place in range(at, len(text)):
         depth += {"{": 1, "}": -1}.get(text[place], 0)
         if depth == 0:
-            return text[at + 1:place], place + 1
-    return text[at + 1:], len(text)
+            return place
+    return len(text)
 
 
 class Exported:
     """An exported function: its name, its parameters as pairs of name and type, and its clauses as pairs of word and text."""
 
-    def __init__(self, file, text, found):
+    def __init__(self, file, source, found):
+        text = found.string
         self.file, self.name = file, found["name"]
         self.where = f"{file}: {self.name}"
         self.parameters = []
@@ -69,9 +70,11 @@ class Exported:
         self.result = folded(found["result"] or "")
         self.clauses = []
         at = found.end()
-        while word := re.compile(r"\s*(\w+)\s*(?=\{)").match(text, at):
-            clause, at = in_braces(text, word.end())
-            self.clauses.append((word[1], folded(clause)))
+        while word := re.compile(r"\s*(\w+)\s*\{").match(text, at):
+            # A clause is read with all that stands in it: what it says is not Rattle's text but the prover's.
+            end = closing(text, word.end() - 1)
+            self.clauses.append((word[1], folded(source[word.end():end])))
+            at = end + 1
         if not re.compile(r"\s*\{").match(text, at):
             fail(self.where, "something else than `requires {..}` and `ensures {..}` stands between its result and its body")
 
@@ -113,12 +116,13 @@ def exported_functions():
         r'#\[no_mangle\]\s*pub extern "C" fn (?P<name>\w+)\s*\((?P<parameters>[^()]*)\)(?:\s*->\s*(?P<result>\w+))?')
     for path in sorted((ROOT / "crates").glob("*/src/**/*.rt")):
         file = str(path.relative_to(ROOT))
-        text = without_comments(path.read_text())
+        source = path.read_text()
+        text = without_comments(source)
         found = list(form.finditer(text))
         marks = max(len(re.findall(r"no_mangle|export_name", text)), len(re.findall(r"\bextern\b", text)))
         if marks != len(found):
             fail(file, f'{marks} marks of an exported function, and {len(found)} of the form `#[no_mangle] pub extern "C" fn`')
-        functions += [Exported(file, text, one) for one in found]
+        functions += [Exported(file, source, one) for one in found]
     return functions
 
 

@@ -5,6 +5,7 @@
 
 An edit is tried on a copy of the sources in a temporary folder. The last line is 'N passed, M failed'.
 """
+import re
 import shutil
 import subprocess
 import sys
@@ -24,7 +25,8 @@ RELEASE = "pub extern \"C\" fn station_release(image: &[u8], kinds: &[u8], ledge
 # What is wrong: the file, text that stands once in it, what stands there instead, and what the refusal says.
 SOURCES = {
     # a contract that says less
-    "write_asks_for_31_sectors": (CODE, f"    ensures {{ λ r. ⌜ {WRITE_LEFT}", f"    requires {{ ⌜ length (now kinds) ≡ 31 ⌝ }}\n    ensures {{ λ r. ⌜ {WRITE_LEFT}",
+    "write_asks_for_31_sectors": (CODE, f"    ensures {{ λ r. ⌜ {WRITE_LEFT}",
+        f"    requires {{ ⌜ length (now kinds) ≡ 31 ⌝ }}\n    ensures {{ λ r. ⌜ {WRITE_LEFT}",
         "lib.rt: station_write: has a requires: ⌜ length (now kinds) ≡ 31 ⌝"),
     "write_promises_its_answer_alone": (CODE, f"{WRITE_LEFT} ≡ {WRITE_AFTER}", f"r ≡ {WRITE_AFTER} .answer",
         "lib.rt: station_write: its ensures is not"),
@@ -37,6 +39,8 @@ SOURCES = {
     "begin_is_another_call": (CODE, "(now (ledger .entry)) begin ⌝", "(now (ledger .entry)) mount ⌝",
         "lib.rt: station_begin: its ensures is not"),
     "release_of_another_number": (CODE, "(release v)", "(release 0)",
+        "lib.rt: station_release: its ensures is not"),
+    "release_promises_behind_a_comment": (CODE, "(release v) ⌝ }", "(release v) ⌝ // }\n}",
         "lib.rt: station_release: its ensures is not"),
     "look_back_adds_a_clause": (CODE, "(lookBack k) ⌝ }", "(lookBack k) ⌝ }\n    where",
         "lib.rt: station_look_back: something else than"),
@@ -58,7 +62,7 @@ SOURCES = {
         "crates/listing/src/lib.rt: station_list: exported from another crate than station"),
     "exported_under_another_name": ("crates/calls/src/lib.rt", "pub fn refused", '#[export_name = "station_refused"]\npub fn refused',
         "crates/calls/src/lib.rt: 1 marks of an exported function"),
-    "exported_and_not_declared": (CODE, "#[no_mangle]\npub extern \"C\" fn station_begin", EXPORT.format("station_erase") + "\n#[no_mangle]\npub extern \"C\" fn station_begin",
+    "exported_and_not_declared": (CODE, "// \"A refusal's second number is 0\".", EXPORT.format("station_erase"),
         "station.h: station_erase is declared 0 times, not once"),
     "nothing_exported": (CODE, None, "", "no function is exported"),
     # the header
@@ -83,9 +87,9 @@ SOURCES = {
     "header_renames_by_a_macro": (HEADER, "#define STATION_SECTOR 2048", "#define station_write station_begin\n#define STATION_SECTOR 2048",
         "station.h: defines station_write, which is not a STATION_ name"),
     # what the symbols mean
-    "after_from_another_module": (CODE, "ghost use Rattle.recorder.specs.Effects.{left, after};", "ghost use Rattle.recorder.specs.Effects.{left};\nghost use Rattle.recorder.specs.Weaker.{after};",
+    "after_from_another_module": (CODE, "specs.Effects.{left, after};", "specs.Effects.{left};\nghost use Rattle.recorder.specs.Weaker.{after};",
         "lib.rt: no ghost use brings after from Rattle.recorder.specs.Effects"),
-    "after_twice": (CODE, "ghost use Rattle.recorder.specs.Effects.{left, after};", "ghost use Rattle.recorder.specs.Effects.{left, after};\nghost use Rattle.recorder.specs.Weaker.{after};",
+    "after_twice": (CODE, "specs.Effects.{left, after};", "specs.Effects.{left, after};\nghost use Rattle.recorder.specs.Weaker.{after};",
         "lib.rt: after from Rattle.recorder.specs.Weaker stands in for after from Rattle.recorder.specs.Effects"),
     "equality_from_another_module": (CODE, "ghost use mathlib.Core.Path.{_≡_};", "ghost use Rattle.recorder.specs.Weaker.{_≡_};",
         "lib.rt: no ghost use brings _≡_ from mathlib.Core.Path"),
@@ -101,20 +105,30 @@ SOURCES = {
         "lib.rt: `ghost use Rattle.recorder.specs.Weaker` is not of the form"),
 }
 
+# One more number: the same rule calls for it in the signature, in the call, in the contract and in the header, in the same order.
+ANOTHER_NUMBER = [
+    (CODE, "k: u32", "k: u32, from_block: u32"),
+    (CODE, "(lookBack k)", "(lookBack k «from_block»)"),
+    (CALLS, "  lookBack : ℕ → Call\n", "  lookBack : ℕ → ℕ → Call\n"),
+    (HEADER, "uint32_t k)", "uint32_t k, uint32_t from_block)"),
+]
+
 # The line that `rt staticlib station` ends in, and what the refusal says.
-PROVED = "logic=proved functions=9 sum=0 native=nat"
+COUNT = len(re.findall(r"^[^/\n]*\bfn ", (ROOT / CODE).read_text(), re.MULTILINE))
+PROVED = f"logic=proved functions={COUNT} sum=0 native=nat"
 LINES = {
     "archive_not_proved": (PROVED.replace("proved", "not-proved"), "does not say logic=proved"),
-    "archive_of_fewer_functions": (PROVED.replace("9", "8"), "does not say functions=9"),
+    "archive_of_fewer_functions": (PROVED.replace(f"={COUNT}", f"={COUNT - 1}"), f"does not say functions={COUNT}"),
     "archive_with_an_axiom": (PROVED + " axioms=1", "says axioms=1"),
     "archive_with_a_function_of_c": (PROVED + " foreign=1", "says foreign=1"),
     "archive_that_says_nothing": ("", "does not say logic=proved"),
 }
 
-NAMES = ["begin", "mount", "write", "release", "close_packet", "commit", "read", "look_back"]
+# The functions that an archive defines, and what the refusal says.
+NAMES = re.findall(r"^uint64_t (station_\w+)\(", (ROOT / HEADER).read_text(), re.MULTILINE)
 ARCHIVES = {
-    "archive_defines_another": ([*NAMES, "erase"], "station_erase is defined 1 times and declared 0 times"),
-    "archive_lacks_one": (NAMES[:-1], "station_look_back is defined 0 times and declared 1 times"),
+    "archive_defines_another": ([*NAMES, "station_erase"], "station_erase is defined 1 times and declared 0 times"),
+    "archive_lacks_one": (NAMES[1:], f"{NAMES[0]} is defined 0 times and declared 1 times"),
 }
 
 passed = failed = 0
@@ -145,10 +159,19 @@ def expect(label, told, status, text):
         print(f"{label}: FAILED: status {told[0]}, and not {status} with '{text}':\n{told[1]}")
 
 
+def edited(folder, file, old, new):
+    """The file with one text put for another; without an old text, that alone. The answer is what it held before."""
+    right = (folder / file).read_text()
+    if old is not None and right.count(old) != 1:
+        sys.exit(f"an edit's old text stands {right.count(old)} times in {file}, and not once: {old}")
+    (folder / file).write_text(new if old is None else right.replace(old, new))
+    return right
+
+
 def archive_of(folder, names):
     """An archive that defines these functions."""
     source, made, archive = folder / "station.c", folder / "station.o", folder / "libstation.a"
-    source.write_text("".join(f"int station_{name}(void) {{ return 0; }}\n" for name in names))
+    source.write_text("".join(f"int {name}(void) {{ return 0; }}\n" for name in names))
     archive.unlink(missing_ok=True)
     subprocess.run(["cc", "-c", str(source), "-o", str(made)], check=True)
     subprocess.run(["ar", "rc", str(archive), str(made)], check=True)
@@ -158,15 +181,17 @@ def archive_of(folder, names):
 with tempfile.TemporaryDirectory() as name:
     folder = Path(name)
     copied(folder)
-    expect("sources_as_they_are", said_of(folder), 0, "8 exported functions")
+    expect("sources_as_they_are", said_of(folder), 0, "exported functions, each with the contract of its signature")
     for label, (file, old, new, refusal) in SOURCES.items():
-        right = (folder / file).read_text()
-        if old is not None and right.count(old) != 1:
-            expect(label, (2, f"its old text stands {right.count(old)} times in {file}"), 1, refusal)
-            continue
-        (folder / file).write_text(new if old is None else right.replace(old, new))
+        right = edited(folder, file, old, new)
         expect(label, said_of(folder), 1, refusal)
         (folder / file).write_text(right)
+    for file, old, new in ANOTHER_NUMBER:
+        edited(folder, file, old, new)
+    expect("another_number", said_of(folder), 0, "exported functions, each with the contract of its signature")
+    edited(folder, CODE, "(lookBack k «from_block»)", "(lookBack «from_block» k)")
+    expect("another_number_in_another_order", said_of(folder), 1, "lib.rt: station_look_back: its ensures is not")
+    copied(folder)
     expect("line_as_it_is", said_of(folder, "--archive", PROVED), 0, PROVED)
     expect("line_on_standard_input", said_of(folder, "--archive", "-", given=f"said before\n{PROVED}\n"), 0, PROVED)
     for label, (line, refusal) in LINES.items():
