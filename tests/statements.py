@@ -1,0 +1,277 @@
+#!/usr/bin/env python3
+"""What the station promises, pinned: the exported functions, the header that declares them, and the one form of their contracts.
+
+    python3 tests/statements.py                            the sources
+    python3 tests/statements.py --archive "LINE" [FILE.a]  the line that `rt staticlib station` ends in ('-': from standard input), and the archive
+
+Every function is proved against its contract, whatever that says. So that none comes to say less, the contract that its signature calls for is written
+out here from the signature and compared, and each symbol in it must come from the one module that defines it. Each failure is one line; the exit
+status is then 1.
+"""
+import re
+import subprocess
+import sys
+from pathlib import Path
+
+ROOT = Path(__file__).resolve().parent.parent
+HEADER = "host/include/station.h"
+CALLS = "crates/recorder/specs/Calls.antt"
+STATION = "crates/station/src/"
+DISC_AND_LEDGER = ["image", "kinds", "ledger"]
+SLICES = {"&[u8]": "const uint8_t", "&mut [u8]": "uint8_t"}
+
+# Where the symbols of a contract are defined. The calls' names are added from the contracts themselves.
+HOMES = {
+    "_≡_": "mathlib.Core.Path",
+    "[]": "mathlib.Core.List",
+    "lent": "Rattle.disc.specs.Disc",
+    "left": "Rattle.recorder.specs.Effects",
+    "after": "Rattle.recorder.specs.Effects",
+}
+CALLS_HOME = "Rattle.recorder.specs.Calls"
+
+failures = []
+
+
+def fail(where, what):
+    failures.append(f"{where}: {what}")
+
+
+def folded(text):
+    return " ".join(text.split())
+
+
+def without_comments(text):
+    """Rattle's and C's, from // to the end of the line and from /* to */, made blank: every other place stays."""
+    return re.sub(r"/\*.*?\*/|//[^\n]*", lambda found: re.sub(r"[^\n]", " ", found[0]), text, flags=re.DOTALL)
+
+
+def closing(text, at):
+    """The place of the brace that closes the one at a place."""
+    depth = 0
+    for place in range(at, len(text)):
+        depth += {"{": 1, "}": -1}.get(text[place], 0)
+        if depth == 0:
+            return place
+    return len(text)
+
+
+class Exported:
+    """An exported function: its name, its parameters as pairs of name and type, and its clauses as pairs of word and text."""
+
+    def __init__(self, file, source, found):
+        text = found.string
+        self.file, self.name = file, found["name"]
+        self.where = f"{file}: {self.name}"
+        self.parameters = []
+        for parameter in filter(None, map(folded, found["parameters"].split(","))):
+            name, _, kind = parameter.partition(":")
+            self.parameters.append((name.strip(), kind.strip()))
+        self.result = folded(found["result"] or "")
+        self.clauses = []
+        at = found.end()
+        while word := re.compile(r"\s*(\w+)\s*\{").match(text, at):
+            # A clause is read with all that stands in it: what it says is not Rattle's text but the prover's.
+            end = closing(text, word.end() - 1)
+            self.clauses.append((word[1], folded(source[word.end():end])))
+            at = end + 1
+        if not re.compile(r"\s*\{").match(text, at):
+            fail(self.where, "something else than `requires {..}` and `ensures {..}` stands between its result and its body")
+
+    def call(self):
+        """Its call's constructor: station_close_packet is closePacket."""
+        first, *others = self.name.removeprefix("station_").split("_")
+        return first + "".join(map(str.capitalize, others))
+
+    def declared(self):
+        """What the header must say of it: each slice is a pointer and then a length."""
+        words = []
+        for name, kind in self.parameters:
+            words.append(f"{SLICES[kind]} *{name}, size_t {name}_length" if kind in SLICES else f"uint32_t {name}")
+        return f"uint64_t {self.name}({', '.join(words)})"
+
+    def contract(self):
+        """The one equation that it must promise: what it leaves is what `after` says of what it was lent."""
+        kinds = dict(self.parameters)
+
+        def now(name, time):
+            return f"(now ({name} .{time}))"
+
+        def at_end(name):
+            return now(name, "exit" if kinds[name] == "&mut [u8]" else "entry")
+
+        # In a contract a name with an underscore stands between these marks.
+        own = [now(n, "entry") if k in SLICES else f"«{n}»" if "_" in n else n for n, k in self.parameters[3:]]
+        call = f"({' '.join([self.call(), *own])})" if own else self.call()
+        block = at_end("block") if "block" in kinds else "[]"
+        left = " ".join(["left r", *map(at_end, DISC_AND_LEDGER), block])
+        disc = f"(lent {now('image', 'entry')} {now('kinds', 'entry')})"
+        return f"λ r. ⌜ {left} ≡ after {disc} {now('ledger', 'entry')} {call} ⌝"
+
+
+def exported_functions():
+    """Of all crates. Whatever else is exported, or in another way, is a failure."""
+    functions = []
+    form = re.compile(
+        r'#\[no_mangle\]\s*pub extern "C" fn (?P<name>\w+)\s*\((?P<parameters>[^()]*)\)(?:\s*->\s*(?P<result>\w+))?')
+    for path in sorted((ROOT / "crates").glob("*/src/**/*.rt")):
+        file = str(path.relative_to(ROOT))
+        source = path.read_text()
+        text = without_comments(source)
+        found = list(form.finditer(text))
+        marks = max(len(re.findall(r"no_mangle|export_name", text)), len(re.findall(r"\bextern\b", text)))
+        if marks != len(found):
+            fail(file, f'{marks} marks of an exported function, and {len(found)} of the form `#[no_mangle] pub extern "C" fn`')
+        functions += [Exported(file, source, one) for one in found]
+    return functions
+
+
+def constructors():
+    """The calls' constructors with the types that they take."""
+    text = re.sub(r"--[^\n]*", "", (ROOT / CALLS).read_text())
+    calls = re.search(r"data Call : Type 0 where\n((?:[ \t]+\S.*\n|\n)*)", text)
+    found = re.findall(r"^\s+(\w+) : (.*)$", calls[1] if calls else "", re.MULTILINE)
+    return {name: [folded(t) for t in kind.split("→")] for name, kind in found}
+
+
+def check_signature(function, calls):
+    """Its crate, its parameters and its call. The answer is whether a contract can be written out for it."""
+    if not function.file.startswith(STATION):
+        fail(function.where, "exported from another crate than station")
+    if function.result != "u64":
+        fail(function.where, f"answers {function.result or 'nothing'}, not u64")
+    names = [name for name, _ in function.parameters]
+    before = len(failures)
+    if names[:3] != DISC_AND_LEDGER:
+        fail(function.where, "its parameters do not begin with image, kinds, ledger")
+    for name, kind in function.parameters:
+        slice_of_bytes = name in [*DISC_AND_LEDGER, "block"]
+        if kind not in (SLICES if slice_of_bytes else ["u32"]):
+            fail(function.where, f"its parameter {name} is of type {kind}, not {' or '.join(SLICES) if slice_of_bytes else 'u32'}")
+        if name in [*HOMES, *calls, "r", "now"]:
+            fail(function.where, f"its parameter {name} hides a symbol of the contract")
+    own = ["List ℕ" if kind in SLICES else "ℕ" for _, kind in function.parameters[3:]]
+    if calls.get(function.call()) != [*own, "Call"]:
+        fail(function.where, f"{CALLS} has no constructor {function.call()} : {' → '.join([*own, 'Call'])}")
+    return len(failures) == before
+
+
+def check_contract(function):
+    ensures = [text for word, text in function.clauses if word == "ensures"]
+    for word, text in function.clauses:
+        if word != "ensures":
+            fail(function.where, f"has a {word}: {text}")
+    if len(ensures) != 1:
+        fail(function.where, f"has {len(ensures)} ensures, not one")
+    elif ensures[0] != function.contract():
+        fail(function.where, f"its ensures is not `{function.contract()}`")
+
+
+def check_symbols(file, homes):
+    """Every symbol of the file's contracts is imported once, from its home, and nothing is renamed or taken whole."""
+    text = without_comments((ROOT / file).read_text())
+    seen = []
+    for item in re.findall(r"\bghost\b([^;]*);", text):
+        item = folded(item)
+        form = re.fullmatch(r"use ([^{}\s]+)\.\{ ?([^{}\s.,]+(?:, ?[^{}\s.,]+)*),? ?\}", item)
+        if not form or form[2] == "*":
+            fail(file, f"`ghost {item}` is not of the form `ghost use MODULE.{{names}}`, without `as`")
+            continue
+        seen += [(form[1], name.strip()) for name in form[2].split(",")]
+    for symbol, home in homes.items():
+        if (home, symbol) not in seen:
+            fail(file, f"no ghost use brings {symbol} from {home}")
+    # An operator that shares a part with a symbol could be read in its place.
+    parts = {part: symbol for symbol in [*homes, "now"] for part in symbol.split("_") if part}
+    for module, name in seen:
+        for symbol in {parts[part] for part in name.split("_") if part in parts}:
+            if (name, module) != (symbol, homes.get(symbol)):
+                fail(file, f"{name} from {module} stands in for {symbol} from {homes.get(symbol, 'the logic')}")
+
+
+def header_declarations():
+    """The header's declarations, one text each, beside its macros and its enum of outcomes."""
+    text = without_comments((ROOT / HEADER).read_text().replace('extern "C" {', " "))
+    for name in re.findall(r"^\s*#\s*define\s+(\w+)", text, re.MULTILINE):
+        if not name.startswith("STATION_"):
+            fail(HEADER, f"defines {name}, which is not a STATION_ name")
+    text = re.sub(r"^\s*#.*\n", "\n", text.replace("\\\n", " "), flags=re.MULTILINE)
+    text = re.sub(r"\benum station_outcome \{[^{}]*\};", " ", text)
+    declarations = [re.sub(r" ?([(),*]) ?", r"\1", folded(one)) for one in text.split(";")]
+    # What is left behind the last one closes `extern "C"`.
+    return [one for one in declarations if one not in ("", "}")]
+
+
+def declared_name(declaration):
+    found = re.match(r"[\w\s*]*?(\w+)\(", declaration)
+    return found[1] if found else declaration
+
+
+def check_header(functions):
+    declared = header_declarations()
+    expected = {f.name: re.sub(r" ?([(),*]) ?", r"\1", f.declared()) for f in functions}
+    names = [declared_name(one) for one in declared]
+    for name, one in zip(names, declared):
+        if name not in expected:
+            fail(HEADER, f"declares {name}, which is not exported")
+        elif one != expected[name]:
+            fail(HEADER, f"{name} is declared as `{one}`, not as `{expected[name]}`")
+    for name in expected:
+        if names.count(name) != 1:
+            fail(HEADER, f"{name} is declared {names.count(name)} times, not once")
+
+
+def check_sources():
+    functions = exported_functions()
+    calls = constructors()
+    if not functions:
+        fail(STATION, "no function is exported")
+    for function in functions:
+        if check_signature(function, calls):
+            check_contract(function)
+        elif any(word == "requires" for word, _ in function.clauses):
+            fail(function.where, "has a requires")
+    for file in sorted({function.file for function in functions}):
+        own = {function.call(): CALLS_HOME for function in functions if function.file == file}
+        check_symbols(file, {**HOMES, **own})
+    check_header(functions)
+    return f"{len(functions)} exported functions, each with the contract of its signature, as the header declares them"
+
+
+def check_archive(said, path):
+    lines = [line for line in said.splitlines() if line.startswith("logic=")]
+    line = lines[-1] if lines else said.strip()
+    words = dict(word.partition("=")[::2] for word in line.split())
+    sources = sorted((ROOT / STATION).glob("**/*.rt"))
+    count = sum(len(re.findall(r"\bfn\s+\w+", without_comments(source.read_text()))) for source in sources)
+    if words.get("logic") != "proved":
+        fail("archive", f"`{line}` does not say logic=proved")
+    if words.get("functions") != str(count):
+        fail("archive", f"`{line}` does not say functions={count}, as many as {STATION} has")
+    for word in ("axioms", "foreign"):
+        if word in words:
+            fail("archive", f"`{line}` says {word}={words[word]}: something is only assumed")
+    if path:
+        told = subprocess.run(["nm", "--defined-only", "--extern-only", "--format=posix", path], capture_output=True, text=True)
+        if told.returncode != 0:
+            fail(path, f"nm: {told.stderr.strip()}")
+        defined = sorted(re.findall(r"^(station_\w*) ", told.stdout, re.MULTILINE))
+        declared = sorted(map(declared_name, header_declarations()))
+        for name in sorted({*defined, *declared}):
+            if defined.count(name) != declared.count(name):
+                fail(path, f"{name} is defined {defined.count(name)} times and declared {declared.count(name)} times in {HEADER}")
+    return f"archive: {line}"
+
+
+def main(words):
+    if words and words[0] == "--archive":
+        said = words[1] if len(words) > 1 and words[1] != "-" else sys.stdin.read()
+        told = check_archive(said, words[2] if len(words) > 2 else None)
+    else:
+        told = check_sources()
+    print("\n".join(failures) if failures else told)
+    return 1 if failures else 0
+
+
+if __name__ == "__main__":
+    sys.exit(main(sys.argv[1:]))

@@ -1,0 +1,205 @@
+#!/usr/bin/env python3
+"""Shows that each check of tests/statements.py can fail: wrong copies of what it reads, each of which it must refuse in the right words.
+
+    python3 tests/statements_edits.py
+
+An edit is tried on a copy of the sources in a temporary folder. The last line is 'N passed, M failed'.
+"""
+import re
+import shutil
+import subprocess
+import sys
+import tempfile
+from pathlib import Path
+
+ROOT = Path(__file__).resolve().parent.parent
+CODE = "crates/station/src/lib.rt"
+HEADER = "host/include/station.h"
+CALLS = "crates/recorder/specs/Calls.antt"
+
+WRITE_LEFT = "left r (now (image .exit)) (now (kinds .exit)) (now (ledger .exit)) (now (block .entry))"
+WRITE_AFTER = "after (lent (now (image .entry)) (now (kinds .entry))) (now (ledger .entry)) (write v (now (block .entry)))"
+EXPORT = '#[no_mangle]\npub extern "C" fn {}(image: &[u8], kinds: &[u8], ledger: &[u8]) -> u64\n{{\n    0\n}}\n'
+RELEASE = "pub extern \"C\" fn station_release(image: &[u8], kinds: &[u8], ledger: &mut [u8], v: u32) -> u64"
+
+# What is wrong: the file, text that stands once in it, what stands there instead, and what the refusal says.
+SOURCES = {
+    # a contract that says less
+    "write_asks_for_31_sectors": (CODE, f"    ensures {{ λ r. ⌜ {WRITE_LEFT}",
+        f"    requires {{ ⌜ length (now kinds) ≡ 31 ⌝ }}\n    ensures {{ λ r. ⌜ {WRITE_LEFT}",
+        "lib.rt: station_write: has a requires: ⌜ length (now kinds) ≡ 31 ⌝"),
+    "write_promises_its_answer_alone": (CODE, f"{WRITE_LEFT} ≡ {WRITE_AFTER}", f"r ≡ {WRITE_AFTER} .answer",
+        "lib.rt: station_write: its ensures is not"),
+    "write_promises_nothing": (CODE, f"    ensures {{ λ r. ⌜ {WRITE_LEFT} ≡ {WRITE_AFTER} ⌝ }}\n", "",
+        "lib.rt: station_write: has 0 ensures, not one"),
+    "write_promises_twice": (CODE, f"{WRITE_AFTER} ⌝ }}", f"{WRITE_AFTER} ⌝ }}\n    ensures {{ λ r. ⌜ r ≡ r ⌝ }}",
+        "lib.rt: station_write: has 2 ensures, not one"),
+    "write_compares_the_image_lent": (CODE, WRITE_LEFT, WRITE_LEFT.replace("image .exit", "image .entry"),
+        "lib.rt: station_write: its ensures is not"),
+    "begin_is_another_call": (CODE, "(now (ledger .entry)) begin ⌝", "(now (ledger .entry)) mount ⌝",
+        "lib.rt: station_begin: its ensures is not"),
+    "release_of_another_number": (CODE, "(release v)", "(release 0)",
+        "lib.rt: station_release: its ensures is not"),
+    "release_promises_behind_a_comment": (CODE, "(release v) ⌝ }", "(release v) ⌝ // }\n}",
+        "lib.rt: station_release: its ensures is not"),
+    "look_back_adds_a_clause": (CODE, "(lookBack k) ⌝ }", "(lookBack k) ⌝ }\n    where",
+        "lib.rt: station_look_back: something else than"),
+    # a signature
+    "release_number_of_64_bits": (CODE, RELEASE, RELEASE.replace("v: u32", "v: u64"),
+        "lib.rt: station_release: its parameter v is of type u64, not u32"),
+    "release_answers_32_bits": (CODE, RELEASE, RELEASE.replace("-> u64", "-> u32"),
+        "lib.rt: station_release: answers u32, not u64"),
+    "release_takes_the_kinds_first": (CODE, RELEASE, RELEASE.replace("image: &[u8], kinds: &[u8]", "kinds: &[u8], image: &[u8]"),
+        "lib.rt: station_release: its parameters do not begin with image, kinds, ledger"),
+    "release_hides_a_symbol": (CODE, RELEASE, RELEASE.replace("v: u32", "after: u32"),
+        "lib.rt: station_release: its parameter after hides a symbol"),
+    "release_lends_another_buffer": (CODE, RELEASE, RELEASE.replace("v: u32", "v: &[u8]"),
+        "lib.rt: station_release: its parameter v is of type &[u8], not u32"),
+    "release_takes_two_numbers": (CALLS, "  release : ℕ → Call\n", "  release : ℕ → ℕ → Call\n",
+        "lib.rt: station_release: crates/recorder/specs/Calls.antt has no constructor release : ℕ → Call"),
+    # what is exported
+    "exported_from_another_crate": ("crates/listing/src/lib.rt", "pub mod text;\n", "pub mod text;\n\n" + EXPORT.format("station_list"),
+        "crates/listing/src/lib.rt: station_list: exported from another crate than station"),
+    "exported_under_another_name": ("crates/calls/src/lib.rt", "pub fn refused", '#[export_name = "station_refused"]\npub fn refused',
+        "crates/calls/src/lib.rt: 1 marks of an exported function"),
+    "exported_and_not_declared": (CODE, "// \"A refusal's second number is 0\".", EXPORT.format("station_erase"),
+        "station.h: station_erase is declared 0 times, not once"),
+    "nothing_exported": (CODE, None, "", "no function is exported"),
+    # the header
+    "header_lends_the_image_to_begin": (HEADER, "station_begin(const uint8_t *image", "station_begin(uint8_t *image",
+        "station.h: station_begin is declared as"),
+    "header_keeps_the_ledger_from_begin": (HEADER, "*kinds, size_t kinds_length,\n                       uint8_t *ledger, size_t ledger_length);\n\n/*\n * Mount",
+        "*kinds, size_t kinds_length,\n                       const uint8_t *ledger, size_t ledger_length);\n\n/*\n * Mount",
+        "station.h: station_begin is declared as"),
+    "header_exchanges_image_and_kinds": (HEADER, "station_commit(uint8_t *image, size_t image_length, uint8_t *kinds,\n                        size_t kinds_length,",
+        "station_commit(uint8_t *kinds, size_t kinds_length, uint8_t *image,\n                        size_t image_length,",
+        "station.h: station_commit is declared as"),
+    "header_leaves_out_a_length": (HEADER, "station_write(uint8_t *image, size_t image_length,", "station_write(uint8_t *image,",
+        "station.h: station_write is declared as"),
+    "header_number_of_64_bits": (HEADER, "uint8_t *ledger, size_t ledger_length, uint32_t k);", "uint8_t *ledger, size_t ledger_length, uint64_t k);",
+        "station.h: station_look_back is declared as"),
+    "header_answers_32_bits": (HEADER, "uint64_t station_commit(", "uint32_t station_commit(",
+        "station.h: station_commit is declared as"),
+    "header_declares_another": (HEADER, "uint64_t station_commit(", "uint64_t station_erase(uint8_t *image, size_t image_length);\nuint64_t station_commit(",
+        "station.h: declares station_erase, which is not exported"),
+    "header_leaves_out_commit": (HEADER, "uint64_t station_commit(", "uint64_t station_save(",
+        "station.h: station_commit is declared 0 times, not once"),
+    "header_renames_by_a_macro": (HEADER, "#define STATION_SECTOR 2048", "#define station_write station_begin\n#define STATION_SECTOR 2048",
+        "station.h: defines station_write, which is not a STATION_ name"),
+    # what the symbols mean
+    "after_from_another_module": (CODE, "specs.Effects.{left, after};", "specs.Effects.{left};\nghost use Rattle.recorder.specs.Weaker.{after};",
+        "lib.rt: no ghost use brings after from Rattle.recorder.specs.Effects"),
+    "after_twice": (CODE, "specs.Effects.{left, after};", "specs.Effects.{left, after};\nghost use Rattle.recorder.specs.Weaker.{after};",
+        "lib.rt: after from Rattle.recorder.specs.Weaker stands in for after from Rattle.recorder.specs.Effects"),
+    "equality_from_another_module": (CODE, "ghost use mathlib.Core.Path.{_≡_};", "ghost use Rattle.recorder.specs.Weaker.{_≡_};",
+        "lib.rt: no ghost use brings _≡_ from mathlib.Core.Path"),
+    "an_operator_that_begins_with_left": (CODE, "ghost use Prim.Native.Nat.{_*_};", "ghost use Prim.Native.Nat.{_*_};\nghost use Rattle.recorder.specs.Weaker.{left_};",
+        "lib.rt: left_ from Rattle.recorder.specs.Weaker stands in for left"),
+    "now_from_another_module": (CODE, "ghost use Prim.Native.Nat.{_*_};", "ghost use Prim.Native.Nat.{_*_};\nghost use Rattle.recorder.specs.Weaker.{now};",
+        "lib.rt: now from Rattle.recorder.specs.Weaker stands in for now from the logic"),
+    "a_call_renamed": (CODE, "closePacket, commit, read", "closePacket, closePacket as commit, read",
+        "lib.rt: `ghost use Rattle.recorder.specs.Calls.{begin, mount, write, release, closePacket, closePacket as commit, read, lookBack}` is not of the form"),
+    "a_call_not_imported": (CODE, "closePacket, commit, read", "closePacket, read",
+        "lib.rt: no ghost use brings commit from Rattle.recorder.specs.Calls"),
+    "a_module_taken_whole": (CODE, "ghost use Prim.Native.Nat.{_*_};", "ghost use Prim.Native.Nat.{_*_};\nghost use Rattle.recorder.specs.Weaker;",
+        "lib.rt: `ghost use Rattle.recorder.specs.Weaker` is not of the form"),
+}
+
+# One more number: the same rule calls for it in the signature, in the call, in the contract and in the header, in the same order.
+ANOTHER_NUMBER = [
+    (CODE, "k: u32", "k: u32, from_block: u32"),
+    (CODE, "(lookBack k)", "(lookBack k «from_block»)"),
+    (CALLS, "  lookBack : ℕ → Call\n", "  lookBack : ℕ → ℕ → Call\n"),
+    (HEADER, "uint32_t k)", "uint32_t k, uint32_t from_block)"),
+]
+
+# The line that `rt staticlib station` ends in, and what the refusal says.
+COUNT = len(re.findall(r"^[^/\n]*\bfn ", (ROOT / CODE).read_text(), re.MULTILINE))
+PROVED = f"logic=proved functions={COUNT} sum=0 native=nat"
+LINES = {
+    "archive_not_proved": (PROVED.replace("proved", "not-proved"), "does not say logic=proved"),
+    "archive_of_fewer_functions": (PROVED.replace(f"={COUNT}", f"={COUNT - 1}"), f"does not say functions={COUNT}"),
+    "archive_with_an_axiom": (PROVED + " axioms=1", "says axioms=1"),
+    "archive_with_a_function_of_c": (PROVED + " foreign=1", "says foreign=1"),
+    "archive_that_says_nothing": ("", "does not say logic=proved"),
+}
+
+# The functions that an archive defines, and what the refusal says.
+NAMES = re.findall(r"^uint64_t (station_\w+)\(", (ROOT / HEADER).read_text(), re.MULTILINE)
+ARCHIVES = {
+    "archive_defines_another": ([*NAMES, "station_erase"], "station_erase is defined 1 times and declared 0 times"),
+    "archive_lacks_one": (NAMES[1:], f"{NAMES[0]} is defined 0 times and declared 1 times"),
+}
+
+passed = failed = 0
+
+
+def copied(folder):
+    """What tests/statements.py reads, and the script itself."""
+    files = [*ROOT.glob("crates/*/src/**/*.rt"), ROOT / CALLS, ROOT / HEADER, ROOT / "tests/statements.py"]
+    for path in files:
+        copy = folder / path.relative_to(ROOT)
+        copy.parent.mkdir(parents=True, exist_ok=True)
+        shutil.copyfile(path, copy)
+
+
+def said_of(folder, *words, given=""):
+    told = subprocess.run([sys.executable, str(folder / "tests/statements.py"), *words], input=given, capture_output=True, text=True)
+    return told.returncode, told.stdout + told.stderr
+
+
+def expect(label, told, status, text):
+    """One test: the exit status, and the text in what was said."""
+    global passed, failed
+    if told[0] == status and text in told[1]:
+        passed += 1
+        print(f"{label}: {'refused' if status else 'accepted'}, as it must be")
+    else:
+        failed += 1
+        print(f"{label}: FAILED: status {told[0]}, and not {status} with '{text}':\n{told[1]}")
+
+
+def edited(folder, file, old, new):
+    """The file with one text put for another; without an old text, that alone. The answer is what it held before."""
+    right = (folder / file).read_text()
+    if old is not None and right.count(old) != 1:
+        sys.exit(f"an edit's old text stands {right.count(old)} times in {file}, and not once: {old}")
+    (folder / file).write_text(new if old is None else right.replace(old, new))
+    return right
+
+
+def archive_of(folder, names):
+    """An archive that defines these functions."""
+    source, made, archive = folder / "station.c", folder / "station.o", folder / "libstation.a"
+    source.write_text("".join(f"int {name}(void) {{ return 0; }}\n" for name in names))
+    archive.unlink(missing_ok=True)
+    subprocess.run(["cc", "-c", str(source), "-o", str(made)], check=True)
+    subprocess.run(["ar", "rc", str(archive), str(made)], check=True)
+    return str(archive)
+
+
+with tempfile.TemporaryDirectory() as name:
+    folder = Path(name)
+    copied(folder)
+    expect("sources_as_they_are", said_of(folder), 0, "exported functions, each with the contract of its signature")
+    for label, (file, old, new, refusal) in SOURCES.items():
+        right = edited(folder, file, old, new)
+        expect(label, said_of(folder), 1, refusal)
+        (folder / file).write_text(right)
+    for file, old, new in ANOTHER_NUMBER:
+        edited(folder, file, old, new)
+    expect("another_number", said_of(folder), 0, "exported functions, each with the contract of its signature")
+    edited(folder, CODE, "(lookBack k «from_block»)", "(lookBack «from_block» k)")
+    expect("another_number_in_another_order", said_of(folder), 1, "lib.rt: station_look_back: its ensures is not")
+    copied(folder)
+    expect("line_as_it_is", said_of(folder, "--archive", PROVED), 0, PROVED)
+    expect("line_on_standard_input", said_of(folder, "--archive", "-", given=f"said before\n{PROVED}\n"), 0, PROVED)
+    for label, (line, refusal) in LINES.items():
+        expect(label, said_of(folder, "--archive", line), 1, refusal)
+    expect("archive_as_declared", said_of(folder, "--archive", PROVED, archive_of(folder, NAMES)), 0, PROVED)
+    for label, (names, refusal) in ARCHIVES.items():
+        expect(label, said_of(folder, "--archive", PROVED, archive_of(folder, names)), 1, refusal)
+    expect("archive_that_is_missing", said_of(folder, "--archive", PROVED, str(folder / "none.a")), 1, "nm: ")
+
+print(f"{passed} passed, {failed} failed")
+sys.exit(1 if failed else 0)
