@@ -82,18 +82,21 @@ host_tests_written() {
     echo $((functions + fences / 2))
 }
 
+# Wrong copies, each with its label.
+wrong_statements() {
+    grep -cE '^ +"[a-z_0-9]+": \(' tests/statements_edits.py
+}
+
 outside_vectors() {
     local told
     told=$(python3 tests/vectors.py) && [ -n "$told" ] && echo "$told" | cmp - crates/vectors/stdout
 }
 
-# The archive that the host program links: proved, with nothing that is only assumed.
+# The archive that the host program links: proved, with nothing that is only assumed, and with the functions of the header alone.
 archive() {
     local told
     told=$(rt staticlib station 2>&1) || { echo "$told" | tail -n 20; return 1; }
-    told=$(echo "$told" | grep '^logic=' | tail -n 1)
-    echo "archive: $told"
-    [[ $told == logic=proved* && $told != *foreign=* && $told != *axioms=* ]]
+    python3 tests/statements.py --archive "$told" target/staticlib/libstation.a
 }
 
 # Without --release, which would leave out the checks that the profile for tests has.
@@ -105,6 +108,8 @@ set_up
 echo "kit: $(rt version) (last proved with $proved_with)"
 one "rt fmt --check" rt fmt --check
 one "tests/vectors.py" outside_vectors
+one "tests/statements.py" python3 tests/statements.py
+counted "tests/statements_edits.py" "$(wrong_statements)" python3 tests/statements_edits.py
 counted "rt ci" "$(rattle_tests)" rt ci
 counted "tests/must_fail.sh" "$(must_fail_tests)" tests/must_fail.sh
 one "rt staticlib station" archive

@@ -17,6 +17,7 @@ ROOT = Path(__file__).resolve().parent.parent
 HEADER = "host/include/station.h"
 CALLS = "crates/recorder/specs/Calls.antt"
 STATION = "crates/station/src/"
+CLIENT = "crates/client/src/"
 DISC_AND_LEDGER = ["image", "kinds", "ledger"]
 SLICES = {"&[u8]": "const uint8_t", "&mut [u8]": "uint8_t"}
 
@@ -221,6 +222,13 @@ def check_header(functions):
             fail(HEADER, f"{name} is declared {names.count(name)} times, not once")
 
 
+def check_client():
+    """A host program's days are for every input too: what asks for something promises less."""
+    for path in sorted((ROOT / CLIENT).glob("**/*.rt")):
+        for _ in re.finditer(r"\brequires\b", without_comments(path.read_text())):
+            fail(str(path.relative_to(ROOT)), "has a requires: its promises are for every input")
+
+
 def check_sources():
     functions = exported_functions()
     calls = constructors()
@@ -235,6 +243,7 @@ def check_sources():
         own = {function.call(): CALLS_HOME for function in functions if function.file == file}
         check_symbols(file, {**HOMES, **own})
     check_header(functions)
+    check_client()
     return f"{len(functions)} exported functions, each with the contract of its signature, as the header declares them"
 
 
