@@ -30,7 +30,7 @@ use Rattle.history.specs.Claim.{blockNumber, DoneShowing, Claim}
 use Rattle.history.proofs.Log.{HeldIf}
 use Rattle.history.proofs.Growth.{F}
 use Rattle.history.proofs.Theorem.{Kept, Remounted, remounts}
-use Rattle.client.specs.Day.{Day, ended, called, day, AllDone, opening, ShowsSave, commits, struck, OneSector, sectorsBehind, CutBehind, tableKept, readsOf}
+use Rattle.client.specs.Day.{Day, ended, called, day, AllDone, opening, ShowsSave, backIf, oneBack, commits, struck, OneSector, sectorsBehind, CutBehind, tableKept, readsOf}
 use Rattle.client.proofs.Days.{joined, first-done, part-done, called-done, done-first, rest-done, answer-of, last-called, mount-small}
 use Rattle.client.proofs.Claimed.{world, not-lost, history, kept-next, startPage, startPages, startHistory, opened, remembered, claim-behind, claim-at, kept-at}
 use Rattle.client.proofs.Shown.{Reads, mount-disc, mount-reads, mount-unused, look-reads}
@@ -90,6 +90,13 @@ module _ (d : Disc) (l : List ℕ) (good : Proper (unpack l)) where
       let f : CommitDone d l = commit-done d l e in
       let s : Volume = unpack l in
       rw e (length-pack (committed (target s) s) (proper-committed s good (target s) (omega (arith, few d (f .sound-disc), f .fit .same-recorded, links-few s))))
+
+one-step : (last : ℕ) {answer : ℕ} → (last ≡ unused → answer ≡ 9 * 4294967296) → ((last ≡ unused → ⊥) → answer ≡ last) → answer ≡ oneBack last
+one-step last {answer} none-there there = go (eqb last unused) refl
+  where
+    go : (t : Bool) → eqb last unused ≡ t → answer ≡ backIf t last
+    go true z = none-there (eqb-true last unused z)
+    go false z = there (eqb-false last unused z)
 
 -- ---- a start and a write
 
@@ -198,8 +205,7 @@ module _ (x : Day) (fresh : Bool) (ok : x .answer < 4294967296) where
 
     -- one step back: the table that was last when the day was opened
     pub saved-back : {r : ℕ} {i k m : List ℕ} → ended r i k m ≡ day x (opening fresh ∷ write v block ∷ commit ∷ lookBack 1 ∷ [])
-        → (unpack (day x (opening fresh ∷ []) .ledger) .last ≡ unused → r ≡ 9 * 4294967296)
-        × ((unpack (day x (opening fresh ∷ []) .ledger) .last ≡ unused → ⊥) → r ≡ unpack (day x (opening fresh ∷ []) .ledger) .last)
+        → r ≡ oneBack (unpack (day x (opening fresh ∷ []) .ledger) .last)
     unfolding day
     saved-back e =
         let o : Day = day x (opening fresh ∷ []) in
@@ -210,10 +216,8 @@ module _ (x : Day) (fresh : Bool) (ok : x .answer < 4294967296) where
         (done-first o (write v block) [] o-done (subst (λ (y : Day). y .answer < 4294967296) (joined (opening fresh ∷ []) (write v block ∷ []) x) record-done)) in
         let here : after (saved-day .disc) (saved-day .ledger) (lookBack 1) .answer ≡ after (after (recorded-day .disc) (recorded-day .ledger) commit .disc) (saved-day .ledger) (lookBack 1) .answer =
         ap (λ (d : Disc). after d (saved-day .ledger) (lookBack 1) .answer) saved-disc in
-        let told : _ ≡ after (saved-day .disc) (saved-day .ledger) (lookBack 1) .answer = ap (λ (y : Day). y .answer) (e ∙ last-called x (opening fresh ∷ write v block ∷ commit ∷ []) (lookBack 1) a) in (
-          λ z. told ∙ here ∙ again .none-back (same ∙ z),
-          λ used. told ∙ here ∙ again .one-back (λ z. used (sym same ∙ z)) ∙ same,
-        )
+        ap (λ (y : Day). y .answer) (e ∙ last-called x (opening fresh ∷ write v block ∷ commit ∷ []) (lookBack 1) a)
+        ∙ here ∙ one-step (unpack (o .ledger) .last) (λ z. again .none-back (same ∙ z)) (λ used. again .one-back (λ z. used (sym same ∙ z)) ∙ same)
 
 -- ---- any calls behind a save
 

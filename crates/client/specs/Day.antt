@@ -1,5 +1,5 @@
 -- A host program's day: calls one after another, each on what the one before left, until one is refused.
-use Prim.Native.Nat.{ℕ, _+_, _<_, _≤_}
+use Prim.Native.Nat.{ℕ, _+_, _*_, _<_, _≤_}
 use mathlib.Core.Bool.{Bool, true, false, _&&_}
 use mathlib.Core.List.{List, [], _∷_}
 use mathlib.Core.Option.{Option, none, some}
@@ -58,6 +58,14 @@ pub record ShowsSave (x : Day) (start : Call) (v : ℕ) (block : List ℕ) (answ
   pub size :
       let before : ℕ = unpack (day x (start ∷ []) .ledger) .size in
       unpack ledger .size ≡ grown (eqb v before) before
+
+-- What look back 1 answers on a save whose ledger had this last table: that table, or 9 where there was none.
+abbrev pub backIf : Bool → ℕ → ℕ
+backIf true last = 9 * 4294967296
+backIf false last = last
+
+abbrev pub oneBack : ℕ → ℕ
+oneBack last = backIf (eqb last unused) last
 
 -- How many commits are among the calls.
 abbrev pub commits : List Call → ℕ

@@ -7,12 +7,12 @@ ghost use mathlib.Core.List.{List, [], _∷_};
 ghost use mathlib.Core.Option.{Option};
 ghost use Prim.Native.Nat.{ℕ, _*_, _<_};
 ghost use lib.ListN.{length};
-ghost use Rattle.vat.specs.Table.{sectorLength, unused};
+ghost use Rattle.vat.specs.Table.{sectorLength};
 ghost use Rattle.disc.specs.Disc.{lent};
 ghost use Rattle.volume.specs.Volume.{ledgerLength, unpack};
 ghost use Rattle.recorder.specs.Calls.{Call, begin, mount, write, release, closePacket, commit, read, lookBack};
 ghost use Rattle.recorder.specs.Effects.{after};
-ghost use Rattle.client.specs.Day.{Day, ended, morning, day, AllDone, opening, readAt, ShowsSave, commits, sectorsBehind, CutBehind, tableKept, readsOf};
+ghost use Rattle.client.specs.Day.{Day, ended, morning, day, AllDone, opening, readAt, ShowsSave, oneBack, commits, sectorsBehind, CutBehind, tableKept, readsOf};
 
 // An answer from here on is a refusal.
 const REFUSED: u64 = 4294967296;
@@ -112,7 +112,7 @@ pub fn save_and_look_back(
     block: &[u8],
 ) -> u64
     ensures { λ r. ⌜ ended r (now (image .exit)) (now (kinds .exit)) (now (ledger .exit)) ≡ day (morning (now (image .entry)) (now (kinds .entry)) (now (ledger .entry))) (opening fresh ∷ write v (now (block .entry)) ∷ commit ∷ lookBack 1 ∷ []) ⌝ }
-    ensures { λ r. ⌜ (AllDone (morning (now (image .entry)) (now (kinds .entry)) (now (ledger .entry))) (opening fresh ∷ write v (now (block .entry)) ∷ commit ∷ []) → (unpack (day (morning (now (image .entry)) (now (kinds .entry)) (now (ledger .entry))) (opening fresh ∷ []) .ledger) .last ≡ unused → r ≡ 9 * 4294967296) × ((unpack (day (morning (now (image .entry)) (now (kinds .entry)) (now (ledger .entry))) (opening fresh ∷ []) .ledger) .last ≡ unused → ⊥) → r ≡ unpack (day (morning (now (image .entry)) (now (kinds .entry)) (now (ledger .entry))) (opening fresh ∷ []) .ledger) .last)) ⌝ }
+    ensures { λ r. ⌜ (AllDone (morning (now (image .entry)) (now (kinds .entry)) (now (ledger .entry))) (opening fresh ∷ write v (now (block .entry)) ∷ commit ∷ []) → r ≡ oneBack (unpack (day (morning (now (image .entry)) (now (kinds .entry)) (now (ledger .entry))) (opening fresh ∷ []) .ledger) .last)) ⌝ }
 {
     let saved = save(image, kinds, ledger, fresh, v, block);
     if REFUSED <= saved {
