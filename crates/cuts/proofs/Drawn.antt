@@ -23,7 +23,10 @@ use Rattle.history.proofs.Theorem.{power-cuts}
 use Rattle.bench.proofs.Starred.{blank, block, full}
 use Rattle.cuts.proofs.Worked.{works, works-started, works-allowed, works-pages}
 use Rattle.cuts.proofs.CutCommit.{commit-works, cut-started, cut-allowed, cut-pages}
-use Rattle.cuts.proofs.Lists.{start, begun-works, in-the-links, in-the-links-pages, shown-in-the-links, no-table-yet, shown-no-table-yet, before-the-first-table, first-table-pages, shown-before-the-first-table, looks-like-a-table, no-table-pages, shown-looks-like-a-table, three-back, three-back-pages, shown-three-back, scratched, on-scratched, scratched-pages, shown-on-scratched, before-the-cut, old-page, new-page, shown-before-the-cut}
+use Rattle.cuts.proofs.Lists.{start, begun-works, in-the-links, in-the-links-pages, shown-in-the-links, no-table-yet, shown-no-table-yet}
+use Rattle.cuts.proofs.Lists.{before-the-first-table, first-table-pages, shown-before-the-first-table}
+use Rattle.cuts.proofs.Lists.{looks-like-a-table, no-table-pages, shown-looks-like-a-table, three-back, three-back-pages, shown-three-back}
+use Rattle.cuts.proofs.Lists.{scratched, on-scratched, scratched-pages, shown-on-scratched, before-the-cut, old-page, new-page, shown-before-the-cut}
 
 -- ---- what is drawn
 

@@ -74,7 +74,11 @@ shown-looks-like-a-table = tt
 -- a save three back, and a number released
 unfoldable pub three-back : List Event
 three-back =
-    calls (write 0 (block 1)) [] ∷ calls commit [] ∷ calls (write 1 (block 2)) [] ∷ calls commit [] ∷ calls (release 0) [] ∷ calls commit [] ∷ calls (write 0 (block 3)) [] ∷ calls commit [] ∷ []
+    calls (write 0 (block 1)) [] ∷ calls commit []
+    ∷ calls (write 1 (block 2)) [] ∷ calls commit []
+    ∷ calls (release 0) [] ∷ calls commit []
+    ∷ calls (write 0 (block 3)) [] ∷ calls commit []
+    ∷ []
 
 unfoldable pub three-back-pages : List Snapshot
 three-back-pages =

@@ -5,7 +5,7 @@ use mathlib.Core.Bool.{Bool, true, false, _&&_}
 use mathlib.Core.List.{List, [], _∷_}
 use mathlib.Core.Option.{none, some}
 use mathlib.Core.Path.{_≡_, refl, ap, ap₂}
-use lib.Dec.{T, eqb, eqb→eq}
+use lib.Dec.{T, eqb, leb, eqb→eq}
 use Rattle.disc.specs.Disc.{Disc}
 use Rattle.volume.specs.Volume.{unpack}
 use Rattle.recorder.specs.Calls.{mount, read, lookBack}
@@ -26,16 +26,19 @@ unfoldable pub reads-page : Disc → List ℕ → ℕ → Snapshot → Bool
 reads-page d l n [] = eqb (unpack l .size) n
 reads-page d l n (e ∷ es) = reads-as (after d l (read n (block 0))) e && reads-page d l (n + 1) es
 
--- Mount, worked out, shows the newest of the pages, or is refused where there is none.
+-- A call, worked out, is done, for its answer is below 4,294,967,296, and shows the page.
+unfoldable pub shows-page : Disc → After → Snapshot → Bool
+shows-page d a p = leb (a .answer) 4294967295 && reads-page d (a .ledger) 0 p
+
+-- Mount shows the newest of the pages, or is refused where there is none.
 unfoldable pub mounts-to : Disc → List Snapshot → Bool
 mounts-to d [] = eqb (outcome d full mount) 7
-mounts-to d (p ∷ ps) = eqb (outcome d full mount) 0 && reads-page d (after d full mount .ledger) 0 p
+mounts-to d (p ∷ ps) = let a : After = after d full mount in shows-page d a p
 
--- Look back k, k + 1 and so on, worked out, show these pages.
+-- Look back k, k + 1 and so on show these pages.
 unfoldable pub looks-to : Disc → ℕ → List Snapshot → Bool
 looks-to d k [] = true
-looks-to d k (p ∷ ps) =
-    eqb (outcome d full (lookBack k)) 0 && (reads-page d (after d full (lookBack k) .ledger) 0 p && looks-to d (k + 1) ps)
+looks-to d k (p ∷ ps) = let a : After = after d full (lookBack k) in shows-page d a p && looks-to d (k + 1) ps
 
 -- ---- pages, compared with pages
 

@@ -13,13 +13,13 @@ use mathlib.Core.Path.{_≡_, refl, sym, ap, _∙_, subst}
 use lib.Dec.{T, eqb, leb, eqb→eq, leb→le}
 use lib.ListN.{length}
 use Rattle.disc.specs.Disc.{Disc}
-use Rattle.recorder.specs.Calls.{Call, begin, mount, write, release, closePacket, commit, read, lookBack}
+use Rattle.recorder.specs.Calls.{Call, begin, mount, write, release, closePacket, commit, read, lookBack, blockOf}
 use Rattle.recorder.specs.Refusals.{outcome}
-use Rattle.recorder.specs.Effects.{sectorsOf}
-use Rattle.history.specs.History.{Snapshot, History, feed}
-use Rattle.history.specs.Events.{World, Event, calls, cuts, ledgerHeld, Restores, Torn, Allowed, cutDisc, next, fed, AllAllowed, runs, remembers, shown, afterCall}
+use Rattle.recorder.specs.Effects.{Effect, effect, After, settled, after, ifDone, secondNumber, sectorsOf}
+use Rattle.history.specs.History.{Snapshot, History, answered, feed}
+use Rattle.history.specs.Events.{World, Event, calls, cuts, ledgerHeld, Restores, Torn, Allowed, cutDisc, ledgerAfter, next, told, fed, AllAllowed, runs, remembers, shown, afterCall}
 use Rattle.bench.proofs.Starred.{opened, same, full}
-use Rattle.cuts.proofs.Pages.{reads-as, reads-page, mounts-to, looks-to, same-entry, same-page, same-pages, both, pages-same}
+use Rattle.cuts.proofs.Pages.{reads-as, reads-page, shows-page, mounts-to, looks-to, same-entry, same-page, same-pages, both, pages-same}
 
 -- ---- whether an event is allowed
 
@@ -88,35 +88,61 @@ pub record Played : Type 0 where
   pub world : World
   pub past : History
 
+-- Of a call the outcome and the effect are worked out once, for the world (`next`) and for what the history is fed (`fed`).
 unfoldable pub played : Bool → World → History → List Event → Played
 unfolding allows
 played ok w h [] = record { allowed = ok; world = w; past = h }
-played ok w h (e ∷ es) = let w′ : World = next w e in played (ok && allows w e) w′ (feed h (fed w e)) es
+played ok w h (calls c junk ∷ es) =
+    let l : List ℕ = ledgerHeld (w .ledger) junk in
+    let n : ℕ = outcome (w .disc) l c in
+    let e : Effect = effect (w .disc) l c in
+    let a : After = settled (w .disc) l (blockOf c) n e in
+    let w′ : World = record { disc = a .disc; ledger = ledgerAfter n (w .ledger) (a .ledger) } in
+    played (ok && allows w (calls c junk)) w′ (feed h (answered (told c) n (ifDone n (e .second)))) es
+played ok w h (cuts c junk j tear ∷ es) =
+    let w′ : World = next w (cuts c junk j tear) in
+    played (ok && allows w (cuts c junk j tear)) w′ (feed h (fed w (cuts c junk j tear))) es
+
+first-allowed : (w : World) (e : Event) (es : List Event) (ok : Bool) → T (ok && allows w e) × AllAllowed (next w e) es → T ok × AllAllowed w (e ∷ es)
+unfolding AllAllowed
+first-allowed w e es ok later = let now = both ok (allows w e) (later .0) in (now .0, (allowing w e (now .1), later .1))
 
 pub all-allowed : (es : List Event) (ok : Bool) (w : World) (h : History) → T (played ok w h es .allowed) → T ok × AllAllowed w es
-unfolding played AllAllowed
+unfolding played AllAllowed next fed after secondNumber
 all-allowed [] ok w h t = (t, tt)
-all-allowed (e ∷ es) ok w h t =
-    let later = all-allowed es (ok && allows w e) (next w e) (feed h (fed w e)) t in
-    let now = both ok (allows w e) (later .0) in
-    (now .0, (allowing w e (now .1), later .1))
+all-allowed (calls c junk ∷ es) ok w h t =
+    let e : Event = calls c junk in
+    first-allowed w e es ok (all-allowed es (ok && allows w e) (next w e) (feed h (fed w e)) t)
+all-allowed (cuts c junk j tear ∷ es) ok w h t =
+    let e : Event = cuts c junk j tear in
+    first-allowed w e es ok (all-allowed es (ok && allows w e) (next w e) (feed h (fed w e)) t)
 
 pub world-left : (es : List Event) (ok : Bool) (w : World) (h : History) → played ok w h es .world ≡ runs w es
-unfolding played runs
+unfolding played runs next fed after secondNumber
 world-left [] ok w h = refl
-world-left (e ∷ es) ok w h = world-left es (ok && allows w e) (next w e) (feed h (fed w e))
+world-left (calls c junk ∷ es) ok w h =
+    let e : Event = calls c junk in
+    world-left es (ok && allows w e) (next w e) (feed h (fed w e))
+world-left (cuts c junk j tear ∷ es) ok w h =
+    let e : Event = cuts c junk j tear in
+    world-left es (ok && allows w e) (next w e) (feed h (fed w e))
 
 pub past-left : (es : List Event) (ok : Bool) (w : World) (h : History) → played ok w h es .past ≡ remembers w h es
-unfolding played remembers
+unfolding played remembers next fed after secondNumber
 past-left [] ok w h = refl
-past-left (e ∷ es) ok w h = past-left es (ok && allows w e) (next w e) (feed h (fed w e))
+past-left (calls c junk ∷ es) ok w h =
+    let e : Event = calls c junk in
+    past-left es (ok && allows w e) (next w e) (feed h (fed w e))
+past-left (cuts c junk j tear ∷ es) ok w h =
+    let e : Event = cuts c junk j tear in
+    past-left es (ok && allows w e) (next w e) (feed h (fed w e))
 
 -- From a begin or a mount c on the disc d every event is allowed, the history has these pages, mount shows the newest and each look back its page.
 unfoldable pub leaves : Played → List Snapshot → Bool
 leaves p ps = p .allowed && (same-pages (p .past .pages) ps && (mounts-to (p .world .disc) ps && looks-to (p .world .disc) 0 ps))
 
 unfoldable pub works : Disc → Call → History → List Event → List Snapshot → Bool
-unfolding opened same reads-as reads-page same-entry same-page same-pages mounts-to looks-to cutDisc next fed feed played leaves runs shown
+unfolding opened same reads-as reads-page shows-page same-entry same-page same-pages mounts-to looks-to cutDisc next fed feed played leaves runs shown
 works d c h es ps =
     let p : Played = played true (afterCall d full c) h es in
     eqb (outcome d full c) 0 && leaves p ps
