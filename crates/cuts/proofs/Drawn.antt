@@ -17,7 +17,7 @@ use Rattle.recorder.specs.Calls.{Call, begin, mount, commit, read, lookBack}
 use Rattle.recorder.specs.Refusals.{outcome}
 use Rattle.recorder.specs.Effects.{after}
 use Rattle.history.specs.History.{Entry, unusedEntry, shows, Snapshot, History, savedIf}
-use Rattle.history.specs.Events.{Event, cuts, Torn, runs, remembers, afterCall, begunHistory, mountedHistory}
+use Rattle.history.specs.Events.{Event, cuts, Torn, AllAllowed, runs, remembers, afterCall, begunHistory, mountedHistory}
 use Rattle.history.specs.Claim.{blockNumber, reading, Shows, DoneShowing, Mounts, Claim}
 use Rattle.history.proofs.Theorem.{power-cuts}
 use Rattle.bench.proofs.Starred.{blank, block, full}
@@ -25,7 +25,7 @@ use Rattle.cuts.proofs.Worked.{works, works-started, works-allowed, wor
 use Rattle.cuts.proofs.CutCommit.{commit-works, cut-started, cut-allowed, cut-pages}
 use Rattle.cuts.proofs.Lists.{start, begun-works, in-the-links, in-the-links-pages, shown-in-the-links, no-table-yet, shown-no-table-yet}
 use Rattle.cuts.proofs.Lists.{before-the-first-table, first-table-pages, shown-before-the-first-table}
-use Rattle.cuts.proofs.Lists.{looks-like-a-table, no-table-pages, shown-looks-like-a-table, three-back, three-back-pages, shown-three-back}
+use Rattle.cuts.proofs.Lists.{looks-like-a-table, struck-pages, shown-looks-like-a-table, three-back, three-back-pages, shown-three-back}
 use Rattle.cuts.proofs.Lists.{scratched, on-scratched, scratched-pages, shown-on-scratched, before-the-cut, old-page, new-page, shown-before-the-cut}
 
 -- ---- what is drawn
@@ -136,7 +136,30 @@ cut-gives n es k ps draft t j most tear long =
     (power-cuts .after-begin (blank n) full (cut-started (blank n) begin begunHistory es k ps draft t) fs (cut-allowed (blank n) begin begunHistory es k ps draft t j most tear long))
     (savedIf (eqb j k) (some draft) ps) (cut-pages (blank n) begin begunHistory es k ps draft t j tear)
 
--- ---- what it gives for each list
+-- ---- every list is allowed
+
+pub allowed-in-the-links : AllAllowed (start 10) in-the-links
+allowed-in-the-links = works-allowed (blank 10) begin begunHistory in-the-links in-the-links-pages shown-in-the-links
+
+pub allowed-no-table-yet : AllAllowed (start 9) no-table-yet
+allowed-no-table-yet = works-allowed (blank 9) begin begunHistory no-table-yet [] shown-no-table-yet
+
+pub allowed-before-the-first-table : AllAllowed (start 17) before-the-first-table
+allowed-before-the-first-table = works-allowed (blank 17) begin begunHistory before-the-first-table first-table-pages shown-before-the-first-table
+
+pub allowed-looks-like-a-table : AllAllowed (start 9) looks-like-a-table
+allowed-looks-like-a-table = works-allowed (blank 9) begin begunHistory looks-like-a-table struck-pages shown-looks-like-a-table
+
+pub allowed-three-back : AllAllowed (start 14) three-back
+allowed-three-back = works-allowed (blank 14) begin begunHistory three-back three-back-pages shown-three-back
+
+pub allowed-on-scratched : AllAllowed (afterCall scratched full mount) on-scratched
+allowed-on-scratched = works-allowed scratched mount (mountedHistory scratched) on-scratched scratched-pages shown-on-scratched
+
+pub allowed-cut : (j : ℕ) → j ≤ 8 → (tear : Option (List ℕ)) → Torn tear → AllAllowed (start 11) (before-the-cut ++ (cuts commit [] j tear ∷ []))
+allowed-cut = cut-allowed (blank 11) begin begunHistory before-the-cut 8 (old-page ∷ []) new-page shown-before-the-cut
+
+-- ---- what the claim gives for each list
 
 pub drawn-in-the-links : Gives (runs (start 10) in-the-links .disc) in-the-links-pages
 drawn-in-the-links = begun-gives 10 in-the-links in-the-links-pages shown-in-the-links
@@ -147,8 +170,8 @@ drawn-no-table-yet = begun-gives 9 no-table-yet [] shown-no-table-yet
 pub drawn-before-the-first-table : Gives (runs (start 17) before-the-first-table .disc) first-table-pages
 drawn-before-the-first-table = begun-gives 17 before-the-first-table first-table-pages shown-before-the-first-table
 
-pub drawn-looks-like-a-table : Gives (runs (start 9) looks-like-a-table .disc) no-table-pages
-drawn-looks-like-a-table = begun-gives 9 looks-like-a-table no-table-pages shown-looks-like-a-table
+pub drawn-looks-like-a-table : Gives (runs (start 9) looks-like-a-table .disc) struck-pages
+drawn-looks-like-a-table = begun-gives 9 looks-like-a-table struck-pages shown-looks-like-a-table
 
 pub drawn-three-back : Gives (runs (start 14) three-back .disc) three-back-pages
 drawn-three-back = begun-gives 14 three-back three-back-pages shown-three-back

@@ -1,5 +1,6 @@
 -- The claim about power cuts is not empty: lists of events that the checker works out from the definitions. Every event in them is allowed, each list
--- leaves the pages that are written beside it, with real bytes in them, and mount on the disc that it leaves finds the newest of them.
+-- leaves the pages that are written beside it, with real bytes in them, and on the disc that it leaves mount shows the newest of them and each look back
+-- its own.
 -- Assumes nothing.
 use Prim.Native.Nat.{ℕ}
 use mathlib.Core.Bool.{Bool, true, _&&_}
@@ -11,7 +12,7 @@ use Rattle.vat.specs.Table.{unused}
 use Rattle.vat.specs.Sector.{sector}
 use Rattle.disc.specs.Disc.{Disc, plain, torn, puts}
 use Rattle.volume.specs.Volume.{unpack}
-use Rattle.recorder.specs.Calls.{begin, mount, write, release, closePacket, commit}
+use Rattle.recorder.specs.Calls.{begin, mount, write, release, closePacket, commit, lookBack}
 use Rattle.recorder.specs.Effects.{after}
 use Rattle.history.specs.History.{unusedEntry, shows, Snapshot, History, feed}
 use Rattle.history.specs.Events.{World, Event, calls, cuts, cutDisc, next, fed, afterCall, begunHistory, mountedHistory}
@@ -29,9 +30,10 @@ begun-works n es ps = works (blank n) begin begunHistory es ps
 
 -- ---- the lists
 
--- begin, write, commit, a commit cut in the links, mount
+-- begin, write, commit, a commit cut in the links, look back, mount
 unfoldable pub in-the-links : List Event
-in-the-links = calls (write 0 (block 5)) [] ∷ calls commit [] ∷ calls closePacket [] ∷ cuts commit [] 3 (some (block 9)) ∷ calls mount full ∷ []
+in-the-links =
+    calls (write 0 (block 5)) [] ∷ calls commit [] ∷ calls closePacket [] ∷ cuts commit [] 3 (some (block 9)) ∷ calls (lookBack 0) full ∷ calls mount full ∷ []
 
 unfoldable pub in-the-links-pages : List Snapshot
 in-the-links-pages = (shows 0 (some (block 5)) ∷ []) ∷ []
@@ -64,11 +66,11 @@ shown-before-the-first-table = tt
 unfoldable pub looks-like-a-table : List Event
 looks-like-a-table = calls (write 0 (block 5)) [] ∷ calls commit [] ∷ cuts commit [] 0 (some (sector [] 1 2)) ∷ []
 
-unfoldable pub no-table-pages : List Snapshot
-no-table-pages = (shows 0 (some (block 5)) ∷ []) ∷ []
+unfoldable pub struck-pages : List Snapshot
+struck-pages = (shows 0 (some (block 5)) ∷ []) ∷ []
 
-pub shown-looks-like-a-table : T (begun-works 9 looks-like-a-table no-table-pages)
-unfolding works looks-like-a-table no-table-pages
+pub shown-looks-like-a-table : T (begun-works 9 looks-like-a-table struck-pages)
+unfolding works looks-like-a-table struck-pages
 shown-looks-like-a-table = tt
 
 -- a save three back, and a number released
@@ -119,12 +121,12 @@ old-page = shows 0 (some (block 5)) ∷ []
 unfoldable pub new-page : Snapshot
 new-page = shows 0 (some (block 5)) ∷ shows 2 (some (block 6)) ∷ []
 
--- in general: after these calls a commit has 8 sectors, the old page is the newest and the new one is the draft
+-- for every j at once: after these calls a commit has 8 sectors, the old page is the newest and the new one is the draft
 pub shown-before-the-cut : T (commit-works (blank 11) begin begunHistory before-the-cut 8 (old-page ∷ []) new-page)
 unfolding commit-works before-the-cut old-page new-page
 shown-before-the-cut = tt
 
--- and each worked out: the history after the cut has these pages, and mount finds a table of the newest one's size
+-- and for each j alone, worked out: the history after the cut has these pages, and mount finds a table of the newest one's size
 finds : World → History → List Snapshot → Bool
 unfolding opened same same-entry same-page same-pages
 finds w h ps = same-pages (h .pages) ps && eqb (unpack (after (w .disc) full mount .ledger) .size) (length (getD ps 0 []))

@@ -38,6 +38,7 @@ unfoldable pub follows : Option (List ℕ) → Disc → Call → List ℕ → Bo
 follows (some l) d c junk = true
 follows none d c junk = not (eqb (outcome d junk c) 0) || restores c
 
+-- A struck sector has 2,048 bytes.
 unfoldable pub struck : Option (List ℕ) → Bool
 struck none = true
 struck (some bytes) = eqb (length bytes) 2048
