@@ -30,7 +30,7 @@ use Rattle.cuts.proofs.Lists.{scratched, on-scratched, scratched-pages,
 
 -- ---- what is drawn
 
--- What a read that is lent the block leaves: nothing but an answer and, where the number's bytes can be read, the bytes.
+-- What read of n leaves, lent any 2,048 bytes: disc and ledger as they were, the bytes where they can be read, else a refusal and the block as lent.
 abbrev pub ReadsAs : Disc → List ℕ → ℕ → Entry → Type 0
 ReadsAs d l n unusedEntry =
     (lent : List ℕ) → length lent ≡ 2048 → after d l (read n lent) ≡ record { answer = 10 * 4294967296; disc = d; ledger = l; block = lent }
@@ -44,11 +44,12 @@ abbrev pub StandsFor : List ℕ → ℕ → Entry → Type 0
 StandsFor l n unusedEntry = getD (unpack l .entries) n unused ≡ unused
 StandsFor l n (shows b bytes) = getD (unpack l .entries) n unused ≡ b
 
--- The numbers from n on are these entries, and no others are in use.
+-- The numbers from n on are these entries, and none behind them is in use.
 abbrev pub ReadsFrom : Disc → List ℕ → ℕ → Snapshot → Type 0
-ReadsFrom d l n [] = (unpack l .size ≡ n) × ReadsAs d l n unusedEntry
+ReadsFrom d l n [] = (unpack l .size ≡ n) × ((i : ℕ) → ReadsAs d l (n + i) unusedEntry)
 ReadsFrom d l n (e ∷ es) = (StandsFor l n e × ReadsAs d l n e) × ReadsFrom d l (n + 1) es
 
+-- The call, lent any 1,848 bytes as ledger, is done and leaves a state that shows the page.
 abbrev pub GivesPage : Disc → Call → Snapshot → Type 0
 GivesPage d c p = (l : List ℕ) → length l ≡ 1848 → (outcome d l c ≡ 0) × ReadsFrom d (after d l c .ledger) 0 p
 
@@ -76,9 +77,7 @@ stands-for d l n p s (shows b bytes) q = s .entry n ∙ ap blockNumber q
 -- the entries of p from n on are es
 reads-from : (d : Disc) (l : List ℕ) (p : Snapshot) → Shows d l p → (es : Snapshot) (n : ℕ) → ((i : ℕ) → getD p (n + i) unusedEntry ≡ getD es i unusedEntry)
     → length p ≡ n + length es → ReadsFrom d l n es
-reads-from d l p s [] n same long =
-    let here : getD p n unusedEntry ≡ unusedEntry = ap (λ (i : ℕ). getD p i unusedEntry) (omega arith) ∙ same 0 in
-    (s .size ∙ long ∙ omega arith, reads-entry d l n p s unusedEntry here)
+reads-from d l p s [] n same long = (s .size ∙ long ∙ omega arith, λ i. reads-entry d l (n + i) p s unusedEntry (same i))
 reads-from d l p s (e ∷ es) n same long =
     let here : getD p n unusedEntry ≡ e = ap (λ (i : ℕ). getD p i unusedEntry) (omega arith) ∙ same 0 in
     let behind : (i : ℕ) → getD p (n + 1 + i) unusedEntry ≡ getD es i unusedEntry =
