@@ -138,12 +138,13 @@ past-left (cuts c junk j tear ∷ es) ok w h =
     let e : Event = cuts c junk j tear in
     past-left es (ok && allows w e) (next w e) (feed h (fed w e))
 
--- From a begin or a mount c on the disc d every event is allowed, the history has these pages, mount shows the newest and each look back its page.
+-- Every event is allowed, the history has these pages, mount shows the newest and each look back its page.
 unfoldable pub leaves : Played → List Snapshot → Bool
 leaves p ps = p .allowed && (same-pages (p .past .pages) ps && (mounts-to (p .world .disc) ps && looks-to (p .world .disc) 0 ps))
 
+-- The same of the events that follow a begin or a mount c, done on the disc d.
 unfoldable pub works : Disc → Call → History → List Event → List Snapshot → Bool
-unfolding opened same reads-as reads-page shows-page same-entry same-page same-pages mounts-to looks-to cutDisc next fed feed played leaves runs shown
+unfolding opened same reads-as reads-page shows-page same-entry same-page same-pages mounts-to looks-to cutDisc next fed feed played leaves shown
 works d c h es ps =
     let p : Played = played true (afterCall d full c) h es in
     eqb (outcome d full c) 0 && leaves p ps
