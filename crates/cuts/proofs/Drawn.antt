@@ -193,7 +193,7 @@ drawn-cut-at-the-end tear long = cut-gives 11 before-the-cut 8 (old-page ∷ [])
 -- ---- some of it, written out
 
 module _ (l lent : List ℕ) (ledger-lent : length l ≡ 1848) (block-lent : length lent ≡ 2048) where
-  -- number 0 reads what it had three saves back, is not in use one save back, and reads what was written last
+  -- number 0 reads what it had three saves back, and is not in use one save back
   abbrev back : ℕ → List ℕ
   back k = after (runs (start 14) three-back .disc) l (lookBack k) .ledger
 
