@@ -1,1 +1,5 @@
+pub mod Pages
+pub mod Worked
+pub mod CutCommit
 pub mod Lists
+pub mod Drawn

@@ -1,0 +1,130 @@
+-- A list of events and then a commit that is cut: from one working out of the list, what every cut of the commit needs and leaves.
+--     cut-allowed   a cut after any of the commit's sectors is allowed, whatever the struck sector holds
+--     cut-pages     the pages are the list's, and the draft before them exactly if the cut kept the last sector
+-- Assumes nothing.
+use Prim.Native.Nat.{ℕ, _≤_}
+use mathlib.Core.Bool.{Bool, true, false, _&&_}
+use mathlib.Core.List.{List, [], _∷_, _++_}
+use mathlib.Core.Option.{Option, none, some}
+use mathlib.Core.Path.{_≡_, refl, sym, ap, _∙_, subst, subst₂}
+use lib.Dec.{T, eqb, eqb→eq}
+use lib.ListN.{length}
+use Rattle.disc.specs.Disc.{Disc}
+use Rattle.recorder.specs.Calls.{Call, commit}
+use Rattle.recorder.specs.Refusals.{outcome}
+use Rattle.recorder.specs.Effects.{sectorsOf}
+use Rattle.history.specs.History.{Snapshot, History, savedIf, feed}
+use Rattle.history.specs.Events.{World, Event, cuts, ledgerHeld, Torn, Allowed, cutDisc, next, fed, AllAllowed, runs, remembers, afterCall}
+use Rattle.bench.proofs.Starred.{opened, same, full}
+use Rattle.cuts.proofs.Pages.{same-entry, same-page, same-pages, both, page-same, pages-same}
+use Rattle.cuts.proofs.Worked.{some-none, Played, played, all-allowed, world-left, past-left}
+
+-- ---- the test
+
+unfoldable pub held : Option (List ℕ) → Bool
+held none = false
+held (some l) = true
+
+unfoldable pub same-draft : Option Snapshot → Snapshot → Bool
+same-draft none p = false
+same-draft (some q) p = same-page q p
+
+-- A state is at hand, a commit would be done with n sectors, and the history has these pages and this draft.
+unfoldable pub commits : World → History → ℕ → List Snapshot → Snapshot → Bool
+commits w h n ps draft =
+    let l : List ℕ = ledgerHeld (w .ledger) [] in
+    held (w .ledger)
+    && (eqb (outcome (w .disc) l commit) 0
+    && (eqb (length (sectorsOf (w .disc) l commit)) n && (same-pages (h .pages) ps && same-draft (h .draft) draft)))
+
+unfoldable pub commit-works : Disc → Call → History → List Event → ℕ → List Snapshot → Snapshot → Bool
+unfolding opened same same-entry same-page same-pages cutDisc next fed feed played held same-draft commits
+commit-works d c h es n ps draft =
+    let p : Played = played true (afterCall d full c) h es in
+    eqb (outcome d full c) 0 && (p .allowed && commits (p .world) (p .past) n ps draft)
+
+-- ---- what it says
+
+record Commits (w : World) (h : History) (n : ℕ) (ps : List Snapshot) (p : Snapshot) : Type 0 where
+  has-state : w .ledger ≡ none → ⊥
+  is-done : outcome (w .disc) (ledgerHeld (w .ledger) []) commit ≡ 0
+  sectors : length (sectorsOf (w .disc) (ledgerHeld (w .ledger) []) commit) ≡ n
+  pages : h .pages ≡ ps
+  draft : h .draft ≡ some p
+
+held-some : (o : Option (List ℕ)) → T (held o) → o ≡ none → ⊥
+unfolding held
+held-some none t lost = t
+held-some (some l) t lost = some-none lost
+
+draft-same : (o : Option Snapshot) (p : Snapshot) → T (same-draft o p) → o ≡ some p
+unfolding same-draft
+draft-same none p t = absurd t
+draft-same (some q) p t = ap (λ (x : Snapshot). some x) (page-same q p t)
+
+commits-so : (w : World) (h : History) (n : ℕ) (ps : List Snapshot) (draft : Snapshot) → T (commits w h n ps draft) → Commits w h n ps draft
+unfolding commits
+commits-so w h n ps draft t =
+    let l : List ℕ = ledgerHeld (w .ledger) [] in
+    let done : Bool = eqb (outcome (w .disc) l commit) 0 in
+    let counted : Bool = eqb (length (sectorsOf (w .disc) l commit)) n in
+    let paged : Bool = same-pages (h .pages) ps in
+    let drafted : Bool = same-draft (h .draft) draft in
+    let a = both (held (w .ledger)) (done && (counted && (paged && drafted))) t in
+    let b = both done (counted && (paged && drafted)) (a .1) in
+    let c = both counted (paged && drafted) (b .1) in
+    let e = both paged drafted (c .1) in
+    record {
+      has-state = held-some (w .ledger) (a .0);
+      is-done = eqb→eq (outcome (w .disc) l commit) 0 (b .0);
+      sectors = eqb→eq (length (sectorsOf (w .disc) l commit)) n (c .0);
+      pages = pages-same (h .pages) ps (e .0);
+      draft = draft-same (h .draft) draft (e .1);
+    }
+
+-- ---- one more event behind a list
+
+allowed-then : (es : List Event) (w : World) (e : Event) → AllAllowed w es → Allowed (runs w es) e → AllAllowed w (es ++ (e ∷ []))
+unfolding AllAllowed runs
+allowed-then [] w e a b = (b, tt)
+allowed-then (x ∷ es) w e a b = (a .0, allowed-then es (next w x) e (a .1) b)
+
+remembered-then : (es : List Event) (w : World) (h : History) (e : Event) → remembers w h (es ++ (e ∷ [])) ≡ feed (remembers w h es) (fed (runs w es) e)
+unfolding remembers runs
+remembered-then [] w h e = refl
+remembered-then (x ∷ es) w h e = remembered-then es (next w x) (feed h (fed w x)) e
+
+-- ---- the cut
+
+cut-feeds : (w : World) (h : History) (n : ℕ) (ps : List Snapshot) (draft : Snapshot) → Commits w h n ps draft → (j : ℕ) (tear : Option (List ℕ))
+    → feed h (fed w (cuts commit [] j tear)) .pages ≡ savedIf (eqb j n) (some draft) ps
+unfolding feed fed
+cut-feeds w h n ps draft c j tear = rw (c .is-done, c .sectors, c .pages, c .draft)
+
+module _ (d : Disc) (c : Call) (h : History) (es : List Event) (n : ℕ) (ps : List Snapshot) (draft : Snapshot) (t : T (commit-works d c h es n ps draft)) where
+  abbrev w : World
+  w = afterCall d full c
+
+  parts : T (eqb (outcome d full c) 0) × (T (played true w h es .allowed) × T (commits (played true w h es .world) (played true w h es .past) n ps draft))
+  unfolding commit-works
+  parts =
+      let p : Played = played true w h es in
+      let s = both (eqb (outcome d full c) 0) (p .allowed && commits (p .world) (p .past) n ps draft) t in
+      (s .0, both (p .allowed) (commits (p .world) (p .past) n ps draft) (s .1))
+
+  ready : Commits (runs w es) (remembers w h es) n ps draft
+  ready =
+      subst₂ (λ (x : World) (k : History). Commits x k n ps draft) (world-left es true w h) (past-left es true w h)
+      (commits-so (played true w h es .world) (played true w h es .past) n ps draft (parts .1 .1))
+
+  pub cut-started : outcome d full c ≡ 0
+  cut-started = eqb→eq (outcome d full c) 0 (parts .0)
+
+  pub cut-allowed : (j : ℕ) → j ≤ n → (tear : Option (List ℕ)) → Torn tear → AllAllowed w (es ++ (cuts commit [] j tear ∷ []))
+  cut-allowed j most tear long =
+      allowed-then es w (cuts commit [] j tear) (all-allowed es true w h (parts .1 .0) .1)
+      ((λ lost done. absurd (ready .has-state lost)), subst (λ (k : ℕ). j ≤ k) (sym (ready .sectors)) most, long)
+
+  pub cut-pages : (j : ℕ) (tear : Option (List ℕ)) → remembers w h (es ++ (cuts commit [] j tear ∷ [])) .pages ≡ savedIf (eqb j n) (some draft) ps
+  cut-pages j tear =
+      ap (λ (x : History). x .pages) (remembered-then es w h (cuts commit [] j tear)) ∙ cut-feeds (runs w es) (remembers w h es) n ps draft ready j tear
