@@ -28,13 +28,9 @@ returns : tie.Need-returns
 unfolding seal
 returns c =
     let k = c .before .before .before .before in let p = k .before .before .before .before in let b = p .before .before in
-    let start = b .before .before .before in
-    let crc = b .body-crc in
-    let put = p .put16 in
-    let sum = k .checksum in
-    let s : List ℕ = start .args .s .now in
-    let after : put .last .0 ≡ putLe 2 s 8 (bodyCrc s) = put .ensures ∙ ap (putLe 2 s 8) (crc .ensures) in
-    c .before .before .put8 .ensures ∙ ap (putLe 1 (put .last .0) 4) (sum .ensures) ∙ ap checked after
+    let s : List ℕ = b .before .before .before .args .s .now in
+    let put : p .put16 .last .0 ≡ putLe 2 s 8 (bodyCrc s) = p .put16 .ensures ∙ ap (putLe 2 s 8) (b .body-crc .ensures) in
+    c .before .before .put8 .ensures ∙ ap (putLe 1 (p .put16 .last .0) 4) (k .checksum .ensures) ∙ ap checked put
 
 pub seal-spec : {M : Type 1} → statement M
 seal-spec =

@@ -3,8 +3,8 @@
 use Rattle.le.specs.Field.{holds}
 use Rattle.vat.specs.Table.{sectorLength, plainRows}
 use Prim.Native.Nat.{ℕ, _≤_}
-use mathlib.Core.Path.{_≡_, sym, _∙_, subst⁻¹}
-use mathlib.Core.Bool.{true, false, and-true}
+use mathlib.Core.Path.{_≡_, sym, ap, ap₂, _∙_, subst⁻¹}
+use mathlib.Core.Bool.{true, false, _&&_, and-true}
 use mathlib.Core.List.{List}
 use lib.Dec.{eqb, lit≤}
 use lib.ListN.{length}
@@ -58,10 +58,17 @@ read32-requires-2 c κs = inside (start-of (identified (c .before .before .befor
 returns-2 : tie.Need-returns-2
 unfolding holds plainRows
 returns-2 c =
-    let at = identified (c .before .before .before .before) in
-    let s : List ℕ = start-of at .args .s .now in
-    let right : eqb (readLe 2 s 0) 261 ≡ true = eq-eqb (readLe 2 s 0) 261 (sym (at .before .read16 .ensures) ∙ at .if1 .left) in
-    simp (right, and-true) (cc)
+    let l = c .before in let f = l .before in let y = f .before in let b = y .before in let z = b .before in let v = z .before in let e = identified b in
+    let a = start-of e .args in
+    let s : List ℕ = a .s .now in
+    let right : eqb (readLe 2 s 0) 261 ≡ true = eq-eqb (readLe 2 s 0) 261 (sym (e .before .read16 .ensures) ∙ e .if1 .left) in
+    let attributes = ap (λ (x : ℕ). eqb x 0) (c .read322 .ensures) ∙ sym (and-true (eqb (readLe 4 s 168) 0)) in
+    let links = ap₂ _&&_ (ap (λ (x : ℕ). eqb x 0) (l .read164 .ensures)) attributes in
+    let file-type = ap₂ _&&_ (ap (λ (x : ℕ). eqb x 0) (f .read82 .ensures)) links in
+    let strategy = ap₂ _&&_ (ap (λ (x : ℕ). eqb x 4) (y .read163 .ensures)) file-type in
+    let location = ap₂ _&&_ (ap (λ (x : ℕ). eqb x (a .b)) (b .read32 .ensures)) strategy in
+    let zero = ap₂ _&&_ (ap (λ (x : ℕ). eqb x 0) (z .read8 .ensures)) location in
+    rw right (ap₂ _&&_ (ap (λ (x : ℕ). eqb x 2) (v .read162 .ensures)) zero)
 
 pub plain-held-spec : {M : Type 1} → statement M
 plain-held-spec =
