@@ -1,4 +1,4 @@
--- The claim about power cuts, put to a day on which every call is done: a begin or a mount, calls that follow it, and further events.
+-- The claim about power cuts, put to a day on which every call is done: a begin or a mount, calls that follow it, and whatever happens then.
 --     claim-behind, claim-at   what is claimed of the disc then
 --     kept-at                  and what holds of the ledger
 -- Assumes nothing.
@@ -14,13 +14,15 @@ use Rattle.recorder.specs.Calls.{Call}
 use Rattle.recorder.specs.Refusals.{outcome}
 use Rattle.recorder.specs.Effects.{secondNumber}
 use Rattle.history.specs.History.{Snapshot, History, done, feed}
-use Rattle.history.specs.Events.{World, Event, calls, AllAllowed, next, told, fed, runs, remembers, pageOf, afterCall}
+use Rattle.history.specs.Events.{World, calls, AllAllowed, next, told, fed, runs, remembers, pageOf, afterCall}
 use Rattle.history.specs.Claim.{Claim}
-use Rattle.history.proofs.Theorem.{Kept, all-kept, begun-kept, mounted-kept, power-cuts}
+use Rattle.history.specs.Scribbles.{Happening, event, AllHappen, ends, recalls}
+use Rattle.history.proofs.Theorem.{Kept, all-kept, begun-kept, mounted-kept}
+use Rattle.history.proofs.Scribbles.{scribbled-power-cuts}
 use Rattle.client.specs.Day.{Day, called, day, AllDone, opening}
 use Rattle.client.proofs.Days.{first-done, called-done, done-first, rest-done}
 
--- ---- calls that are done, and then other events
+-- ---- calls that are done, and then whatever happens
 
 abbrev pub world : Day → World
 world x = record { disc = x .disc; ledger = some (x .ledger) }
@@ -28,9 +30,9 @@ world x = record { disc = x .disc; ledger = some (x .ledger) }
 pub not-lost : (l : List ℕ) → _≡_ {A = Option (List ℕ)} (some l) none → ⊥
 not-lost l e = let z : _≡_ {A = ℕ} 0 1 = cc in omega arith
 
-abbrev eventsThen : List Call → List Event → List Event
-eventsThen [] es = es
-eventsThen (c ∷ cs) es = calls c [] ∷ eventsThen cs es
+abbrev callsThen : List Call → List Happening → List Happening
+callsThen [] hs = hs
+callsThen (c ∷ cs) hs = event (calls c []) ∷ callsThen cs hs
 
 -- the history after the calls
 abbrev pub history : Day → History → List Call → History
@@ -51,30 +53,38 @@ module _ (x : Day) (c : Call) (e : outcome (x .disc) (x .ledger) c ≡ 0) where
   unfolding AllAllowed runs remembers
   kept-next h k = subst₂ Kept next-done (fed-done h) (all-kept (calls c [] ∷ []) (world x) h k (λ z. absurd (not-lost (x .ledger) z), tt))
 
-record Goes (x : Day) (h : History) (cs : List Call) (es : List Event) : Type 0 where
-  allowed : AllAllowed (world (day x cs)) es → AllAllowed (world x) (eventsThen cs es)
-  ran : runs (world x) (eventsThen cs es) ≡ runs (world (day x cs)) es
-  remembered : remembers (world x) h (eventsThen cs es) ≡ remembers (world (day x cs)) (history x h cs) es
+record Goes (x : Day) (h : History) (cs : List Call) (hs : List Happening) : Type 0 where
+  allowed : AllHappen (world (day x cs)) hs → AllHappen (world x) (callsThen cs hs)
+  ended : ends (world x) (callsThen cs hs) ≡ ends (world (day x cs)) hs
+  recalled : recalls (world x) h (callsThen cs hs) ≡ recalls (world (day x cs)) (history x h cs) hs
 
-goes : (cs : List Call) (x : Day) (h : History) (es : List Event) → x .answer < 4294967296 → AllDone x cs → Goes x h cs es
-unfolding AllAllowed runs remembers day
-goes [] x h es ok a = record { allowed = λ b. b; ran = refl; remembered = refl }
-goes (c ∷ cs) x h es ok a =
+goes : (cs : List Call) (x : Day) (h : History) (hs : List Happening) → x .answer < 4294967296 → AllDone x cs → Goes x h cs hs
+unfolding AllHappen ends recalls day
+goes [] x h hs ok a = record { allowed = λ b. b; ended = refl; recalled = refl }
+goes (c ∷ cs) x h hs ok a =
     let z : outcome (x .disc) (x .ledger) c ≡ 0 = done-first x c cs ok a in
     let x′ : Day = called (x .disc) (x .ledger) c in
     let h′ : History = done (told c) (secondNumber (x .disc) (x .ledger) c) h in
     let at : world (day x (c ∷ cs)) ≡ world (day x′ cs) = ap world (first-done x c cs ok) in
-    let rest : Goes x′ h′ cs es = goes cs x′ h′ es (called-done x c cs ok a) (rest-done x c cs ok a) in
+    let rest : Goes x′ h′ cs hs = goes cs x′ h′ hs (called-done x c cs ok a) (rest-done x c cs ok a) in
     let w : next (world x) (calls c []) ≡ world x′ = next-done x c z in
     record {
-      allowed = λ b. (λ n. absurd (not-lost (x .ledger) n), subst (λ (v : World). AllAllowed v (eventsThen cs es)) (sym w) (rest .allowed (subst (λ (v : World). AllAllowed v es) at b)));
-      ran = ap (λ (v : World). runs v (eventsThen cs es)) w ∙ rest .ran ∙ ap (λ (v : World). runs v es) (sym at);
-      remembered =
-          ap (λ (v : World). remembers v (feed h (fed (world x) (calls c []))) (eventsThen cs es)) w
-          ∙ ap (λ (g : History). remembers (world x′) g (eventsThen cs es)) (fed-done x c z h)
-          ∙ rest .remembered
-          ∙ ap (λ (v : World). remembers v (history x′ h′ cs) es) (sym at);
+      allowed = λ b. (λ n. absurd (not-lost (x .ledger) n), subst (λ (v : World). AllHappen v (callsThen cs hs)) (sym w) (rest .allowed (subst (λ (v : World). AllHappen v hs) at b)));
+      ended = ap (λ (v : World). ends v (callsThen cs hs)) w ∙ rest .ended ∙ ap (λ (v : World). ends v hs) (sym at);
+      recalled =
+          ap (λ (v : World). recalls v (feed h (fed (world x) (calls c []))) (callsThen cs hs)) w
+          ∙ ap (λ (g : History). recalls (world x′) g (callsThen cs hs)) (fed-done x c z h)
+          ∙ rest .recalled
+          ∙ ap (λ (v : World). recalls v (history x′ h′ cs) hs) (sym at);
     }
+
+kept-on : (cs : List Call) (x : Day) (h : History) → x .answer < 4294967296 → AllDone x cs → Kept (world x) h → Kept (world (day x cs)) (history x h cs)
+unfolding day
+kept-on [] x h ok a k = k
+kept-on (c ∷ cs) x h ok a k =
+    subst (λ (y : Day). Kept (world y) (history x h (c ∷ cs))) (sym (first-done x c cs ok))
+    (kept-on cs (called (x .disc) (x .ledger) c) (done (told c) (secondNumber (x .disc) (x .ledger) c) h) (called-done x c cs ok a) (rest-done x c cs ok a)
+    (kept-next x c (done-first x c cs ok a) h k))
 
 -- ---- the start
 
@@ -91,10 +101,10 @@ abbrev pub startHistory : Bool → Disc → History
 startHistory fresh d = record { pages = startPages fresh d; draft = some (startPage fresh d) }
 
 start-claim : (fresh : Bool) (d : Disc) (l : List ℕ) → outcome d l (opening fresh) ≡ 0
-    → (es : List Event) → AllAllowed (afterCall d l (opening fresh)) es
-    → Claim (runs (afterCall d l (opening fresh)) es .disc) (remembers (afterCall d l (opening fresh)) (startHistory fresh d) es)
-start-claim true d l e = power-cuts .after-begin d l e
-start-claim false d l e = power-cuts .after-mount d l e
+    → (hs : List Happening) → AllHappen (afterCall d l (opening fresh)) hs
+    → Claim (ends (afterCall d l (opening fresh)) hs .disc) (recalls (afterCall d l (opening fresh)) (startHistory fresh d) hs)
+start-claim true d l e = scribbled-power-cuts .after-begin d l e
+start-claim false d l e = scribbled-power-cuts .after-mount d l e
 
 start-kept : (fresh : Bool) (d : Disc) (l : List ℕ) → outcome d l (opening fresh) ≡ 0 → Kept (afterCall d l (opening fresh)) (startHistory fresh d)
 start-kept true d l e = begun-kept d l e
@@ -110,26 +120,26 @@ remembered x fresh cs = history (opened x fresh) (startHistory fresh (x .disc)) 
 
 module _ (x : Day) (fresh : Bool) (ok : x .answer < 4294967296) where
   module _ (cs : List Call) (a : AllDone x (opening fresh ∷ cs)) where
-    went : (es : List Event) → Goes (opened x fresh) (startHistory fresh (x .disc)) cs es
-    went es = goes cs (opened x fresh) (startHistory fresh (x .disc)) es (called-done x (opening fresh) cs ok a) (rest-done x (opening fresh) cs ok a)
+    went : (hs : List Happening) → Goes (opened x fresh) (startHistory fresh (x .disc)) cs hs
+    went hs = goes cs (opened x fresh) (startHistory fresh (x .disc)) hs (called-done x (opening fresh) cs ok a) (rest-done x (opening fresh) cs ok a)
 
     there : world (day x (opening fresh ∷ cs)) ≡ world (day (opened x fresh) cs)
     there = ap world (first-done x (opening fresh) cs ok)
 
-    pub claim-behind : (es : List Event) → AllAllowed (world (day x (opening fresh ∷ cs))) es
-        → Claim (runs (world (day x (opening fresh ∷ cs))) es .disc) (remembers (world (day x (opening fresh ∷ cs))) (remembered x fresh cs) es)
-    claim-behind es allowed =
+    pub claim-behind : (hs : List Happening) → AllHappen (world (day x (opening fresh ∷ cs))) hs
+        → Claim (ends (world (day x (opening fresh ∷ cs))) hs .disc) (recalls (world (day x (opening fresh ∷ cs))) (remembered x fresh cs) hs)
+    claim-behind hs allowed =
         subst₂ Claim
-        (ap (λ (w : World). w .disc) (went es .ran ∙ ap (λ (w : World). runs w es) (sym there)))
-        (went es .remembered ∙ ap (λ (w : World). remembers w (remembered x fresh cs) es) (sym there))
-        (start-claim fresh (x .disc) (x .ledger) (done-first x (opening fresh) cs ok a) (eventsThen cs es) (went es .allowed (subst (λ (w : World). AllAllowed w es) there allowed)))
+        (ap (λ (w : World). w .disc) (went hs .ended ∙ ap (λ (w : World). ends w hs) (sym there)))
+        (went hs .recalled ∙ ap (λ (w : World). recalls w (remembered x fresh cs) hs) (sym there))
+        (start-claim fresh (x .disc) (x .ledger) (done-first x (opening fresh) cs ok a) (callsThen cs hs) (went hs .allowed (subst (λ (w : World). AllHappen w hs) there allowed)))
 
     pub claim-at : Claim (day x (opening fresh ∷ cs) .disc) (remembered x fresh cs)
-    unfolding AllAllowed runs remembers
+    unfolding AllHappen ends recalls
     claim-at = claim-behind [] tt
 
     pub kept-at : Kept (world (day x (opening fresh ∷ cs))) (remembered x fresh cs)
-    unfolding AllAllowed runs remembers
     kept-at =
-        subst₂ Kept (went [] .ran ∙ sym there) (went [] .remembered)
-        (all-kept (eventsThen cs []) (world (opened x fresh)) (startHistory fresh (x .disc)) (start-kept fresh (x .disc) (x .ledger) (done-first x (opening fresh) cs ok a)) (went [] .allowed tt))
+        subst (λ (w : World). Kept w (remembered x fresh cs)) (sym there)
+        (kept-on cs (opened x fresh) (startHistory fresh (x .disc)) (called-done x (opening fresh) cs ok a) (rest-done x (opening fresh) cs ok a)
+        (start-kept fresh (x .disc) (x .ledger) (done-first x (opening fresh) cs ok a)))

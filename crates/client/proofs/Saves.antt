@@ -3,6 +3,7 @@
 --     long-ago-reads                         a save with any calls behind it
 --     released-reads, nothing-mounts         a number released; a disc without a save
 --     cut-reads                              a save, a write, and any call that was cut
+--     storing-reads, marking-reads           the same of a program that was stopped
 -- Assumes nothing.
 use Prim.Native.Nat.{ℕ, zero, suc, _+_, _*_, _≤_, _<_}
 use native.Mathlib.Omega.{arith}
@@ -15,7 +16,7 @@ use lib.Dec.{eqb, ltb}
 use lib.ListN.{length, getD, take, set, replicate, length-set, length-append}
 use lib.Seq.{getD-set-same, getD-append-seam}
 use Rattle.vat.specs.Table.{sectorLength, unused}
-use Rattle.disc.specs.Disc.{Disc, Sector, link, plain, recorded, puts}
+use Rattle.disc.specs.Disc.{Disc, lent, Sector, link, plain, recorded, puts}
 use Rattle.disc.proofs.Recording.{Sound, leading-le}
 use Rattle.volume.specs.declared.Volume.{Volume}
 use Rattle.volume.specs.Volume.{ledgerLength, readOnly, unpack, mapOf, begun, grown, wrote, committed}
@@ -23,14 +24,18 @@ use Rattle.volume.proofs.State.{Proper, length-pack, unpack-pack, proper-begun,
 use Rattle.recorder.specs.Calls.{Call, begin, mount, write, release, closePacket, commit, read, lookBack}
 use Rattle.recorder.specs.Refusals.{outcome, links, target}
 use Rattle.recorder.specs.Effects.{Effect, effect, sectorsIf, after, secondNumber, sectorsOf}
+use Rattle.recorder.specs.Alike.{Alike}
 use Rattle.recorder.proofs.Done.{begin-done, WriteDone, write-done, CommitDone, commit-done, ledger-accepted, links-few}
+use Rattle.recorder.proofs.AlikeDiscs.{blank-bytes}
+use Rattle.recorder.proofs.Ahead.{marked-call}
 use Rattle.history.specs.History.{Entry, unusedEntry, shows, Snapshot, History, placed, saved, savedIf, done, feed}
-use Rattle.history.specs.Events.{cuts, Torn, tornAt, cutDisc, AllAllowed, next, told, kept, cutShort, fed, runs, remembers}
+use Rattle.history.specs.Events.{cuts, Torn, tornAt, cutDisc, next, told, kept, cutShort, fed}
 use Rattle.history.specs.Claim.{blockNumber, DoneShowing, Claim}
+use Rattle.history.specs.Scribbles.{event, scribble, AllHappen, ends, recalls}
 use Rattle.history.proofs.Log.{HeldIf}
 use Rattle.history.proofs.Growth.{F}
 use Rattle.history.proofs.Theorem.{Kept, Remounted, remounts}
-use Rattle.client.specs.Day.{Day, ended, called, day, AllDone, opening, ShowsSave, backIf, oneBack, commits, struck, OneSector, sectorsBehind, CutBehind, tableKept, readsOf}
+use Rattle.client.specs.Day.{Day, ended, called, day, AllDone, opening, ShowsSave, backIf, oneBack, commits, struck, OneSector, sectorsBehind, CutBehind, tableKept, readsOf, StoppedStoring, StoppedMarking}
 use Rattle.client.proofs.Days.{joined, first-done, part-done, called-done, done-first, rest-done, answer-of, last-called, mount-small}
 use Rattle.client.proofs.Claimed.{world, not-lost, history, kept-next, startPage, startPages, startHistory, opened, remembered, claim-behind, claim-at, kept-at}
 use Rattle.client.proofs.Shown.{Reads, mount-disc, mount-reads, mount-unused, look-reads}
@@ -381,20 +386,54 @@ module _ (x : Day) (fresh : Bool) (ok : x .answer < 4294967296) (v : ℕ) (old n
   abbrev keeps : Bool
   keeps = tableKept c j (length (sectorsBehind x (opening fresh ∷ before-cut) c))
 
-  cut-claim : {d : Disc} → CutBehind x (opening fresh ∷ before-cut) c j tear d
-      → Claim d (record { pages = savedIf keeps (remembered x fresh before-cut .draft) (remembered x fresh before-cut .pages); draft = none })
-  unfolding AllAllowed runs remembers next fed cutDisc
-  cut-claim g =
+  -- bytes that mean nothing may have changed since
+  cut-claim : {d e : Disc} → CutBehind x (opening fresh ∷ before-cut) c j tear d → Alike d e
+      → Claim e (record { pages = savedIf keeps (remembered x fresh before-cut .draft) (remembered x fresh before-cut .pages); draft = none })
+  unfolding AllHappen ends recalls next fed cutDisc
+  cut-claim {d} {e} g alike =
       let ss : List Sector = sectorsBehind x (opening fresh ∷ before-cut) c in
-      subst₂ Claim
-      (sym (g .is-left ∙ struck-torn (ltb j (length ss)) tear (recorded (cut-day .disc) + j) (puts (cut-day .disc) (recorded (cut-day .disc)) (take j ss))))
+      let same : d ≡ cutDisc (cut-day .disc) ss j tear = g .is-left ∙ struck-torn (ltb j (length ss)) tear (recorded (cut-day .disc) + j) (puts (cut-day .disc) (recorded (cut-day .disc)) (take j ss)) in
+      subst (Claim e)
       (cut-history (cut-day .disc) (cut-day .ledger) (remembered x fresh before-cut) c j)
-      (claim-behind x fresh ok before-cut (g .all-done) (cuts c [] j tear ∷ []) ((λ z. absurd (not-lost (cut-day .ledger) z), g .within, torn-sector tear (g .one-sector)), tt))
+      (claim-behind x fresh ok before-cut (g .all-done) (event (cuts c [] j tear) ∷ scribble e ∷ [])
+      ((λ z. absurd (not-lost (cut-day .ledger) z), g .within, torn-sector tear (g .one-sector)), (subst (λ (x : Disc). Alike x e) same alike, tt)))
 
-  pub cut-reads : (y : Day) (out : List ℕ) → y .answer < 4294967296 → CutBehind x (opening fresh ∷ before-cut) c j tear (y .disc) → length (y .ledger) ≡ ledgerLength → length out ≡ sectorLength
+  pub cut-reads : (d : Disc) (y : Day) (out : List ℕ) → y .answer < 4294967296 → CutBehind x (opening fresh ∷ before-cut) c j tear d → Alike d (y .disc) → length (y .ledger) ≡ ledgerLength → length out ≡ sectorLength
       → Reads y mount v out 0 (readsOf keeps old new)
-  cut-reads y out y-ok g long whole = go keeps (cut-claim g)
+  cut-reads d y out y-ok g alike long whole = go keeps (cut-claim g alike)
     where
       go : (t : Bool) → Claim (y .disc) (record { pages = savedIf t (remembered x fresh before-cut .draft) (remembered x fresh before-cut .pages); draft = none }) → Reads y mount v out 0 (readsOf t old new)
       go true claim = mount-reads y y-ok v out whole (claim .mounts (y .ledger) long) (written-there (firstPage x fresh v old) v _ new (below-first x fresh ok v old (commit ∷ write v new ∷ []) (g .all-done)))
       go false claim = mount-reads y y-ok v out whole (claim .mounts (y .ledger) long) (first-there x fresh ok v old (commit ∷ write v new ∷ []) (g .all-done))
+
+-- ---- a program that is stopped
+
+unstruck : (t : Bool) (b : ℕ) (d : Disc) → struck t none b d ≡ d
+unstruck true b d = refl
+unstruck false b d = refl
+
+module _ (x : Day) (fresh : Bool) (ok : x .answer < 4294967296) (v : ℕ) (old new : List ℕ) (y : Day) (out : List ℕ) (y-ok : y .answer < 4294967296) (long : length (y .ledger) ≡ ledgerLength) (whole : length out ≡ sectorLength) where
+  abbrev written-day : Day
+  written-day = day x (opening fresh ∷ write v old ∷ commit ∷ write v new ∷ [])
+
+  -- no sector marked: as if a call that saves nothing had been cut before its first sector
+  pub storing-reads : StoppedStoring x (opening fresh ∷ write v old ∷ commit ∷ write v new ∷ []) (y .disc) → Reads y mount v out 0 old
+  unfolding puts
+  storing-reads s =
+      let d : Disc = written-day .disc in
+      let ss : List Sector = sectorsBehind x (opening fresh ∷ write v old ∷ commit ∷ write v new ∷ []) mount in
+      let good : Sound d = kept-at x fresh ok (write v old ∷ commit ∷ write v new ∷ []) (s .all-done) .good .sound-disc in
+      let alike : Alike d (y .disc) = subst (λ (ks : List ℕ). Alike d (lent (y .disc .image) ks)) (s .same-kinds) (blank-bytes d good (y .disc .image) (s .same-length) (s .same-recorded)) in
+      cut-reads x fresh ok v old new mount 0 none d y out y-ok
+      (record { all-done = s .all-done; within = omega arith; one-sector = tt; is-left = sym (unstruck (ltb 0 (length ss)) (recorded d + 0) d) }) alike long whole
+
+  -- the first j sectors marked: as if the call had been cut after them
+  pub marking-reads : (c : Call) (j : ℕ) → StoppedMarking x (opening fresh ∷ write v old ∷ commit ∷ write v new ∷ []) c j (y .disc)
+      → Reads y mount v out 0 (readsOf (tableKept c j (length (sectorsBehind x (opening fresh ∷ write v old ∷ commit ∷ write v new ∷ []) c))) old new)
+  marking-reads c j s =
+      let d : Disc = written-day .disc in
+      let ss : List Sector = sectorsBehind x (opening fresh ∷ write v old ∷ commit ∷ write v new ∷ []) c in
+      let cut : Disc = puts d (recorded d) (take j ss) in
+      let alike : Alike cut (y .disc) = subst₂ (λ (i ks : List ℕ). Alike cut (lent i ks)) (s .all-stored) (s .some-marked) (marked-call d (written-day .ledger) c j) in
+      cut-reads x fresh ok v old new c j none cut y out y-ok
+      (record { all-done = s .all-done; within = s .within; one-sector = tt; is-left = sym (unstruck (ltb j (length ss)) (recorded d + j) cut) }) alike long whole

@@ -117,3 +117,23 @@ tableKept (lookBack k) j n = false
 abbrev pub readsOf : Bool → List ℕ → List ℕ → List ℕ
 readsOf true old new = new
 readsOf false old new = old
+
+-- A program that keeps the disc in a file stores the bytes of a call's sectors first, and then marks the sectors as recorded, one after another. All of
+-- these calls were done, and in the call c behind them the program was stopped. While it stored: no sector is marked, and only bytes behind what is
+-- recorded have changed.
+pub record StoppedStoring (x : Day) (cs : List Call) (left : Disc) : Type 0 where
+  pub all-done : AllDone x cs
+  pub same-kinds : day x cs .disc .kinds ≡ left .kinds
+  pub same-length : length (day x cs .disc .image) ≡ length (left .image)
+  pub same-recorded :
+      let r : ℕ = sectorLength * recorded (day x cs .disc) in
+      take r (day x cs .disc .image) ≡ take r (left .image)
+
+-- Or while it marked: all is stored, and the first j sectors are marked.
+pub record StoppedMarking (x : Day) (cs : List Call) (c : Call) (j : ℕ) (left : Disc) : Type 0 where
+  pub all-done : AllDone x cs
+  pub within : j ≤ length (sectorsBehind x cs c)
+  pub all-stored : after (day x cs .disc) (day x cs .ledger) c .disc .image ≡ left .image
+  pub some-marked :
+      let d : Disc = day x cs .disc in
+      puts d (recorded d) (take j (sectorsBehind x cs c)) .kinds ≡ left .kinds

@@ -8,11 +8,11 @@ ghost use mathlib.Core.Option.{Option};
 ghost use Prim.Native.Nat.{ℕ, _*_, _<_};
 ghost use lib.ListN.{length};
 ghost use Rattle.vat.specs.Table.{sectorLength};
-ghost use Rattle.disc.specs.Disc.{lent};
+ghost use Rattle.disc.specs.Disc.{Disc, lent};
 ghost use Rattle.volume.specs.Volume.{ledgerLength, unpack};
 ghost use Rattle.recorder.specs.Calls.{Call, begin, mount, write, release, closePacket, commit, read, lookBack};
-ghost use Rattle.recorder.specs.Effects.{after};
-ghost use Rattle.client.specs.Day.{Day, ended, morning, day, AllDone, opening, readAt, ShowsSave, oneBack, commits, sectorsBehind, CutBehind, tableKept, readsOf};
+ghost use Rattle.recorder.specs.Alike.{Alike};
+ghost use Rattle.client.specs.Day.{Day, ended, morning, day, AllDone, opening, readAt, ShowsSave, oneBack, commits, sectorsBehind, CutBehind, tableKept, readsOf, StoppedStoring, StoppedMarking};
 
 // An answer from here on is a refusal.
 const REFUSED: u64 = 4294967296;
@@ -250,9 +250,18 @@ pub fn long_ago(
 }
 
 // The morning after a power cut. After a save of x and a write of y, whatever call was cut, and after however many of its sectors: v reads y if that call
-// was a commit and kept its table, and else x. Any 1,848 bytes will do as ledger.
+// was a commit and kept its table, and else x. Any 1,848 bytes will do as ledger, and any bytes in the sectors that are not data.
 pub fn after_cut(image: &[u8], kinds: &[u8], ledger: &mut [u8], v: u32, out: &mut [u8]) -> u64
-    ensures { λ r. ⌜ ((start : Day) (fresh : Bool) (x y : List ℕ) (c : Call) (j : ℕ) (tear : Option (List ℕ)) → start .answer < 4294967296 → CutBehind start (opening fresh ∷ write v x ∷ commit ∷ write v y ∷ []) c j tear (lent (now (image .entry)) (now (kinds .entry))) → length (now (ledger .entry)) ≡ ledgerLength → length (now (out .entry)) ≡ sectorLength → (r ≡ 0) × (now (out .exit) ≡ readsOf (tableKept c j (length (sectorsBehind start (opening fresh ∷ write v x ∷ commit ∷ write v y ∷ []) c))) x y)) ⌝ }
+    ensures { λ r. ⌜ ((start : Day) (fresh : Bool) (x y : List ℕ) (c : Call) (j : ℕ) (tear : Option (List ℕ)) (left : Disc) → start .answer < 4294967296 → CutBehind start (opening fresh ∷ write v x ∷ commit ∷ write v y ∷ []) c j tear left → Alike left (lent (now (image .entry)) (now (kinds .entry))) → length (now (ledger .entry)) ≡ ledgerLength → length (now (out .entry)) ≡ sectorLength → (r ≡ 0) × (now (out .exit) ≡ readsOf (tableKept c j (length (sectorsBehind start (opening fresh ∷ write v x ∷ commit ∷ write v y ∷ []) c))) x y)) ⌝ }
+{
+    show(image, kinds, ledger, v, out)
+}
+
+// The morning after a crash of a program that keeps the disc in a file, and stores the bytes of what a call records before it marks the sectors as
+// recorded. It is a cut: stopped while it stored, v reads x; stopped after j marks, what it reads after a cut of j sectors.
+pub fn after_crash(image: &[u8], kinds: &[u8], ledger: &mut [u8], v: u32, out: &mut [u8]) -> u64
+    ensures { λ r. ⌜ ((start : Day) (fresh : Bool) (x y : List ℕ) → start .answer < 4294967296 → StoppedStoring start (opening fresh ∷ write v x ∷ commit ∷ write v y ∷ []) (lent (now (image .entry)) (now (kinds .entry))) → length (now (ledger .entry)) ≡ ledgerLength → length (now (out .entry)) ≡ sectorLength → (r ≡ 0) × (now (out .exit) ≡ x)) ⌝ }
+    ensures { λ r. ⌜ ((start : Day) (fresh : Bool) (x y : List ℕ) (c : Call) (j : ℕ) → start .answer < 4294967296 → StoppedMarking start (opening fresh ∷ write v x ∷ commit ∷ write v y ∷ []) c j (lent (now (image .entry)) (now (kinds .entry))) → length (now (ledger .entry)) ≡ ledgerLength → length (now (out .entry)) ≡ sectorLength → (r ≡ 0) × (now (out .exit) ≡ readsOf (tableKept c j (length (sectorsBehind start (opening fresh ∷ write v x ∷ commit ∷ write v y ∷ []) c))) x y)) ⌝ }
 {
     show(image, kinds, ledger, v, out)
 }

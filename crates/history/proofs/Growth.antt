@@ -10,7 +10,7 @@ use mathlib.Core.List.{List, [], _∷_, _++_}
 use mathlib.Core.Logic.{inl, inr}
 use mathlib.Core.Option.{Option, none, some}
 use lib.Dec.{eqb, ltb}
-use lib.ListN.{length, take, replicate, length-append, length-replicate}
+use lib.ListN.{length, take, replicate, length-replicate}
 use lib.Seq.{take-append-le, length-take-le, take-length}
 use borrow.Author.Tests.{eq-eqb, ltb-true, eqb-true, lt-ltb, le-ltb}
 use Rattle.le.specs.Bytes.{every}
@@ -20,6 +20,7 @@ use Rattle.vat.proofs.Theorems.{Named, named, recognised, of-kind-1}
 use Rattle.disc.specs.Disc.{Disc, recorded, kindAt, sectorAt, readable, content, Sector, link, plain, torn, put, puts}
 use Rattle.disc.specs.Tables.{tableAt, mapAt, previousAt}
 use Rattle.disc.proofs.Recording.{Sound, Whole, Recorded, put-recorded, plain-here, puts-append}
+use Rattle.recorder.proofs.Sectors.{AllWhole, links-whole, behindLinks, length-behind}
 use Rattle.history.specs.Events.{Torn, tornAt, cutDisc}
 use Rattle.history.proofs.Log.{Format, AllBelow, NamesBelow, View, Extends, Plain, Saved, extends-on, plain-same, plain-on}
 
@@ -87,10 +88,6 @@ module _ (d : Disc) (ok : Sound d) (room : recorded d < length (d .kinds)) where
 
 -- ---- a list of sectors
 
-abbrev pub AllWhole : List Sector → Type 0
-AllWhole [] = Unit
-AllWhole (s ∷ ss) = Whole s × AllWhole ss
-
 abbrev pub NoTables : ℕ → List Sector → Type 0
 NoTables b [] = Unit
 NoTables b (s ∷ ss) = NoTable b s × NoTables (suc b) ss
@@ -123,28 +120,15 @@ puts-plain (s ∷ ss) d ok room w n =
 
 -- ---- links, then one data sector
 
-links-whole : (n : ℕ) → AllWhole (replicate n link)
-links-whole zero = tt
-links-whole (suc n) = (tt, links-whole n)
-
 links-no-tables : (n b : ℕ) → NoTables b (replicate n link)
 links-no-tables zero b = tt
 links-no-tables (suc n) b = (tt, links-no-tables n (suc b))
-
-whole-append : (xs ys : List Sector) → AllWhole xs → AllWhole ys → AllWhole (xs ++ ys)
-whole-append [] ys a b = b
-whole-append (x ∷ xs) ys a b = (a .0, whole-append xs ys (a .1) b)
 
 no-tables-append : (xs ys : List Sector) (b : ℕ) → NoTables b xs → NoTables (b + length xs) ys → NoTables b (xs ++ ys)
 no-tables-append [] ys b p q = subst (λ (k : ℕ). NoTables k ys) (add-zero b) q
 no-tables-append (x ∷ xs) ys b p q =
     let e : b + suc (length xs) ≡ suc b + length xs = omega arith in
     (p .0, no-tables-append xs ys (suc b) (p .1) (subst (λ (k : ℕ). NoTables k ys) e q))
-
-pub whole-take : (j : ℕ) (ss : List Sector) → AllWhole ss → AllWhole (take j ss)
-whole-take zero ss a = tt
-whole-take (suc j) [] a = tt
-whole-take (suc j) (s ∷ ss) a = (a .0, whole-take j ss (a .1))
 
 pub no-tables-take : (j : ℕ) (ss : List Sector) (b : ℕ) → NoTables b ss → NoTables b (take j ss)
 no-tables-take zero ss b a = tt
@@ -155,16 +139,6 @@ take-links : (j n : ℕ) → j ≤ n → take j (replicate n link) ≡ replicate
 take-links zero n h = refl
 take-links (suc j) zero h = absurd (not-suc-le-zero h)
 take-links (suc j) (suc n) h = ap {B = List Sector} (λ l. link ∷ l) (take-links j n (le-of-suc-le-suc h))
-
--- what write and commit record
-abbrev pub behindLinks : ℕ → List ℕ → List Sector
-behindLinks n s = replicate n link ++ (plain s ∷ [])
-
-pub length-behind : (n : ℕ) (s : List ℕ) → length (behindLinks n s) ≡ n + 1
-length-behind n s = length-append (replicate n link) (plain s ∷ []) ∙ ap (λ (k : ℕ). k + 1) (length-replicate n link)
-
-pub behind-whole : (n : ℕ) (s : List ℕ) → length s ≡ sectorLength → AllWhole (behindLinks n s)
-behind-whole n s h = whole-append (replicate n link) (plain s ∷ []) (links-whole n) (h, tt)
 
 pub behind-no-tables : (n : ℕ) (s : List ℕ) (b : ℕ) → isTable 1 s (b + n) ≡ false → NoTables b (behindLinks n s)
 behind-no-tables n s b h =

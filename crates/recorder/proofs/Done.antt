@@ -17,13 +17,13 @@ use Rattle.vat.proofs.Theorems.{recognised}
 use Rattle.disc.specs.Disc.{Disc, sized, inOrder, recorded, blanks, kindAt, sectorAt}
 use Rattle.disc.specs.declared.Walk.{Walk}
 use Rattle.disc.specs.declared.Walk.the-variants.{Reached, Broken, Ended}
-use Rattle.disc.specs.Tables.{tableAt, newest}
+use Rattle.disc.specs.Tables.{tableAt, previousAt, newest}
 use Rattle.disc.proofs.Recording.{sized-tells, Sound, sound, sound-sized, sound-order}
-use Rattle.disc.proofs.Found.{sector-end, table-within}
+use Rattle.disc.proofs.Found.{newest-table, walk-table, sector-end, table-within}
 use Rattle.volume.specs.declared.Volume.{Volume}
 use Rattle.volume.specs.Volume.{ledgerLength, idle, packetOpen, readOnly, mapOf, unpack, isUnused, fits}
 use Rattle.recorder.specs.Calls.{Call, begin, mount, write, release, closePacket, commit, read, lookBack}
-use Rattle.recorder.specs.Refusals.{Test, test, orElse, first, linkCount, linksIf, links, target, reserve, basic, ledgerLent, blockLent, unfit, forbidden, notInUse, isSome, walked, isBroken, isEnded, tests, outcome}
+use Rattle.recorder.specs.Refusals.{Test, test, orElse, first, linkCount, linksIf, links, target, reserve, basic, ledgerLent, blockLent, unfit, forbidden, notInUse, isSome, walkFrom, walked, isBroken, isEnded, tests, outcome}
 
 -- ---- lists of tests
 
@@ -236,19 +236,24 @@ pub record ReadDone (d : Disc) (l : List ℕ) (n : ℕ) (block : List ℕ) : Typ
   pub block-long : length block ≡ sectorLength
   pub fit : Fits d (unpack l)
   pub used : notInUse (unpack l) n ≡ false
+  pub data-kind : kindAt d (getD (unpack l .entries) n unused) ≡ 1
 
 pub read-done : (d : Disc) (l : List ℕ) (n : ℕ) (block : List ℕ) → outcome d l (read n block) ≡ 0 → ReadDone d l n block
 unfolding outcome tests
 read-done d l n block e =
     let four : Bool = not (fits d (unpack l)) in
     let ten : Bool = notInUse (unpack l) n in
-    let rest : List Test = test 10 ten ∷ test 11 (not (eqb (kindAt d (getD (unpack l .entries) n unused)) 1)) ∷ [] in
+    let kind : ℕ = kindAt d (getD (unpack l .entries) n unused) in
+    let eleven : Bool = not (eqb kind 1) in
+    let rest : List Test = test 10 ten ∷ test 11 eleven ∷ [] in
     let b : Basic d (blockLent l block) (unfit d l ∷ rest) = basic-passed d (blockLent l block) (unfit d l ∷ rest) e in
+    let e₁ : first rest ≡ 0 = later 3 four rest (b .rest-passed) in
     record {
       sound-disc = b .sound-disc;
       block-long = eqb-true (length block) sectorLength (and-right (ledgerLent l) (eqb (length block) sectorLength) (b .lent));
       fit = fitting d (unpack l) (not-false (fits d (unpack l)) (passed 3 four rest (b .rest-passed)));
-      used = passed 9 ten (test 11 (not (eqb (kindAt d (getD (unpack l .entries) n unused)) 1)) ∷ []) (later 3 four rest (b .rest-passed));
+      used = passed 9 ten (test 11 eleven ∷ []) e₁;
+      data-kind = eqb-true kind 1 (not-false (eqb kind 1) (passed 10 eleven [] (later 9 ten (test 11 eleven ∷ []) e₁)));
     }
 
 -- a table that is shown lies within the image, and its entries fit
@@ -407,3 +412,12 @@ look-back-done d l k e =
     let b : Basic d (ledgerLent l) (test 7 seven ∷ test 8 eight ∷ test 9 nine ∷ []) = basic-passed d (ledgerLent l) (test 7 seven ∷ test 8 eight ∷ test 9 nine ∷ []) e in
     let e₁ : first (test 8 eight ∷ test 9 nine ∷ []) ≡ 0 = later 6 seven (test 8 eight ∷ test 9 nine ∷ []) (b .rest-passed) in
     (b .sound-disc, way-reached (walked d k) (passed 7 eight (test 9 nine ∷ []) e₁) (passed 8 nine [] (later 7 eight (test 9 nine ∷ []) e₁)))
+
+-- what look back reaches is a table
+pub walked-table : (d : Disc) (k t : ℕ) → walked d k ≡ Reached t → tableAt d t ≡ true
+unfolding walked
+walked-table d k t e = go (newest d) refl e
+  where
+    go : (o : Option ℕ) → newest d ≡ o → walkFrom d k o ≡ Reached t → tableAt d t ≡ true
+    go none n e = absurd (let z : _≡_ {A = ℕ} 0 1 = cc in omega arith)
+    go (some b) n e = walk-table (tableAt d) (previousAt d) k b t e (newest-table (tableAt d) (recorded d) b n)

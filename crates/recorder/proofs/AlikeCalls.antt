@@ -1,0 +1,168 @@
+-- Document 01: "Bytes of a sector whose kind is not 1 mean nothing." A call on either of two alike discs answers the same, records the same sectors,
+-- leaves the same ledger and block, and leaves discs that are alike.
+-- Assumes nothing.
+use Prim.Native.Nat.{ℕ, zero, suc, _+_}
+use native.Mathlib.Omega.{arith}
+use mathlib.Core.Path.{_≡_, refl, ap, _∙_, subst, subst₂}
+use mathlib.Core.Bool.{Bool, true, not}
+use mathlib.Core.List.{List, [], _∷_, _++_}
+use mathlib.Core.Option.{Option, some}
+use lib.Dec.{eqb, ltb, leb}
+use lib.ListN.{length, getD, length-take}
+use Rattle.vat.specs.Table.{sectorLength, limit, unused, isTable}
+use Rattle.vat.specs.Sector.{sector}
+use Rattle.vat.proofs.Theorems.{length-sector}
+use Rattle.disc.specs.Disc.{Disc, recorded, puts}
+use Rattle.disc.specs.declared.Walk.{Walk}
+use Rattle.disc.specs.declared.Walk.the-variants.{Reached}
+use Rattle.disc.specs.Tables.{tableAt, mapAt, newest, blockFound}
+use Rattle.disc.proofs.Recording.{leading-le}
+use Rattle.disc.proofs.Found.{newest-table}
+use Rattle.volume.specs.declared.Volume.{Volume}
+use Rattle.volume.specs.Volume.{idle, readOnly, unpack, pack, mapOf, begun, filled}
+use Rattle.recorder.specs.Calls.{Call, begin, mount, write, release, closePacket, commit, read, lookBack, blockOf}
+use Rattle.recorder.specs.Refusals.{test, first, links, target, reserve, basic, ledgerLent, blockLent, unfit, forbidden, notInUse, isSome, walked, isBroken, isEnded, tests, outcome}
+use Rattle.recorder.specs.Effects.{Effect, settles, blockReached, cleanNumber, effect, settled, after, ifDone, sectorsIf, secondNumber, sectorsOf}
+use Rattle.recorder.specs.Alike.{Alike, SameCall, MeanNothing}
+use Rattle.recorder.proofs.Done.{CommitDone, mount-done, write-done, commit-done, look-back-done, walked-table, read-done, links-few}
+use Rattle.recorder.proofs.Sectors.{AllWhole, behind-whole}
+use Rattle.recorder.proofs.AlikeDiscs.{alike-puts, same-recorded, same-sized, same-order, same-blanks, same-kind, same-newest, same-map, same-walked, same-fits}
+
+-- the table sector of a commit that is done fills its block
+saved-long : (d : Disc) (l : List ℕ) → outcome d l commit ≡ 0 → length (sector (mapOf (unpack l)) (unpack l .last) (target (unpack l))) ≡ sectorLength
+saved-long d l e =
+    let v : Volume = unpack l in
+    let f : CommitDone d l = commit-done d l e in
+    length-sector (mapOf v) (v .last) (target v) (omega (arith, length-take (v .size) (v .entries), f .fit .few))
+    (omega (arith, f .fit .same-recorded, leading-le (d .kinds), f .sound-disc .few, links-few v))
+
+pub effect-whole : (d : Disc) (l : List ℕ) (c : Call) → outcome d l c ≡ 0 → AllWhole (effect d l c .sectors)
+unfolding effect
+effect-whole d l begin e = tt
+effect-whole d l mount e = tt
+effect-whole d l (write n block) e = behind-whole (links (unpack l)) block (write-done d l n block e .block-long)
+effect-whole d l (release n) e = tt
+effect-whole d l closePacket e = tt
+effect-whole d l commit e = behind-whole (links (unpack l)) (sector (mapOf (unpack l)) (unpack l .last) (target (unpack l))) (saved-long d l e)
+effect-whole d l (read n block) e = tt
+effect-whole d l (lookBack k) e = tt
+
+pub sectors-whole : (d : Disc) (l : List ℕ) (c : Call) → AllWhole (sectorsOf d l c)
+unfolding sectorsOf
+sectors-whole d l c = go (outcome d l c) refl
+  where
+    go : (o : ℕ) → outcome d l c ≡ o → AllWhole (sectorsIf o (effect d l c .sectors))
+    go zero z = effect-whole d l c z
+    go (suc n) z = tt
+
+module _ {d e : Disc} (a : Alike d e) where
+  same-basic : (lengths : Bool) → basic d lengths ≡ basic e lengths
+  same-basic lengths = λ i. test 1 (not (same-sized a i)) ∷ test 2 (not lengths) ∷ test 3 (not (same-order a i)) ∷ []
+
+  same-unfit : (l : List ℕ) → unfit d l ≡ unfit e l
+  same-unfit l = λ i. test 4 (not (same-fits a (unpack l) i))
+
+  same-tests : (l : List ℕ) (c : Call) → tests d l c ≡ tests e l c
+  unfolding tests
+  same-tests l begin = λ i. same-basic (ledgerLent l) i ++ (test 6 (isSome (same-newest a i)) ∷ [])
+  same-tests l mount = λ i. same-basic (ledgerLent l) i ++ (test 7 (not (isSome (same-newest a i))) ∷ [])
+  same-tests l (write n block) = λ i.
+      same-basic (blockLent l block) i
+      ++ (same-unfit l i
+      ∷ forbidden l
+      ∷ test 12 (ltb (unpack l .size) n)
+      ∷ test 13 (leb limit n)
+      ∷ test 14 (ltb (same-blanks a i) (links (unpack l) + 1 + reserve))
+      ∷ test 15 (isTable 1 block (target (unpack l)))
+      ∷ [])
+  same-tests l (release n) = λ i. same-basic (ledgerLent l) i ++ (same-unfit l i ∷ forbidden l ∷ test 10 (notInUse (unpack l) n) ∷ [])
+  same-tests l closePacket = λ i. same-basic (ledgerLent l) i ++ (same-unfit l i ∷ forbidden l ∷ [])
+  same-tests l commit = λ i.
+      same-basic (ledgerLent l) i ++ (same-unfit l i ∷ forbidden l ∷ test 14 (ltb (same-blanks a i) (links (unpack l) + 1)) ∷ [])
+  same-tests l (read n block) = λ i.
+      same-basic (blockLent l block) i
+      ++ (same-unfit l i
+      ∷ test 10 (notInUse (unpack l) n)
+      ∷ test 11 (not (eqb (same-kind a (getD (unpack l .entries) n unused) i) 1))
+      ∷ [])
+  same-tests l (lookBack k) = λ i.
+      same-basic (ledgerLent l) i
+      ++ (test 7 (not (isSome (same-newest a i)))
+      ∷ test 8 (isBroken (same-walked a k i))
+      ∷ test 9 (isEnded (same-walked a k i))
+      ∷ [])
+
+  pub same-outcome : (l : List ℕ) (c : Call) → outcome d l c ≡ outcome e l c
+  unfolding outcome
+  same-outcome l c = ap first (same-tests l c)
+
+  -- the map that a mount or a look back shows
+  found-map : (l : List ℕ) → outcome d l mount ≡ 0 → mapAt d (blockFound (newest d)) ≡ mapAt e (blockFound (newest e))
+  found-map l h =
+      let b : ℕ = mount-done d l h .1 .0 in
+      let n : newest d ≡ some b = mount-done d l h .1 .1 in
+      let table : tableAt d (blockFound (newest d)) ≡ true = ap (λ (o : Option ℕ). tableAt d (blockFound o)) n ∙ newest-table (tableAt d) (recorded d) b n in
+      same-map a (blockFound (newest d)) table ∙ ap (λ (o : Option ℕ). mapAt e (blockFound o)) (same-newest a)
+
+  reached-map : (l : List ℕ) (k : ℕ) → outcome d l (lookBack k) ≡ 0 → mapAt d (blockReached (walked d k)) ≡ mapAt e (blockReached (walked e k))
+  reached-map l k h =
+      let b : ℕ = look-back-done d l k h .1 .0 in
+      let n : walked d k ≡ Reached b = look-back-done d l k h .1 .1 in
+      let table : tableAt d (blockReached (walked d k)) ≡ true = ap (λ (w : Walk). tableAt d (blockReached w)) n ∙ walked-table d k b n in
+      same-map a (blockReached (walked d k)) table ∙ ap (λ (w : Walk). mapAt e (blockReached w)) (same-walked a k)
+
+  same-effect : (l : List ℕ) (c : Call) → outcome d l c ≡ 0 → effect d l c ≡ effect e l c
+  unfolding effect
+  same-effect l begin h = λ i. settles 0 (pack (begun (same-recorded a i)))
+  same-effect l mount h = λ i.
+      settles (cleanNumber (eqb (blockFound (same-newest a i) + 1) (same-recorded a i)))
+      (pack (filled (found-map l h i) (blockFound (same-newest a i)) (same-recorded a i) idle))
+  same-effect l (write n block) h = refl
+  same-effect l (release n) h = refl
+  same-effect l closePacket h = refl
+  same-effect l commit h = refl
+  same-effect l (read n block) h = λ i.
+      record {
+        second = 0;
+        sectors = [];
+        ledger = l;
+        block = a .same-data (getD (unpack l .entries) n unused) (read-done d l n block h .data-kind) i;
+      }
+  same-effect l (lookBack k) h = λ i.
+      settles (blockReached (same-walked a k i))
+      (pack (filled (reached-map l k h i) (blockReached (same-walked a k i)) (same-recorded a i) readOnly))
+
+  -- what settles a call: its outcome, and if it is done its effect
+  settled-alike : (l : List ℕ) (c : Call) (o : ℕ) → outcome d l c ≡ o
+      → Alike (settled d l (blockOf c) o (effect d l c) .disc) (settled e l (blockOf c) o (effect e l c) .disc)
+  settled-alike l c zero z =
+      subst₂ (λ (r : ℕ) (f : Effect). Alike (puts d (recorded d) (effect d l c .sectors)) (puts e r (f .sectors))) (same-recorded a) (same-effect l c z)
+      (alike-puts (effect d l c .sectors) (effect-whole d l c z) a (recorded d))
+  settled-alike l c (suc n) z = a
+
+  module _ (l : List ℕ) (c : Call) where
+    same-if : {A : Type 0} (f g : ℕ → Effect → A) → ((x : Effect) → f 0 x ≡ g 0 x) → ((n : ℕ) (x y : Effect) → f (suc n) x ≡ g (suc n) y)
+        → f (outcome d l c) (effect d l c) ≡ g (outcome e l c) (effect e l c)
+    same-if {A} f g done refused = go (outcome d l c) refl ∙ ap (λ (o : ℕ). g o (effect e l c)) (same-outcome l c)
+      where
+        go : (o : ℕ) → outcome d l c ≡ o → f o (effect d l c) ≡ g o (effect e l c)
+        go zero z = ap (f 0) (same-effect l c z) ∙ done (effect e l c)
+        go (suc n) z = refused n (effect d l c) (effect e l c)
+
+    same-call : SameCall d e l c
+    unfolding after secondNumber sectorsOf
+    same-call =
+        record {
+          same-outcome = same-outcome l c;
+          same-second = same-if (λ o x. ifDone o (x .second)) (λ o x. ifDone o (x .second)) (λ x. refl) (λ n x y. refl);
+          same-sectors = same-if (λ o x. sectorsIf o (x .sectors)) (λ o x. sectorsIf o (x .sectors)) (λ x. refl) (λ n x y. refl);
+          same-answer = same-if (λ o x. settled d l (blockOf c) o x .answer) (λ o x. settled e l (blockOf c) o x .answer) (λ x. refl) (λ n x y. refl);
+          same-ledger = same-if (λ o x. settled d l (blockOf c) o x .ledger) (λ o x. settled e l (blockOf c) o x .ledger) (λ x. refl) (λ n x y. refl);
+          same-block = same-if (λ o x. settled d l (blockOf c) o x .block) (λ o x. settled e l (blockOf c) o x .block) (λ x. refl) (λ n x y. refl);
+          alike-discs =
+              subst (λ (o : ℕ). Alike (settled d l (blockOf c) (outcome d l c) (effect d l c) .disc) (settled e l (blockOf c) o (effect e l c) .disc)) (same-outcome l c)
+              (settled-alike l c (outcome d l c) refl);
+        }
+
+pub alike-calls : MeanNothing
+alike-calls d e a l c = same-call a l c
