@@ -6,7 +6,7 @@ set -u
 cd "$(dirname "$0")" || exit 2
 . host/setup.sh || exit 2
 
-proved_with="rattle-kit-5b logic 064da1ca440f63e7"
+proved_with="rattle-kit-5b-plain logic 097e4c862dff5811"
 
 passed=0
 failed=0
