@@ -44,6 +44,9 @@ SOURCES = {
         "lib.rt: station_release: its ensures is not"),
     "look_back_adds_a_clause": (CODE, "(lookBack k) ⌝ }", "(lookBack k) ⌝ }\n    where",
         "lib.rt: station_look_back: something else than"),
+    "a_client_asks_for_31_sectors": ("crates/client/src/lib.rt", "pub fn begin_and_mount(image: &[u8], kinds: &[u8], ledger: &mut [u8]) -> u64\n",
+        "pub fn begin_and_mount(image: &[u8], kinds: &[u8], ledger: &mut [u8]) -> u64\n    requires { ⌜ length (now kinds) ≡ 31 ⌝ }\n",
+        "crates/client/src/lib.rt: has a requires"),
     # a signature
     "release_number_of_64_bits": (CODE, RELEASE, RELEASE.replace("v: u32", "v: u64"),
         "lib.rt: station_release: its parameter v is of type u64, not u32"),
