@@ -16,9 +16,9 @@ use Rattle.recorder.specs.Effects.{secondNumber}
 use Rattle.history.specs.History.{Snapshot, History, done, feed}
 use Rattle.history.specs.Events.{World, calls, AllAllowed, next, told, fed, runs, remembers, pageOf, afterCall}
 use Rattle.history.specs.Claim.{Claim}
-use Rattle.history.specs.Scribbles.{Happening, event, AllHappen, ends, recalls}
+use Rattle.alike.specs.Scribbles.{Happening, event, AllHappen, ends, recalls}
 use Rattle.history.proofs.Theorem.{Kept, all-kept, begun-kept, mounted-kept}
-use Rattle.history.proofs.Scribbles.{scribbled-power-cuts}
+use Rattle.alike.proofs.Scribbles.{scribbled-power-cuts}
 use Rattle.client.specs.Day.{Day, called, day, AllDone, opening}
 use Rattle.client.proofs.Days.{first-done, called-done, done-first, rest-done}
 

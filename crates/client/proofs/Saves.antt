@@ -24,14 +24,14 @@ use Rattle.volume.proofs.State.{Proper, length-pack, unpack-pack, proper-begun,
 use Rattle.recorder.specs.Calls.{Call, begin, mount, write, release, closePacket, commit, read, lookBack}
 use Rattle.recorder.specs.Refusals.{outcome, links, target}
 use Rattle.recorder.specs.Effects.{Effect, effect, sectorsIf, after, secondNumber, sectorsOf}
-use Rattle.recorder.specs.Alike.{Alike}
+use Rattle.alike.specs.Alike.{Alike}
 use Rattle.recorder.proofs.Done.{begin-done, WriteDone, write-done, CommitDone, commit-done, ledger-accepted, links-few}
-use Rattle.recorder.proofs.AlikeDiscs.{blank-bytes}
-use Rattle.recorder.proofs.Ahead.{marked-call}
+use Rattle.alike.proofs.Discs.{blank-bytes}
+use Rattle.alike.proofs.Ahead.{marked-call}
 use Rattle.history.specs.History.{Entry, unusedEntry, shows, Snapshot, History, placed, saved, savedIf, done, feed}
 use Rattle.history.specs.Events.{cuts, Torn, tornAt, cutDisc, next, told, kept, cutShort, fed}
 use Rattle.history.specs.Claim.{blockNumber, DoneShowing, Claim}
-use Rattle.history.specs.Scribbles.{event, scribble, AllHappen, ends, recalls}
+use Rattle.alike.specs.Scribbles.{event, scribble, AllHappen, ends, recalls}
 use Rattle.history.proofs.Log.{HeldIf}
 use Rattle.history.proofs.Growth.{F}
 use Rattle.history.proofs.Theorem.{Kept, Remounted, remounts}

@@ -11,7 +11,7 @@ ghost use Rattle.vat.specs.Table.{sectorLength};
 ghost use Rattle.disc.specs.Disc.{Disc, lent};
 ghost use Rattle.volume.specs.Volume.{ledgerLength, unpack};
 ghost use Rattle.recorder.specs.Calls.{Call, begin, mount, write, release, closePacket, commit, read, lookBack};
-ghost use Rattle.recorder.specs.Alike.{Alike};
+ghost use Rattle.alike.specs.Alike.{Alike};
 ghost use Rattle.client.specs.Day.{Day, ended, morning, day, AllDone, opening, readAt, ShowsSave, oneBack, commits, sectorsBehind, CutBehind, tableKept, readsOf, StoppedStoring, StoppedMarking};
 
 // An answer from here on is a refusal.

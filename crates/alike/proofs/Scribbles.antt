@@ -13,15 +13,15 @@ use Rattle.disc.specs.Disc.{Disc, Sector, recorded, puts}
 use Rattle.recorder.specs.Calls.{Call, begin, mount, write, release, closePacket, commit, read, lookBack}
 use Rattle.recorder.specs.Refusals.{outcome}
 use Rattle.recorder.specs.Effects.{effect, After, settled, after, sectorsOf}
-use Rattle.recorder.specs.Alike.{Alike, SameCall}
+use Rattle.alike.specs.Alike.{Alike, SameCall}
 use Rattle.recorder.proofs.Sectors.{AllWhole, whole-take}
-use Rattle.recorder.proofs.AlikeDiscs.{alike-refl, alike-sym, alike-trans, same-recorded, alike-torn, alike-puts}
-use Rattle.recorder.proofs.AlikeCalls.{sectors-whole, alike-calls}
+use Rattle.alike.proofs.Discs.{alike-refl, alike-sym, alike-trans, same-recorded, alike-torn, alike-puts}
+use Rattle.alike.proofs.Calls.{sectors-whole, alike-calls}
 use Rattle.history.specs.History.{Entry, unusedEntry, shows, Snapshot, History, Fed, answered, cutCommit, feed}
 use Rattle.history.specs.Events.{World, Event, calls, cuts, ledgerHeld, Allowed, tornAt, cutDisc, ledgerAfter, next, told, fed, AllAllowed, runs, remembers, afterCall, begunHistory, mountedHistory}
 use Rattle.history.specs.Claim.{reading, Shows, DoneShowing, Mounts, Claim}
-use Rattle.history.specs.Scribbles.{Happening, event, scribble, onDisc, AllHappen, ends, recalls, ScribbledPowerCuts}
+use Rattle.alike.specs.Scribbles.{Happening, event, scribble, onDisc, AllHappen, ends, recalls, ScribbledPowerCuts}
 use Rattle.history.proofs.Theorem.{power-cuts}
 
 -- ---- one event, on alike discs and one ledger
 

@@ -20,13 +20,13 @@ use Rattle.disc.proofs.Recording.{leading-le}
 use Rattle.disc.proofs.Found.{newest-table}
 use Rattle.volume.specs.declared.Volume.{Volume}
 use Rattle.volume.specs.Volume.{idle, readOnly, unpack, pack, mapOf, begun, filled}
 use Rattle.recorder.specs.Calls.{Call, begin, mount, write, release, closePacket, commit, read, lookBack, blockOf}
 use Rattle.recorder.specs.Refusals.{test, first, links, target, reserve, basic, ledgerLent, blockLent, unfit, forbidden, notInUse, isSome, walked, isBroken, isEnded, tests, outcome}
 use Rattle.recorder.specs.Effects.{Effect, settles, blockReached, cleanNumber, effect, settled, after, ifDone, sectorsIf, secondNumber, sectorsOf}
-use Rattle.recorder.specs.Alike.{Alike, SameCall, MeanNothing}
+use Rattle.alike.specs.Alike.{Alike, SameCall, MeanNothing}
 use Rattle.recorder.proofs.Done.{CommitDone, mount-done, write-done, commit-done, look-back-done, walked-table, read-done, links-few}
 use Rattle.recorder.proofs.Sectors.{AllWhole, behind-whole}
-use Rattle.recorder.proofs.AlikeDiscs.{alike-puts, same-recorded, same-sized, same-order, same-blanks, same-kind, same-newest, same-map, same-walked, same-fits}
+use Rattle.alike.proofs.Discs.{alike-puts, same-recorded, same-sized, same-order, same-blanks, same-kind, same-newest, same-map, same-walked, same-fits}
 
 -- the table sector of a commit that is done fills its block
 saved-long : (d : Disc) (l : List ℕ) → outcome d l commit ≡ 0 → length (sector (mapOf (unpack l)) (unpack l .last) (target (unpack l))) ≡ sectorLength

@@ -19,9 +19,9 @@ use Rattle.disc.proofs.Recording.{Sound, Whole, sound, sound-sized, sound-order
 use Rattle.disc.proofs.Found.{newest-table}
 use Rattle.volume.specs.declared.Volume.{Volume}
 use Rattle.volume.specs.Volume.{fits}
 use Rattle.recorder.specs.Refusals.{walkFrom, walked}
-use Rattle.recorder.specs.Alike.{Alike}
+use Rattle.alike.specs.Alike.{Alike}
 use Rattle.recorder.proofs.Sectors.{AllWhole}
 
 pub alike-refl : (d : Disc) → Alike d d
 alike-refl d = record { same-kinds = refl; same-length = refl; same-data = λ b h. refl }

@@ -6,10 +6,10 @@ use mathlib.Core.Path.{_≡_}
 use Rattle.disc.specs.Disc.{Disc}
 use Rattle.recorder.specs.Calls.{begin, mount}
 use Rattle.recorder.specs.Refusals.{outcome}
-use Rattle.recorder.specs.Alike.{Alike}
+use Rattle.alike.specs.Alike.{Alike}
 use Rattle.history.specs.History.{History, feed}
 use Rattle.history.specs.Events.{World, Event, Allowed, next, fed, afterCall, begunHistory, mountedHistory}
 use Rattle.history.specs.Claim.{Claim}
 
 -- An event; or the disc is replaced by an alike one, of which the history is not told.
 pub data Happening : Type 0 where

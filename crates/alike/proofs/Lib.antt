@@ -1,0 +1,4 @@
+pub mod Discs
+pub mod Calls
+pub mod Ahead
+pub mod Scribbles
