@@ -6,4 +6,4 @@ cd "$(dirname "$0")"
 . host/setup.sh
 need_rust host/benchmark/Cargo.toml
 fresh_archive
-exec cargo run --quiet --profile benchmark --offline --manifest-path host/Cargo.toml -p station-benchmark -- "$@"
+exec cargo run --quiet --profile benchmark "${cargo_options[@]}" --manifest-path host/Cargo.toml -p station-benchmark -- "$@"
