@@ -110,3 +110,37 @@ impl Disk for Files {
         flush_folder(&self.place.ledger)
     }
 }
+
+#[cfg(test)]
+mod tests {
+    use std::env;
+    use std::fs::{self, File};
+    use std::process;
+
+    use super::{Disk, Files};
+    use crate::files::{ledger_beside, Place};
+
+    /// A disc file that changed since it was loaded is not written.
+    #[test]
+    fn a_file_that_is_another_one() {
+        let disc = env::temp_dir().join(format!("station-another-{}", process::id()));
+        let new = disc.with_extension("new");
+        let loaded = |length| {
+            let ledger = ledger_beside(&disc);
+            let disc = disc.clone();
+            let file = File::open(&disc).expect("the file");
+            Files::of(Place { disc, ledger }, file, length)
+        };
+        let told = |mut files: Files| files.open_disc().err().map(|told| told.to_string());
+        fs::write(&disc, "disc").expect("a file");
+        assert!(told(loaded(4)).is_none());
+        let longer = told(loaded(3)).expect("refused");
+        assert!(longer.contains("its length changed meanwhile"), "{longer}");
+        let old = loaded(4);
+        fs::write(&new, "disc").expect("a file");
+        fs::rename(&new, &disc).expect("another file");
+        let replaced = told(old).expect("refused");
+        assert!(replaced.contains("another file took its place"));
+        fs::remove_file(&disc).expect("the file");
+    }
+}

@@ -48,3 +48,51 @@ extern "C" fn page_is_gone(_: libc::c_int) {
         libc::_exit(status);
     }
 }
+
+#[cfg(test)]
+mod tests {
+    use std::env;
+    use std::fs::{self, File, OpenOptions};
+    use std::process::{self, Command};
+
+    use super::copy_on_write;
+
+    const NAME: &str = "STATION_SHORTER_FILE";
+    const PAGES: usize = 5 * 4096;
+
+    /// The signal ends the program, so this test runs itself once more.
+    #[test]
+    fn a_file_that_becomes_shorter() {
+        if let Some(path) = env::var_os(NAME) {
+            let file = File::open(&path).expect("the file");
+            let map = copy_on_write(&file, PAGES, path.as_ref()).expect("mapped");
+            let shorter = OpenOptions::new().write(true).open(&path);
+            shorter.and_then(|file| file.set_len(9)).expect("shorter");
+            println!("read {}", map[PAGES - 1]);
+            return;
+        }
+        let path = env::temp_dir().join(format!("station-shorter-{}", process::id()));
+        fs::write(&path, [7; PAGES]).expect("a file");
+        let mut itself = Command::new(env::current_exe().expect("this program"));
+        itself.args(["--exact", "mapping::tests::a_file_that_becomes_shorter"]);
+        let output = itself.env(NAME, &path).output().expect("an end");
+        fs::remove_file(&path).expect("the file");
+        let told = String::from_utf8_lossy(&output.stderr);
+        assert_eq!(output.status.code(), Some(66), "{output:?}");
+        assert!(told.contains("it became shorter meanwhile"), "{told}");
+    }
+
+    /// What is changed in memory is not changed in the file.
+    #[test]
+    fn a_page_that_is_changed() {
+        let path = env::temp_dir().join(format!("station-mapped-{}", process::id()));
+        fs::write(&path, [7; PAGES]).expect("a file");
+        let file = File::open(&path).expect("the file");
+        let mut map = copy_on_write(&file, PAGES, &path).expect("mapped");
+        map[4096..].fill(8);
+        map.flush().expect("nothing to write");
+        let kept = fs::read(&path).expect("the file");
+        fs::remove_file(&path).expect("the file");
+        assert!(kept == [7; PAGES] && map[4095..4097] == [7, 8]);
+    }
+}
