@@ -3,7 +3,7 @@
 //! 0 to 3 a sector; newline; the image", and nothing else.
 
 use std::fs::{self, File};
-use std::io::{self, Write};
+use std::io::{self, ErrorKind, Write};
 use std::os::unix::fs::FileExt;
 use std::path::Path;
 
@@ -102,11 +102,9 @@ fn whole_length(sectors: usize) -> usize {
 fn read_form(file: &File, name: &Path) -> io::Result<Result<Disc, String>> {
     let length = file.metadata()?.len();
     let mut head = [0; HEAD];
-    let count = match length >= HEAD as u64 {
-        true => file
-            .read_exact_at(&mut head, 0)
-            .map(|()| sector_count(&head))?,
-        false => None,
+    let count = match file.read_exact_at(&mut head, 0) {
+        Err(error) if error.kind() == ErrorKind::UnexpectedEof => None,
+        read => read.map(|()| sector_count(&head))?,
     };
     let Some(sectors) = count else {
         let reason = "its first line is not a sector count from 1 to 360000 in 8 columns";
@@ -132,13 +130,9 @@ fn read_form(file: &File, name: &Path) -> io::Result<Result<Disc, String>> {
 /// leaving at the first wrong one: that is many times as fast.
 fn kinds_of(line: &[u8]) -> Option<Vec<u8>> {
     let (newline, digits) = line.split_last()?;
-    let kinds: Vec<u8> = digits
-        .iter()
-        .map(|digit| digit.wrapping_sub(b'0'))
-        .collect();
-    let highest = kinds
-        .iter()
-        .fold(0, |highest, kind| kind.max(&highest).to_owned());
+    let kind = |digit: &u8| digit.wrapping_sub(b'0');
+    let kinds: Vec<u8> = digits.iter().map(kind).collect();
+    let highest = kinds.iter().copied().fold(0, u8::max);
     (*newline == b'\n' && highest <= 3).then_some(kinds)
 }
 

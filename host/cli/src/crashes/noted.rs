@@ -135,9 +135,10 @@ impl Model {
             }
             Step::RemoveLedger => self.names.push(None),
             Step::FlushFolder => {
-                if let Some(last) = self.names.drain(..).last() {
+                if let Some(last) = self.names.pop() {
                     self.certain.ledger = last;
                 }
+                self.names.clear();
             }
         }
     }
