@@ -12,9 +12,9 @@ use crate::failure::{Done, Failure};
 use crate::files::{folder_of, ledger_beside, lock_folder, put, replace};
 use crate::form::store_blank;
 use crate::map::Map;
-use crate::recording::{is_stream, record_table, Writing};
 use crate::session::{Lent, Session};
 use crate::surroundings::{say, Surroundings};
+use crate::writing::{is_stream, record_table, Writing};
 
 pub fn new(given: &Arguments, around: &mut Surroundings) -> Done {
     let path = given.path(0);

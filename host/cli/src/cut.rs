@@ -6,10 +6,10 @@ use station::SECTOR;
 
 use crate::arguments::{parse, Arguments, Asked};
 use crate::failure::{Done, Failure};
-use crate::recording::{record_table, Writing};
 use crate::session::{Lent, Session};
 use crate::surroundings::{say, Surroundings};
 use crate::syntax::{Syntax, COMMIT, WRITE};
+use crate::writing::{record_table, Writing};
 
 /// An unreadable sector, and how many of its bytes were recorded.
 const TORN: (u8, usize) = (3, SECTOR / 2);

@@ -6,7 +6,7 @@
 //!
 //! - `commands`: the command line;
 //! - `calls`, `cut`, `demo`, `listing`: what the commands do;
-//! - `recording`: a write's block, for a call and for a cut;
+//! - `writing`: the two calls that record, whole or to be cut;
 //! - `session`: disc and ledger of one command;
 //! - `keeping`: the order in which they are kept;
 //! - `surroundings`: the streams and the disk that a command is given;
@@ -40,10 +40,10 @@ mod map;
 #[allow(unsafe_code)]
 mod mapping;
 mod nearly;
-mod recording;
 mod session;
 mod surroundings;
 mod syntax;
+mod writing;
 
 use std::env;
 use std::ffi::OsString;

@@ -196,3 +196,18 @@ fn only_what_is_recorded_is_written() {
     bytes[place..place + SECTOR].copy_from_slice(&padded("run C"));
     assert!(folder.bytes("run.disc") == bytes);
 }
+
+/// A full CD. What is blank takes no space in its file: it was never written.
+#[test]
+fn the_largest_disc() {
+    let folder = Folder::begun(360_000);
+    for line in ["commit run.disc", "mount run.disc", "list run.disc"] {
+        folder.write(0, "run A");
+        folder.done(line);
+    }
+    assert!(folder.done_with("read run.disc 0", b"") == padded("run A"));
+    folder.done("look-back run.disc 0");
+    let about = fs::metadata(folder.path("run.disc")).expect("the disc");
+    assert_eq!(about.len(), 9 + 360_000 + 1 + 360_000 * SECTOR as u64);
+    assert!(about.blocks() * 512 < 1_000_000, "{}", about.blocks());
+}

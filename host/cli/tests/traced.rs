@@ -103,7 +103,8 @@ impl Known {
 }
 
 /// What a mount, a listing, two reads and a look back say, but for whether
-/// something stands behind the newest save.
+/// something stands behind the newest save. Where there is none, reads would show
+/// what is not saved.
 fn shown(folder: &Folder) -> Vec<String> {
     let lines = "mount run.disc;list run.disc;read run.disc 0;read run.disc 1;\
                  look-back run.disc 1;read run.disc 0";
@@ -113,6 +114,9 @@ fn shown(folder: &Folder) -> Vec<String> {
         let text = String::from_utf8_lossy(&told.out);
         let text = text.replace("clean", "").replace("dirty", "");
         shown.push(format!("{} {text}{}", told.status, told.err));
+        if told.status == 7 && line.starts_with("list") {
+            break;
+        }
     }
     shown
 }
@@ -126,7 +130,8 @@ fn restore(folder: &Folder, files: &BTreeMap<PathBuf, Vec<u8>>) {
     }
 }
 
-/// "A cut keeps the first j of them": whether all are kept.
+/// "A cut keeps the first j of them": the disc is such a one, its ledger fits or
+/// is refused, and what is shown is the last finished save.
 fn judge(folder: &Folder, line: &str, before: &Known, after: &Known) {
     let left = Known::of(folder);
     let kept = left.recorded();
@@ -199,6 +204,18 @@ fn killed_at_each_call_that_writes() {
         let stopped = stop_everywhere(&folder, line, KILLED);
         assert!(stopped >= least, "{line}: killed {stopped} times");
     }
+}
+
+#[test]
+fn killed_before_the_first_save() {
+    let folder = Folder::begun(31);
+    for (line, least) in [("begin run.disc", 5), ("write run.disc 0", 9)] {
+        let stopped = stop_everywhere(&folder, line, KILLED);
+        assert!(stopped >= least, "{line}: killed {stopped} times");
+    }
+    folder.done_with("write run.disc 0", &[7; SECTOR]);
+    let stopped = stop_everywhere(&folder, "commit run.disc", KILLED);
+    assert!(stopped >= 9, "killed {stopped} times");
 }
 
 #[test]

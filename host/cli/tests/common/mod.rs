@@ -85,9 +85,7 @@ impl Folder {
     /// The program's listing of each disc here that the proved listing program
     /// takes is the same as that program's.
     fn hold_listings_together(&self) {
-        let files = self.files().into_iter();
-        let discs = files.filter(|(path, _)| path.extension().is_some_and(|end| end == "disc"));
-        for (_, bytes) in discs.filter(|(_, bytes)| bytes.len() <= MOST_LISTED) {
+        for bytes in self.small_discs() {
             let new = LISTED.lock().map(|mut seen| seen.insert(bytes.clone()));
             if new.unwrap_or(true) {
                 // A copy: a command at the same time may change the disc.
@@ -100,6 +98,19 @@ impl Folder {
                 assert_eq!(told.out, proved.out);
             }
         }
+    }
+
+    /// What files with a disc's name hold, if they are not longer than a disc of
+    /// 31 sectors.
+    fn small_discs(&self) -> Vec<Vec<u8>> {
+        let entries = fs::read_dir(&self.0).expect("the folder");
+        let paths = entries.filter_map(|entry| Some(entry.ok()?.path()));
+        let discs = paths.filter(|path| path.extension().is_some_and(|end| end == "disc"));
+        let small = |path: &PathBuf| {
+            fs::metadata(path).is_ok_and(|about| about.len() <= MOST_LISTED as u64)
+        };
+        let read = discs.filter(small).map(fs::read);
+        read.filter_map(Result::ok).collect()
     }
 
     pub fn run(&self, line: &str) -> Told {

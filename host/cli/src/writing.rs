@@ -1,5 +1,5 @@
-//! What the two calls that record need and make: a write's block, and the block
-//! recorded.
+//! The two calls that record, write and commit, up to what is to be kept of them:
+//! all, or what a cut leaves.
 
 use std::ffi::OsStr;
 use std::fs::{self, File};
