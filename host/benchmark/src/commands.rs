@@ -12,8 +12,12 @@ use station::{LEDGER, LIMIT, SECTOR};
 
 use crate::report::thousands;
 
-/// How often each command is run.
+/// How often each command is run: as often as half of the smallest disc allows.
 const ROUNDS: usize = 25;
+
+/// Copies come last: they leave the disk much to write.
+const COPIES: usize = 5;
+const COPY: &str = "`cp` of the disc file";
 
 /// The lines of one round, in order, with what a row calls them. A disc is mounted
 /// after a look back and after a cut, and saved before a mount that is to find it
@@ -38,8 +42,8 @@ const LINES: [(&str, &str); 15] = [
 
 pub const HOW: &str = "\
 Each command is the whole program, from its start to its end, on a disc that is half full, with 458 numbers in use; the file is in
-memory from the round before. Milliseconds, minimum and median of 25 rounds; beside it a copy of the disc file by `cp`, which flushes
-nothing. `list` shows between 2 and 52 saves.
+memory from the round before. Milliseconds, minimum and median of 25 rounds, each on the three discs in turn; then 5 copies of each disc file by `cp`,
+which flushes nothing. `list` shows between 4 and 52 saves.
 ";
 
 /// A row of the table, with the times of each size.
@@ -48,50 +52,78 @@ struct Row {
     times: Vec<Vec<Duration>>,
 }
 
-/// Runs the commands on discs of these sizes, and prints the table.
+/// Runs the commands on discs of these sizes, in turn, so that other work on the
+/// machine strikes all alike; and prints the table.
 pub fn run(program: &Path, sizes: &[usize]) -> io::Result<()> {
+    let discs = sizes.iter().map(|sectors| Disc::half_full(*sectors));
+    let discs: Vec<Disc> = discs.collect::<io::Result<_>>()?;
     let named = LINES.iter().filter(|(name, _)| !name.is_empty());
-    let names = named.map(|(name, _)| *name);
-    let mut rows: Vec<Row> = names
-        .chain(["`cp` of the disc file"])
-        .map(|name| Row {
-            name,
-            times: Vec::new(),
-        })
-        .collect();
-    for sectors in sizes {
-        on_disc(program, *sectors, &mut rows)?;
+    let names = named.map(|(name, _)| *name).chain([COPY]);
+    let times = vec![Vec::new(); sizes.len()];
+    let row = |name| Row {
+        name,
+        times: times.clone(),
+    };
+    let mut rows: Vec<Row> = names.map(row).collect();
+    for _ in 0..ROUNDS {
+        for (place, disc) in discs.iter().enumerate() {
+            disc.round(program, |name, took| note(&mut rows, name, place, took))?;
+        }
+    }
+    for _ in 0..COPIES {
+        for (place, disc) in discs.iter().enumerate() {
+            note(&mut rows, COPY, place, disc.copy()?);
+        }
     }
     println!("{HOW}\n{}", table(&rows, sizes));
     Ok(())
 }
 
-fn on_disc(program: &Path, sectors: usize, rows: &mut [Row]) -> io::Result<()> {
-    let folder = Folder::new()?;
-    store_half_full(&folder.0, sectors)?;
-    rows.iter_mut().for_each(|row| row.times.push(Vec::new()));
-    for _ in 0..ROUNDS {
-        for (name, line) in LINES {
-            let line = line.replace("SECTORS", &sectors.to_string());
-            let took = timed(Command::new(program).args(line.split(' ')), &folder.0)?;
-            note(rows, name, took);
-        }
-        fs::remove_file(folder.0.join("blank.disc"))?;
-        fs::remove_file(folder.0.join("blank.disc.ledger"))?;
+fn note(rows: &mut [Row], name: &str, place: usize, took: Duration) {
+    let row = rows.iter_mut().find(|row| row.name == name);
+    if let Some(row) = row {
+        row.times[place].push(took);
     }
-    for _ in 0..5 {
-        let mut copy = Command::new("cp");
-        let took = timed(copy.args(["run.disc", "copy.disc"]), &folder.0)?;
-        note(rows, "`cp` of the disc file", took);
-        fs::remove_file(folder.0.join("copy.disc"))?;
-    }
-    Ok(())
 }
 
-fn note(rows: &mut [Row], name: &str, took: Duration) {
-    let row = rows.iter_mut().find(|row| row.name == name);
-    if let Some(times) = row.and_then(|row| row.times.last_mut()) {
-        times.push(took);
+/// A disc in a folder of its own, which is removed with all that it holds.
+struct Disc {
+    folder: PathBuf,
+    sectors: usize,
+}
+
+impl Disc {
+    fn half_full(sectors: usize) -> io::Result<Disc> {
+        let name = format!("station-commands-{}-{sectors}", process::id());
+        let folder = env::temp_dir().join(name);
+        fs::create_dir(&folder)?;
+        let disc = Disc { folder, sectors };
+        store_half_full(&disc.folder, sectors)?;
+        Ok(disc)
+    }
+
+    fn round(&self, program: &Path, mut note: impl FnMut(&str, Duration)) -> io::Result<()> {
+        for (name, line) in LINES {
+            let line = line.replace("SECTORS", &self.sectors.to_string());
+            let mut command = Command::new(program);
+            note(name, timed(command.args(line.split(' ')), &self.folder)?);
+        }
+        fs::remove_file(self.folder.join("blank.disc"))?;
+        fs::remove_file(self.folder.join("blank.disc.ledger"))
+    }
+
+    fn copy(&self) -> io::Result<Duration> {
+        let mut copy = Command::new("cp");
+        let took = timed(copy.args(["run.disc", "copy.disc"]), &self.folder)?;
+        fs::remove_file(self.folder.join("copy.disc"))?;
+        Ok(took)
+    }
+}
+
+impl Drop for Disc {
+    fn drop(&mut self) {
+        // The figures were taken; what cannot be removed does no harm.
+        let _ = fs::remove_dir_all(&self.folder);
     }
 }
 
@@ -153,22 +185,4 @@ fn table(rows: &[Row], sizes: &[usize]) -> String {
         text.push('\n');
     }
     text
-}
-
-/// A folder for the discs, removed with all that it holds.
-struct Folder(PathBuf);
-
-impl Folder {
-    fn new() -> io::Result<Folder> {
-        let folder = env::temp_dir().join(format!("station-commands-{}", process::id()));
-        fs::create_dir(&folder)?;
-        Ok(Folder(folder))
-    }
-}
-
-impl Drop for Folder {
-    fn drop(&mut self) {
-        // The figures were taken; what cannot be removed does no harm.
-        let _ = fs::remove_dir_all(&self.0);
-    }
 }
