@@ -81,6 +81,7 @@ pub struct Part {
     path: PathBuf,
     part: PathBuf,
     file: File,
+    named: bool,
 }
 
 impl Part {
@@ -97,6 +98,7 @@ impl Part {
             path: path.to_path_buf(),
             part,
             file,
+            named: false,
         };
         fill(&mut made.file)
             .and_then(|()| kept.map_or(Ok(()), |kept| made.file.set_permissions(kept)))
@@ -111,16 +113,20 @@ impl Part {
     }
 
     /// Gives the file its name, in place of the one that has it.
-    pub fn put_in_place(self) -> Result<(), Failure> {
+    pub fn put_in_place(mut self) -> Result<(), Failure> {
         let named = fs::rename(&self.part, &self.path);
-        named.map_err(|error| Failure::unwritable(&self.path, error))
+        named.map_err(|error| Failure::unwritable(&self.path, error))?;
+        self.named = true;
+        Ok(())
     }
 }
 
 impl Drop for Part {
     fn drop(&mut self) {
-        // Only a file that was not put in place is still there.
-        let _ = fs::remove_file(&self.part);
+        if !self.named {
+            // The first error is the one to tell.
+            let _ = fs::remove_file(&self.part);
+        }
     }
 }
 

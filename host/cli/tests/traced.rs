@@ -45,10 +45,14 @@ enum End {
 
 /// Runs the line, and at the nth of these calls the program meets the fate.
 fn run_traced(folder: &Folder, line: &str, call: &str, nth: usize, fate: &str) -> End {
+    let fate = format!("inject={call}:{fate}:when={nth}");
+    run_strace(folder, line, &["-e", &format!("trace={call}"), "-e", &fate]).0
+}
+
+/// Runs the line under strace with these options; the end, and what was traced.
+fn run_strace(folder: &Folder, line: &str, options: &[&str]) -> (End, String) {
     let mut command = Command::new("strace");
-    command.args(["-f", "-qq", "-o", "trace", "-e"]);
-    command.arg(format!("trace={call}")).arg("-e");
-    command.arg(format!("inject={call}:{fate}:when={nth}"));
+    command.args(["-qq", "-o", "trace"]).args(options);
     command.arg(STATION).args(line.split_whitespace());
     command.current_dir(&folder.0);
     command.stdin(Stdio::piped()).stdout(Stdio::null());
@@ -60,14 +64,16 @@ fn run_traced(folder: &Folder, line: &str, call: &str, nth: usize, fate: &str) -
     let output = child.wait_with_output().expect("an end");
     let told = String::from_utf8_lossy(&output.stderr);
     assert!(!told.contains("strace:"), "strace cannot trace: {told}");
+    let traced = fs::read_to_string(folder.path("trace")).expect("what was traced");
     fs::remove_file(folder.path("trace")).expect("what was traced");
-    match (output.status.code(), output.status.signal()) {
+    let end = match (output.status.code(), output.status.signal()) {
         (Some(status), _) => End::Status(status),
         (None, signal) => {
             assert_eq!(signal, Some(9), "{told}");
             End::Killed
         }
-    }
+    };
+    (end, traced)
 }
 
 /// Disc and ledger, and what is shown of them.
@@ -182,6 +188,38 @@ fn stop_everywhere(folder: &Folder, line: &str, fate: &str) -> usize {
     }
     restore(folder, &start);
     stopped
+}
+
+/// The names of the calls that write, in order, of a line that is done.
+fn calls_of(folder: &Folder, line: &str) -> Vec<String> {
+    let all = format!("trace={}", WRITING.join(","));
+    let (end, traced) = run_strace(folder, line, &["-e", &all]);
+    assert_eq!(end, End::Status(0), "{line}");
+    let names = traced.lines().filter_map(|call| call.split('(').next());
+    // The name of the call by which the library renames is its own affair.
+    let one_name = |name: &str| match name.starts_with("rename") {
+        true => "rename".into(),
+        false => name.into(),
+    };
+    names.map(one_name).collect()
+}
+
+/// Bytes, flush, digits, flush; around it the ledger, made before and named after.
+#[test]
+fn the_order_of_the_medium() {
+    let folder = Folder::example();
+    let ledger = ["write", "fchmod", "fsync"];
+    let recorded = ["pwrite64", "fdatasync", "pwrite64", "fdatasync"];
+    let named = ["rename", "fsync", "write"];
+    for line in ["write run.disc 0", "commit run.disc"] {
+        let whole = [&ledger[..], &recorded, &named].concat();
+        assert_eq!(calls_of(&folder, line), whole, "{line}");
+    }
+    for line in ["close run.disc", "mount run.disc"] {
+        let alone = [&ledger[..], &named].concat();
+        assert_eq!(calls_of(&folder, line), alone, "{line}");
+    }
+    assert_eq!(calls_of(&folder, "read run.disc 1"), ["write"]);
 }
 
 /// The command lines, each on the example with its packet closed.
