@@ -33,7 +33,7 @@ pub struct Session {
 }
 
 impl Session {
-    /// The disc is named as the operator typed it in every message.
+    /// A disc that cannot be loaded is told of by the name that was typed.
     pub fn open(name: &Path, lent: Lent, around: &Surroundings) -> Result<Session, Failure> {
         let place = Place::of(name)?;
         let folder = lock_folder(folder_of(&place.disc))?;

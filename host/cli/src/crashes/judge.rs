@@ -1,6 +1,9 @@
 //! Whether a state is what document 01 lets a power cut leave: of the disc, and
 //! by what mount, list, look back and read show of it, compared with the book.
 
+use std::io::Write;
+use std::process::{Command, Stdio};
+
 use station::{Refusal, LEDGER, SECTOR};
 use station_model::book::{Content, History, Snapshot};
 
@@ -81,6 +84,25 @@ fn shows(disc: &Disc, ledger: &[u8], page: &Snapshot) {
             Some(Content::Bytes(bytes)) => assert!(read.is_ok() && block == **bytes),
         }
     }
+}
+
+/// The proved listing program; `rt check list` makes it.
+const PROVED_LISTING: &str = concat!(env!("CARGO_MANIFEST_DIR"), "/../../target/bin/list");
+
+/// The listing is that of the proved program, which takes discs of up to 31
+/// sectors.
+pub fn lists_as_proved(left: &State, disc: &Disc) {
+    if disc.lent().1.len() > 31 {
+        return;
+    }
+    let mut program = Command::new(PROVED_LISTING);
+    program.stdin(Stdio::piped()).stdout(Stdio::piped());
+    let mut running = program.spawn().expect(PROVED_LISTING);
+    let mut input = running.stdin.take().expect("a pipe");
+    input.write_all(&left.disc).expect("it reads a whole disc");
+    drop(input);
+    let output = running.wait_with_output().expect("an answer");
+    assert_eq!(listing(disc).0.as_bytes(), output.stdout);
 }
 
 /// A row for each page, with its size and how many numbers are in use.

@@ -148,6 +148,7 @@ impl Desk {
             let mut book = self.book.clone();
             feed(&mut book, event.call, Ending::Cut { vat_kept });
             judge::shows_the_book(&disc, &book);
+            judge::lists_as_proved(state, &disc);
         }
         self.judged += left.len();
         self.book = whole;
