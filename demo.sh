@@ -6,4 +6,4 @@ cd "$(dirname "$0")"
 . host/setup.sh
 need_rust host/Cargo.toml
 fresh_archive
-exec cargo run --quiet --release --offline --manifest-path host/Cargo.toml -p station-cli -- demo "$@"
+exec cargo run --quiet --release "${cargo_options[@]}" --manifest-path host/Cargo.toml -p station-cli -- demo "$@"

@@ -31,6 +31,7 @@ set_up() {
     need perl perl
     need c++ g++
     need mkudffs udftools
+    need strace strace
     need_rust host/Cargo.toml
 }
 
@@ -101,7 +102,7 @@ archive() {
 
 # Without --release, which would leave out the checks that the profile for tests has.
 host_tests() {
-    cargo test --no-fail-fast --offline --manifest-path host/Cargo.toml -p station -p station-cli
+    cargo test --no-fail-fast "${cargo_options[@]}" --manifest-path host/Cargo.toml -p station -p station-cli
 }
 
 set_up

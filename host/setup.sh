@@ -41,16 +41,46 @@ is_at_least() {
     [ -n "$found" ] && printf '%s\n' "$1" "$found" | sort -V -C
 }
 
-# need_rust MANIFEST: cargo and rustc of the rust-version that the manifest asks for, and a linker. Debian 12 has newer ones as cargo-web and rustc-web, which
-# take the place of its plain cargo.
+# The Rust libraries of host/cli. Debian has them as packages, in a folder that can stand for the public registry: the sums in Cargo.lock are the same. Where
+# the folder has not the versions of Cargo.lock, cargo asks the public registry.
+libraries=/usr/share/cargo/registry
+library_packages=(librust-libc-dev librust-memmap2-dev)
+cargo_options=()
+
+locked_libraries() {
+    awk -F '"' '/^name/ { name = $2 } /^version/ { version = $2 } /^source/ { print name "-" version }' host/Cargo.lock
+}
+
+has_libraries() {
+    local library
+    for library in $(locked_libraries); do
+        [ -d "$libraries/$library" ] || return 1
+    done
+}
+
+need_libraries() {
+    has_libraries || ! command -v apt-get >/dev/null || missing+=("${library_packages[@]}")
+}
+
+# After the installation: the options with which cargo finds them.
+point_cargo_at_libraries() {
+    if has_libraries; then
+        cargo_options=(--offline --config 'source.crates-io.replace-with="debian"' --config "source.debian.directory=\"$libraries\"")
+    fi
+}
+
+# need_rust MANIFEST: cargo and rustc of the rust-version that the manifest asks for, a linker, and the libraries. Debian 12 has newer ones as cargo-web and
+# rustc-web, which take the place of its plain cargo.
 need_rust() {
     local version tool
     version=$(sed -n 's/^rust-version = "\(.*\)"$/\1/p' "$1")
     need cc gcc libc6-dev
+    need_libraries
     if ! is_at_least "$version" cargo || ! is_at_least "$version" rustc; then
         missing+=(cargo-web rustc-web)
     fi
     install_missing
+    point_cargo_at_libraries
     hash -r
     for tool in cargo rustc; do
         if ! is_at_least "$version" "$tool"; then

@@ -2,10 +2,12 @@
 //! calls, on discs of 1,000, 36,000 and 360,000 sectors.
 //!
 //! `station-benchmark` prints Markdown; `--quick` leaves out the largest disc.
+//! `--commands PROGRAM` takes the times of the commands of `station` instead.
 
 #![forbid(unsafe_code)]
 
 mod buffers;
+mod commands;
 mod machine;
 mod measure;
 mod report;
@@ -15,6 +17,7 @@ mod tuned;
 mod version;
 
 use std::env;
+use std::path::Path;
 use std::process::ExitCode;
 
 use buffers::Buffers;
@@ -59,8 +62,14 @@ fn main() -> ExitCode {
     match arguments.iter().map(String::as_str).collect::<Vec<_>>()[..] {
         [] => run(&SIZES),
         ["--quick"] => run(&SIZES[..2]),
+        ["--commands", program] => {
+            if let Err(error) = commands::run(Path::new(program), &SIZES) {
+                eprintln!("station-benchmark: {error}");
+                return ExitCode::FAILURE;
+            }
+        }
         _ => {
-            eprintln!("usage: station-benchmark [--quick]");
+            eprintln!("usage: station-benchmark [--quick | --commands PROGRAM]");
             return ExitCode::from(2);
         }
     }

@@ -7,8 +7,8 @@ use std::path::Path;
 
 use station::MOST_SECTORS;
 
-use crate::commands::Command;
 use crate::failure::Failure;
+use crate::syntax::Syntax;
 
 /// What the operator wants of a command.
 pub enum Asked {
@@ -18,7 +18,7 @@ pub enum Asked {
 
 /// As many operands as the command has, and its options, each at most once.
 pub struct Arguments {
-    command: &'static Command,
+    command: &'static Syntax,
     operands: Vec<OsString>,
     options: Vec<(&'static str, OsString)>,
     rest: Vec<OsString>,
@@ -26,7 +26,7 @@ pub struct Arguments {
 
 /// `--` ends the options. For `cut`, the words behind the operands belong to
 /// the command that is cut.
-pub fn parse(command: &'static Command, words: &[OsString]) -> Result<Asked, Failure> {
+pub fn parse(command: &'static Syntax, words: &[OsString]) -> Result<Asked, Failure> {
     let mut given = Arguments {
         command,
         operands: Vec::new(),

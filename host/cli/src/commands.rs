@@ -1,103 +1,68 @@
-//! The commands: their names, words, help, and what runs them.
+//! The commands: which function runs each, and the command line as a whole.
 
 use std::ffi::OsString;
-use std::io::{Read, Write};
 
 use crate::arguments::{parse, Arguments, Asked};
-use crate::calls::{self, Done};
+use crate::calls;
 use crate::cut::cut;
-use crate::demo::demo;
-use crate::failure::Failure;
+use crate::demo;
+use crate::failure::{Done, Failure};
 use crate::help;
 use crate::listing::list;
+use crate::nearly::nearest;
+use crate::surroundings::{say, Surroundings};
+use crate::syntax::{self, Syntax};
 
-/// Where a block comes from and answers go to. The demo has its own.
-pub struct Streams<'a> {
-    pub input: &'a mut dyn Read,
-    pub output: &'a mut dyn Write,
+struct Command {
+    syntax: &'static Syntax,
+    run: fn(&Arguments, &mut Surroundings) -> Done,
 }
 
-/// Writes to standard output.
-pub fn say(streams: &mut Streams, text: impl AsRef<[u8]>) -> Done {
-    let written = streams.output.write_all(text.as_ref());
-    written.map_err(Failure::Output)
-}
-
-pub struct Command {
-    pub name: &'static str,
-    pub operands: &'static [&'static str],
-    /// Each option, and whether a value follows it.
-    pub options: &'static [(&'static str, bool)],
-    /// Whether the words behind the operands belong to another command.
-    pub takes_command: bool,
-    pub help: &'static str,
-    pub run: fn(&Arguments, &mut Streams) -> Done,
-}
-
-/// A command of a disc and perhaps a number, without options.
-const fn plain(
-    name: &'static str,
-    operands: &'static [&'static str],
-    help: &'static str,
-    run: fn(&Arguments, &mut Streams) -> Done,
+const fn command(
+    syntax: &'static Syntax,
+    run: fn(&Arguments, &mut Surroundings) -> Done,
 ) -> Command {
-    Command {
-        name,
-        operands,
-        options: &[],
-        takes_command: false,
-        help,
-        run,
-    }
+    Command { syntax, run }
 }
 
 static COMMANDS: [Command; 12] = [
-    plain("new", &["DISC", "SECTORS"], help::NEW, calls::new),
-    plain("begin", &["DISC"], help::BEGIN, calls::begin),
-    plain("mount", &["DISC"], help::MOUNT, calls::mount),
-    Command {
-        options: &[("--from", true), ("--pad", false)],
-        ..plain("write", &["DISC", "V"], help::WRITE, calls::write)
-    },
-    plain("release", &["DISC", "V"], help::RELEASE, calls::release),
-    plain("close", &["DISC"], help::CLOSE, calls::close),
-    plain("commit", &["DISC"], help::COMMIT, calls::commit),
-    Command {
-        options: &[("--to", true)],
-        ..plain("read", &["DISC", "V"], help::READ, calls::read)
-    },
-    plain(
-        "look-back",
-        &["DISC", "K"],
-        help::LOOK_BACK,
-        calls::look_back,
-    ),
-    plain("list", &["DISC"], help::LIST, list),
-    Command {
-        options: &[("--torn", false)],
-        takes_command: true,
-        ..plain("cut", &["J", "COMMAND"], help::CUT, cut)
-    },
-    Command {
-        options: &[("--keep", true)],
-        ..plain("demo", &[], help::DEMO, demo)
-    },
+    command(&syntax::NEW, calls::new),
+    command(&syntax::BEGIN, calls::begin),
+    command(&syntax::MOUNT, calls::mount),
+    command(&syntax::WRITE, calls::write),
+    command(&syntax::RELEASE, calls::release),
+    command(&syntax::CLOSE, calls::close),
+    command(&syntax::COMMIT, calls::commit),
+    command(&syntax::READ, calls::read),
+    command(&syntax::LOOK_BACK, calls::look_back),
+    command(&syntax::LIST, list),
+    command(&syntax::CUT, cut),
+    command(&syntax::DEMO, show_demo),
 ];
 
-pub fn find(name: &str) -> Result<&'static Command, Failure> {
-    let found = COMMANDS.iter().find(|command| command.name == name);
-    found.ok_or_else(|| {
-        let kind = if name.starts_with('-') {
-            "option"
-        } else {
-            "command"
-        };
-        Failure::Usage(format!("there is no {kind} {name}"), "")
-    })
+/// The demo plays whole command lines.
+fn show_demo(given: &Arguments, around: &mut Surroundings) -> Done {
+    demo::demo(given, around, run)
+}
+
+fn find(name: &str) -> Result<&'static Command, Failure> {
+    let found = COMMANDS.iter().find(|command| command.syntax.name == name);
+    found.ok_or_else(|| Failure::Usage(unknown(name), ""))
+}
+
+fn unknown(name: &str) -> String {
+    if name.starts_with('-') {
+        return format!("there is no option {name}");
+    }
+    let names = COMMANDS.iter().map(|command| command.syntax.name);
+    match nearest(name, names) {
+        Some(meant) => format!("there is no command {name}: did you mean {meant}?"),
+        None => format!("there is no command {name}"),
+    }
 }
 
 /// Runs one command line, without the program's name.
-pub fn run(words: &[OsString], streams: &mut Streams) -> Done {
+pub fn run(words: &[OsString], around: &mut Surroundings) -> Done {
     let Some((first, rest)) = words.split_first() else {
         return Err(Failure::Usage("a command is missing".into(), ""));
     };
@@ -105,16 +70,13 @@ pub fn run(words: &[OsString], streams: &mut Streams) -> Done {
         word @ ("-h" | "--help" | "--version") if !rest.is_empty() => {
             Err(Failure::Usage(format!("{word} stands alone"), ""))
         }
-        "-h" | "--help" => say(streams, help::PROGRAM),
-        "--version" => say(
-            streams,
-            concat!("station ", env!("CARGO_PKG_VERSION"), "\n"),
-        ),
+        "-h" | "--help" => say(around, help::PROGRAM),
+        "--version" => say(around, concat!("station ", env!("CARGO_PKG_VERSION"), "\n")),
         name => {
             let command = find(name)?;
-            match parse(command, rest)? {
-                Asked::Help => say(streams, command.help),
-                Asked::Run(given) => (command.run)(&given, streams),
+            match parse(command.syntax, rest)? {
+                Asked::Help => say(around, command.syntax.help),
+                Asked::Run(given) => (command.run)(&given, around),
             }
         }
     }

@@ -9,9 +9,11 @@ use std::path::{Path, PathBuf};
 use std::process;
 
 use crate::arguments::Arguments;
-use crate::calls::Done;
-use crate::commands::{run, say, Streams};
-use crate::failure::Failure;
+use crate::failure::{Done, Failure};
+use crate::surroundings::{say, Surroundings};
+
+/// What runs one command line.
+type Run = fn(&[OsString], &mut Surroundings) -> Done;
 
 /// The disc file's name, as it is shown.
 const DISC: &str = "run.disc";
@@ -90,17 +92,18 @@ impl Step {
     }
 
     /// What the terminal then shows: the answer, or the words of a refusal.
-    fn shown(&self, folder: &Path) -> Result<Vec<u8>, Failure> {
+    fn shown(&self, folder: &Path, run: Run, around: &Surroundings) -> Result<Vec<u8>, Failure> {
         let (words, input) = self.words(folder);
         let mut shown = Vec::new();
         if words.is_empty() {
             return Ok(shown);
         }
-        let mut streams = Streams {
+        let mut inner = Surroundings {
             input: &mut input.as_bytes(),
             output: &mut shown,
+            disk: around.disk,
         };
-        match run(&words, &mut streams) {
+        match run(&words, &mut inner) {
             Err(refused @ Failure::Refused(..)) => shown.extend(refused.to_string().bytes()),
             outcome => outcome?,
         }
@@ -111,23 +114,24 @@ impl Step {
     }
 }
 
-pub fn demo(given: &Arguments, streams: &mut Streams) -> Done {
+pub fn demo(given: &Arguments, around: &mut Surroundings, run: Run) -> Done {
     let Some(folder) = given.value("--keep").map(Path::new) else {
         let temporary = Temporary::new()?;
-        return play(&temporary.0, streams);
+        return play(&temporary.0, around, run);
     };
     fs::create_dir_all(folder).map_err(|error| Failure::unwritable(folder, error))?;
-    play(folder, streams)?;
+    play(folder, around, run)?;
     say(
-        streams,
+        around,
         format!("# The files are in {}.\n", folder.display()),
     )
 }
 
-fn play(folder: &Path, streams: &mut Streams) -> Done {
+fn play(folder: &Path, around: &mut Surroundings, run: Run) -> Done {
     for step in &STEPS {
-        say(streams, format!("{}\n", step.typed()))?;
-        say(streams, step.shown(folder)?)?;
+        say(around, format!("{}\n", step.typed()))?;
+        let shown = step.shown(folder, run, around)?;
+        say(around, shown)?;
     }
     Ok(())
 }

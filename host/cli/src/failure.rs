@@ -8,6 +8,9 @@ use station::Refusal;
 
 use crate::advice;
 
+/// What a command comes to, or a part of one that answers nothing.
+pub type Done = Result<(), Failure>;
+
 /// Why a command was not done. Exit statuses from 64 on are those of
 /// `sysexits.h`; below them a status is a refusal's number.
 pub enum Failure {

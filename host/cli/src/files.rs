@@ -1,5 +1,5 @@
-//! Files: where the ledger lies, one command at a time in a folder, and
-//! replacing a file in one step.
+//! Files: where the ledger lies, one command at a time on a disc, and replacing
+//! a file in one step.
 
 use std::ffi::OsString;
 use std::fs::{self, File, OpenOptions, Permissions};
@@ -13,6 +13,7 @@ use crate::lock;
 
 /// A disc file and its ledger, by their real names: a link to a disc file stays
 /// a link, and the ledger is the same whichever name the operator types.
+#[derive(Clone)]
 pub struct Place {
     pub disc: PathBuf,
     pub ledger: PathBuf,
@@ -53,13 +54,17 @@ pub fn folder_of(path: &Path) -> &Path {
 /// Waits until no other command works in the folder, and keeps others out until
 /// the answer is dropped. Without this, two commands at once could leave the
 /// disc of one with the ledger of the other, and the two might even fit. The
-/// folder is locked and not the disc file, which every recording replaces.
+/// folder is locked since a ledger is replaced, and a new disc is not there yet.
 pub fn lock_folder(folder: &Path) -> Result<File, Failure> {
     let file = File::open(folder).map_err(|error| Failure::unreadable(folder, error))?;
-    match lock::exclusive(&file) {
-        Ok(()) => Ok(file),
-        Err(error) => Err(Failure::unwritable(folder, format!("no lock: {error}"))),
-    }
+    lock(&file, folder)?;
+    Ok(file)
+}
+
+/// The same of an open file, which may have names in several folders.
+pub fn lock(file: &File, name: &Path) -> Result<(), Failure> {
+    let locked = lock::exclusive(file);
+    locked.map_err(|error| Failure::unwritable(name, format!("no lock: {error}")))
 }
 
 /// At most so many bytes of a file or of another source.
@@ -69,12 +74,14 @@ pub fn read_at_most(source: &mut dyn Read, bytes: usize) -> io::Result<Vec<u8>> 
     Ok(read)
 }
 
-/// A file in the making: whole, on the disk, and without its name yet. A file is
-/// so made or replaced in one step: whenever the program or the computer stops,
-/// there is the old file or the new one, whole.
+/// A file in the making, without its name yet. A file is so made or replaced in
+/// one step: whenever the program or the computer stops, there is the old file
+/// or the new one, whole.
 pub struct Part {
     path: PathBuf,
     part: PathBuf,
+    file: File,
+    named: bool,
 }
 
 impl Part {
@@ -86,35 +93,49 @@ impl Part {
     ) -> Result<Part, Failure> {
         let unwritable = |error: io::Error| Failure::unwritable(path, error);
         let kept = permissions(path).map_err(unwritable)?;
-        let (part, mut file) = new_part(path, kept.as_ref()).map_err(unwritable)?;
-        let made = Part {
+        let (part, file) = new_part(path, kept.as_ref()).map_err(unwritable)?;
+        let mut made = Part {
             path: path.to_path_buf(),
             part,
+            file,
+            named: false,
         };
-        let filled = fill(&mut file)
-            .and_then(|()| kept.map_or(Ok(()), |kept| file.set_permissions(kept)))
-            .and_then(|()| file.sync_all());
-        filled.map_err(unwritable)?;
+        fill(&mut made.file)
+            .and_then(|()| kept.map_or(Ok(()), |kept| made.file.set_permissions(kept)))
+            .map_err(unwritable)?;
         Ok(made)
     }
 
+    /// All of it is on the disk, and it may have its name.
+    pub fn flush(&self) -> Result<(), Failure> {
+        let flushed = self.file.sync_all();
+        flushed.map_err(|error| Failure::unwritable(&self.path, error))
+    }
+
     /// Gives the file its name, in place of the one that has it.
-    pub fn put_in_place(self) -> Result<(), Failure> {
-        let named = fs::rename(&self.part, &self.path).and_then(|()| sync_folder(&self.path));
-        named.map_err(|error| Failure::unwritable(&self.path, error))
+    pub fn put_in_place(mut self) -> Result<(), Failure> {
+        let named = fs::rename(&self.part, &self.path);
+        named.map_err(|error| Failure::unwritable(&self.path, error))?;
+        self.named = true;
+        Ok(())
     }
 }
 
 impl Drop for Part {
     fn drop(&mut self) {
-        // Only a file that was not put in place is still there.
-        let _ = fs::remove_file(&self.part);
+        if !self.named {
+            // The first error is the one to tell.
+            let _ = fs::remove_file(&self.part);
+        }
     }
 }
 
 /// Makes or replaces one file in one step.
 pub fn replace(path: &Path, fill: impl FnOnce(&mut File) -> io::Result<()>) -> Result<(), Failure> {
-    Part::make(path, fill)?.put_in_place()
+    let part = Part::make(path, fill)?;
+    part.flush()?;
+    part.put_in_place()?;
+    flush_folder(path)
 }
 
 /// Puts bytes where an operator asked for them. A link stays a link, and what is
@@ -171,14 +192,12 @@ fn permissions(path: &Path) -> io::Result<Option<Permissions>> {
 pub fn remove(path: &Path) -> Result<(), Failure> {
     match fs::remove_file(path) {
         Err(error) if error.kind() == ErrorKind::NotFound => Ok(()),
-        done => done
-            .and_then(|()| sync_folder(path))
-            .map_err(|error| Failure::unwritable(path, error)),
+        done => done.map_err(|error| Failure::unwritable(path, error)),
     }
 }
 
-/// The names in the folder are on the disk too, so that of two renames the
-/// first is never lost without the second.
-fn sync_folder(path: &Path) -> io::Result<()> {
-    File::open(folder_of(path))?.sync_all()
+/// The names in a file's folder are on the disk too.
+pub fn flush_folder(path: &Path) -> Result<(), Failure> {
+    let flushed = File::open(folder_of(path)).and_then(|folder| folder.sync_all());
+    flushed.map_err(|error| Failure::unwritable(path, error))
 }

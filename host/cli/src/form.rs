@@ -3,97 +3,137 @@
 //! 0 to 3 a sector; newline; the image", and nothing else.
 
 use std::fs::{self, File};
-use std::io::{self, Read, Write};
+use std::io::{self, ErrorKind, Write};
 use std::os::unix::fs::FileExt;
 use std::path::Path;
 
-use station::{MOST_SECTORS, SECTOR};
+use memmap2::MmapMut;
+use station::{Sector, MOST_SECTORS, SECTOR};
 
 use crate::failure::Failure;
+use crate::mapping;
 
 /// The sector count's columns and its newline.
 const HEAD: usize = 9;
 
-/// The image is written in pieces of this many bytes.
-const PIECE: usize = 32 * SECTOR;
-static BLANK_PIECE: [u8; PIECE] = [0; PIECE];
-
-/// Image and kinds, as the core is lent them.
+/// Image and kinds, as the core is lent them. What the core records in them is
+/// not in the file yet.
 pub struct Disc {
-    pub image: Vec<u8>,
-    pub kinds: Vec<u8>,
+    file: MmapMut,
+    kinds: Vec<u8>,
+    /// How many sectors are recorded in the file.
+    recorded: usize,
 }
 
 impl Disc {
-    pub fn blank(sectors: usize) -> Disc {
-        Disc {
-            image: vec![0; sectors * SECTOR],
-            kinds: vec![0; sectors],
-        }
-    }
-
-    /// The disc in a file. It is opened once, so that a command that replaces
-    /// the file meanwhile does no harm.
-    pub fn load(path: &Path) -> Result<Disc, Failure> {
-        let unreadable = |error| Failure::unreadable(path, error);
-        let no_disc = |reason: String| Failure::NoDisc(path.to_path_buf(), reason);
-        // Asked before it is opened: opening a pipe would wait for a writer.
-        let about = fs::metadata(path).map_err(unreadable)?;
-        if !about.is_file() {
-            return Err(no_disc("it is not a file".into()));
-        }
-        let mut file = File::open(path).map_err(unreadable)?;
-        let length = file.metadata().map_err(unreadable)?.len();
-        match read_form(&mut file, length) {
+    /// The disc in an open file; the name is for the message.
+    pub fn load(file: &File, name: &Path) -> Result<Disc, Failure> {
+        match read_form(file, name) {
             Ok(Ok(disc)) => Ok(disc),
-            Ok(Err(reason)) => Err(no_disc(reason)),
-            Err(error) => Err(unreadable(error)),
+            Ok(Err(reason)) => Err(Failure::NoDisc(name.to_path_buf(), reason)),
+            Err(error) => Err(Failure::unreadable(name, error)),
         }
     }
 
-    /// Writes the whole disc to an empty file. Pieces that are all zero become
-    /// holes, so a disc that is mostly blank takes little space and time.
-    pub fn store(&self, file: &mut File) -> io::Result<()> {
-        let mut text = format!("{:8}\n", self.kinds.len()).into_bytes();
-        text.extend(self.kinds.iter().map(|kind| kind + b'0'));
-        text.push(b'\n');
-        file.write_all(&text)?;
-        file.set_len((text.len() + self.image.len()) as u64)?;
-        let mut at = text.len() as u64;
-        for piece in self.image.chunks(PIECE) {
-            if *piece != BLANK_PIECE[..piece.len()] {
-                file.write_all_at(piece, at)?;
-            }
-            at += piece.len() as u64;
-        }
-        Ok(())
+    /// Bytes of the whole file.
+    pub fn length(&self) -> u64 {
+        self.file.len() as u64
+    }
+
+    pub fn lent(&self) -> (&[u8], &[u8]) {
+        (&self.file[image_place(self.kinds.len())..], &self.kinds)
+    }
+
+    pub fn lent_to_record(&mut self) -> (&mut [u8], &mut [u8]) {
+        let image = image_place(self.kinds.len());
+        (&mut self.file[image..], &mut self.kinds)
+    }
+
+    /// The sectors that are recorded here and not yet in the file, ascending.
+    pub fn newly_recorded(&self) -> impl Iterator<Item = Sector<'_>> {
+        let (image, kinds) = self.lent();
+        station::recorded_since(image, kinds, self.recorded)
+    }
+
+    /// Where in the file the digit of the first of these sectors stands.
+    pub fn new_digits_place(&self) -> u64 {
+        (HEAD + self.recorded) as u64
+    }
+
+    /// Where in the file a sector's bytes stand.
+    pub fn sector_place(&self, block: u32) -> u64 {
+        (image_place(self.kinds.len()) + block as usize * SECTOR) as u64
     }
 }
 
+/// Opens a file to be loaded. What it is, is asked before: opening a pipe would
+/// wait for a writer.
+pub fn open(path: &Path, name: &Path) -> Result<File, Failure> {
+    let unreadable = |error| Failure::unreadable(name, error);
+    let about = fs::metadata(path).map_err(unreadable)?;
+    if !about.is_file() {
+        let reason = "it is not a file".into();
+        return Err(Failure::NoDisc(name.to_path_buf(), reason));
+    }
+    File::open(path).map_err(unreadable)
+}
+
+/// Fills an empty file. The image is a hole, so it takes no space and no time.
+pub fn store_blank(file: &mut File, sectors: usize) -> io::Result<()> {
+    let digits = "0".repeat(sectors);
+    file.write_all(format!("{sectors:8}\n{digits}\n").as_bytes())?;
+    file.set_len(whole_length(sectors) as u64)
+}
+
+/// The digit of a kind.
+pub fn digit(kind: u8) -> u8 {
+    kind + b'0'
+}
+
+fn image_place(sectors: usize) -> usize {
+    HEAD + sectors + 1
+}
+
+fn whole_length(sectors: usize) -> usize {
+    image_place(sectors) + sectors * SECTOR
+}
+
 /// The disc, or why the file has another form.
-fn read_form(file: &mut File, length: u64) -> io::Result<Result<Disc, String>> {
-    let mut head = Vec::new();
-    file.take(HEAD as u64).read_to_end(&mut head)?;
-    let Some(sectors) = sector_count(&head) else {
+fn read_form(file: &File, name: &Path) -> io::Result<Result<Disc, String>> {
+    let length = file.metadata()?.len();
+    let mut head = [0; HEAD];
+    let count = match file.read_exact_at(&mut head, 0) {
+        Err(error) if error.kind() == ErrorKind::UnexpectedEof => None,
+        read => read.map(|()| sector_count(&head))?,
+    };
+    let Some(sectors) = count else {
         let reason = "its first line is not a sector count from 1 to 360000 in 8 columns";
         return Ok(Err(reason.into()));
     };
-    let whole = (HEAD + sectors + 1 + sectors * SECTOR) as u64;
-    if length != whole {
+    let whole = whole_length(sectors);
+    if length != whole as u64 {
         let reason = format!("it has {length} bytes, and with {sectors} sectors it has {whole}");
         return Ok(Err(reason));
     }
-    let mut kinds = vec![0; sectors + 1];
-    file.read_exact(&mut kinds)?;
-    if kinds.pop() != Some(b'\n') || kinds.iter().any(|digit| !(b'0'..=b'3').contains(digit)) {
-        return Ok(Err(
-            "its second line is not one digit 0 to 3 a sector".into()
-        ));
-    }
-    kinds.iter_mut().for_each(|digit| *digit -= b'0');
-    let mut image = vec![0; sectors * SECTOR];
-    file.read_exact(&mut image)?;
-    Ok(Ok(Disc { image, kinds }))
+    let file = mapping::copy_on_write(file, whole, name)?;
+    Ok(match kinds_of(&file[HEAD..image_place(sectors)]) {
+        Some(kinds) => Ok(Disc {
+            recorded: station::recorded(&kinds),
+            file,
+            kinds,
+        }),
+        None => Err("its second line is not one digit 0 to 3 a sector".into()),
+    })
+}
+
+/// The kinds in the second line, if it is one. Every digit is looked at, without
+/// leaving at the first wrong one: that is many times as fast.
+fn kinds_of(line: &[u8]) -> Option<Vec<u8>> {
+    let (newline, digits) = line.split_last()?;
+    let kind = |digit: &u8| digit.wrapping_sub(b'0');
+    let kinds: Vec<u8> = digits.iter().map(kind).collect();
+    let highest = kinds.iter().copied().fold(0, u8::max);
+    (*newline == b'\n' && highest <= 3).then_some(kinds)
 }
 
 /// Spaces, then digits without a leading zero, then a newline.

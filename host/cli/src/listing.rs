@@ -3,11 +3,11 @@
 use station::{Refusal, LEDGER, SECTOR};
 
 use crate::arguments::Arguments;
-use crate::calls::Done;
-use crate::commands::{say, Streams};
-use crate::failure::Failure;
+use crate::failure::{Done, Failure};
 use crate::form::Disc;
 use crate::map::Map;
+use crate::session::{Lent, Session};
+use crate::surroundings::{say, Surroundings};
 
 const HEADING: &str = "   k   block  size  used\n";
 
@@ -18,24 +18,26 @@ fn refused(number: u32) -> String {
 
 /// Prints the listing, and ends with the refusal that it tells, if any. The
 /// ledger is the listing's own, and no file is changed.
-pub fn list(given: &Arguments, streams: &mut Streams) -> Done {
-    let disc = match Disc::load(given.path(0)) {
+pub fn list(given: &Arguments, around: &mut Surroundings) -> Done {
+    let session = match Session::open(given.path(0), Lent::New, around) {
         // "(1 for the form)"
         Err(failure @ Failure::NoDisc(..)) => {
-            say(streams, refused(1))?;
+            say(around, refused(1))?;
             return Err(failure);
         }
-        loaded => loaded?,
+        opened => opened?,
     };
-    let (text, refusal) = listing(&disc);
-    say(streams, text)?;
+    let (text, refusal) = listing(&session.disc);
+    drop(session);
+    say(around, text)?;
     refusal.map_or(Ok(()), |refusal| Err(refusal.into()))
 }
 
 /// The text, and the refusal if mount is refused or the saves are broken.
-fn listing(disc: &Disc) -> (String, Option<Refusal>) {
+pub fn listing(disc: &Disc) -> (String, Option<Refusal>) {
     let mut ledger = [0; LEDGER];
-    let clean = match station::mount(&disc.image, &disc.kinds, &mut ledger) {
+    let (image, kinds) = disc.lent();
+    let clean = match station::mount(image, kinds, &mut ledger) {
         Ok(clean) => clean,
         Err(refusal) => return (refused(refusal.number()), Some(refusal)),
     };
@@ -61,6 +63,6 @@ fn listing(disc: &Disc) -> (String, Option<Refusal>) {
 /// row would make long listings slow.
 fn step_back(disc: &Disc, table: u32, ledger: &mut [u8]) -> Result<u32, Refusal> {
     let sectors = table as usize + 1;
-    let image = &disc.image[..sectors * SECTOR];
-    station::look_back(image, &disc.kinds[..sectors], ledger, 1)
+    let (image, kinds) = disc.lent();
+    station::look_back(&image[..sectors * SECTOR], &kinds[..sectors], ledger, 1)
 }

@@ -1,23 +1,16 @@
 //! A lock on an open file or folder. The standard library has one only from Rust
-//! 1.89 on, so the system is asked here. All unsafe code of the program is here.
+//! 1.89 on, so the system is asked here.
 
 use std::fs::File;
 use std::io::{self, ErrorKind};
 use std::os::fd::AsRawFd;
-
-/// `LOCK_EX` of `sys/file.h`: nobody else has the lock.
-const EXCLUSIVE: i32 = 2;
-
-extern "C" {
-    fn flock(file: i32, operation: i32) -> i32;
-}
 
 /// Waits until nobody has the lock, and takes it. It is held until the file is
 /// closed, also by the end of a program that is killed.
 pub fn exclusive(file: &File) -> io::Result<()> {
     loop {
         // SAFETY: two numbers are given, and the file is open.
-        if unsafe { flock(file.as_raw_fd(), EXCLUSIVE) } == 0 {
+        if unsafe { libc::flock(file.as_raw_fd(), libc::LOCK_EX) } == 0 {
             return Ok(());
         }
         let error = io::Error::last_os_error();

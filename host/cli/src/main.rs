@@ -2,14 +2,20 @@
 //! core, the listing, and a simulated power cut.
 //!
 //! The program keeps no rule of the disc itself: it lends files to the core and
-//! tells what the core answers. Bottom to top:
+//! tells what the core answers. Each room uses only those below it:
 //!
-//! - `failure`, `advice`: what can go wrong, in words and as an exit status;
-//! - `form`: the disc file's form; `lock`: one command at a time in a folder;
-//! - `files`: replacing a file in one step;
-//! - `map`: what the ledger says; `session`: disc and ledger of one command;
-//! - `calls`, `listing`, `cut`, `demo`: the commands;
-//! - `arguments`, `commands`, `help`: the command line.
+//! - `commands`: the command line;
+//! - `calls`, `cut`, `demo`, `listing`: what the commands do;
+//! - `writing`: the two calls that record, whole or to be cut;
+//! - `session`: disc and ledger of one command;
+//! - `keeping`: the order in which they are kept;
+//! - `surroundings`: the streams and the disk that a command is given;
+//! - `disk`: the steps of keeping, on files;
+//! - `files`: names, locks, and replacing a file in one step;
+//! - `form`: the disc file's form; `map`: what the ledger says;
+//! - `arguments`, `syntax`, `help`, `nearly`: the words of a command line;
+//! - `mapping`, `lock`: what is asked of the system;
+//! - `failure`, `advice`: what can go wrong, in words and as an exit status.
 
 #![deny(unsafe_code)]
 
@@ -17,33 +23,44 @@ mod advice;
 mod arguments;
 mod calls;
 mod commands;
+#[cfg(test)]
+mod crashes;
 mod cut;
 mod demo;
+mod disk;
 mod failure;
 mod files;
 mod form;
 mod help;
+mod keeping;
 mod listing;
 #[allow(unsafe_code)]
 mod lock;
 mod map;
+#[allow(unsafe_code)]
+mod mapping;
+mod nearly;
 mod session;
+mod surroundings;
+mod syntax;
+mod writing;
 
 use std::env;
 use std::ffi::OsString;
 use std::io::{self, Write};
 use std::process::ExitCode;
 
-use commands::Streams;
 use failure::Failure;
+use surroundings::Surroundings;
 
 fn main() -> ExitCode {
     let words: Vec<OsString> = env::args_os().skip(1).collect();
-    let mut streams = Streams {
+    let mut around = Surroundings {
         input: &mut io::stdin(),
         output: &mut io::stdout(),
+        disk: &|files| Box::new(files),
     };
-    let outcome = commands::run(&words, &mut streams);
+    let outcome = commands::run(&words, &mut around);
     let outcome = outcome.and(io::stdout().flush().map_err(Failure::Output));
     match outcome {
         Ok(()) => ExitCode::SUCCESS,

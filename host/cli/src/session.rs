@@ -1,32 +1,17 @@
 //! Disc and ledger of one command: lent from their files, and kept.
-//!
-//! # The order of the two files
-//!
-//! A call that records changes both files, and each is replaced in one step. The
-//! disc comes first. A program killed between the two leaves the new disc with
-//! the old ledger, and that is safe:
-//!
-//! - Such a call records at least one sector, so the old ledger's recorded
-//!   differs from the new disc's. The core answers 4 to every call that reads
-//!   the ledger, until a begin, mount or look back is done.
-//! - It is what document 01 allows a power cut to leave: all sectors of the call
-//!   are kept and the ledger is lost. Mount shows the last finished save, and
-//!   that is this one if the call was a commit.
-//!
-//! The other order would give 4 as well, but leave a ledger that is ahead of the
-//! disc: as soon as other sectors were recorded there, it might fit and name them
-//! for what they are not. A ledger that is behind never fits again, since a
-//! disc's recorded only grows.
 
-use std::fs::{self, File};
-use std::io::{ErrorKind, Write};
+use std::fs::File;
+use std::io::ErrorKind;
 use std::path::Path;
 
 use station::LEDGER;
 
-use crate::failure::Failure;
-use crate::files::{folder_of, lock_folder, read_at_most, remove, Part, Place};
-use crate::form::Disc;
+use crate::disk::{Disk, Files};
+use crate::failure::{Done, Failure};
+use crate::files::{folder_of, lock, lock_folder, read_at_most, Place};
+use crate::form::{self, Disc};
+use crate::keeping::{self, Recording};
+use crate::surroundings::Surroundings;
 
 /// Which ledger a call is lent.
 pub enum Lent {
@@ -43,62 +28,52 @@ pub struct Session {
     pub place: Place,
     pub disc: Disc,
     pub ledger: Vec<u8>,
+    disk: Box<dyn Disk>,
     _lock: File,
 }
 
 impl Session {
-    pub fn open(disc: &Path, lent: Lent) -> Result<Session, Failure> {
-        let place = Place::of(disc)?;
-        let lock = lock_folder(folder_of(&place.disc))?;
-        // By the name that the operator typed, for the message.
-        let disc = Disc::load(disc)?;
+    /// A disc that cannot be loaded is told of by the name that was typed.
+    pub fn open(name: &Path, lent: Lent, around: &Surroundings) -> Result<Session, Failure> {
+        let place = Place::of(name)?;
+        let folder = lock_folder(folder_of(&place.disc))?;
+        let file = form::open(&place.disc, name)?;
+        lock(&file, name)?;
+        let disc = Disc::load(&file, name)?;
         let ledger = match lent {
             Lent::Kept => kept_ledger(&place.ledger)?,
             Lent::New => vec![0; LEDGER],
         };
+        let files = Files::of(place.clone(), file, disc.length());
         Ok(Session {
             place,
             disc,
             ledger,
-            _lock: lock,
+            disk: (around.disk)(files),
+            _lock: folder,
         })
     }
 
-    /// After a call that records nothing: the disc file is left alone.
-    pub fn keep_ledger(self) -> Result<(), Failure> {
-        self.new_ledger()?.put_in_place()
+    /// After a call that records nothing.
+    pub fn keep_ledger(mut self) -> Done {
+        keeping::keep_ledger(&mut *self.disk, &self.ledger)
     }
 
-    /// After a call that recorded. Both files are whole before the first has its
-    /// name, so that a full disk is met while nothing is changed.
-    pub fn keep_both(self) -> Result<(), Failure> {
-        let disc = self.new_disc()?;
-        let ledger = self.new_ledger()?;
-        disc.put_in_place()?;
-        ledger.put_in_place()
+    /// After a call that recorded.
+    pub fn keep_both(mut self) -> Done {
+        let recording = Recording::whole(&self.disc);
+        keeping::keep_both(&mut *self.disk, &recording, &self.ledger)
     }
 
-    /// After a cut. The ledger goes first: a program killed between the two
-    /// leaves what a cut before the first sector leaves.
-    pub fn keep_disc_alone(self) -> Result<(), Failure> {
-        let disc = self.new_disc()?;
-        remove(&self.place.ledger)?;
-        disc.put_in_place()
-    }
-
-    fn new_ledger(&self) -> Result<Part, Failure> {
-        Part::make(&self.place.ledger, |file| file.write_all(&self.ledger))
-    }
-
-    /// A rename asks only for a folder that may be written; a disc file that its
-    /// owner protected is not to change all the same.
-    fn new_disc(&self) -> Result<Part, Failure> {
-        let path = &self.place.disc;
-        let about = fs::metadata(path).map_err(|error| Failure::unreadable(path, error))?;
-        if about.permissions().readonly() {
-            return Err(Failure::unwritable(path, "it is write-protected"));
+    /// After a call that recorded: so many of its sectors are kept, and perhaps
+    /// the next one with another kind and so many of its bytes.
+    pub fn keep_cut(mut self, kept: usize, torn: Option<(u8, usize)>) -> Done {
+        let mut recording = Recording::first(&self.disc, kept);
+        let next = self.disc.newly_recorded().nth(kept);
+        if let (Some((kind, bytes)), Some(next)) = (torn, next) {
+            recording = recording.torn(&self.disc, &next, kind, bytes);
         }
-        Part::make(path, |file| self.disc.store(file))
+        keeping::keep_cut(&mut *self.disk, &recording)
     }
 }
 

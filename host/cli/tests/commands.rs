@@ -173,23 +173,41 @@ fn look_back_shows_each_save() {
     folder.done("commit run.disc");
 }
 
-/// "Calls that change nothing on the disc do not rewrite it": the very same
-/// file is there afterwards.
+/// The disc file is written in place, and only by what records: the very same
+/// file is there afterwards, and of its bytes only those that were recorded.
 #[test]
-fn only_write_and_commit_replace_the_disc_file() {
+fn only_what_is_recorded_is_written() {
     let folder = Folder::example();
-    let file = || {
-        fs::metadata(folder.path("run.disc"))
-            .expect("the disc")
-            .ino()
-    };
+    let file = || fs::metadata(folder.path("run.disc")).expect("the disc");
     let before = file();
     let lines = "mount run.disc;release run.disc 1;close run.disc;look-back run.disc 1;\
                  read run.disc 1;list run.disc;mount run.disc;write run.disc 9;begin run.disc";
     for line in lines.split(';') {
         folder.run(line.trim());
-        assert_eq!(file(), before, "{line}");
+        let now = file();
+        let changed = |about: &fs::Metadata| (about.mtime(), about.mtime_nsec());
+        assert_eq!(changed(&now), changed(&before), "{line}");
     }
+    let mut bytes = folder.bytes("run.disc");
     folder.write(0, "run C");
-    assert_ne!(file(), before);
+    assert_eq!(file().ino(), before.ino());
+    bytes[9 + 12..9 + 20].copy_from_slice(b"22222221");
+    let place = 9 + 31 + 1 + 19 * SECTOR;
+    bytes[place..place + SECTOR].copy_from_slice(&padded("run C"));
+    assert!(folder.bytes("run.disc") == bytes);
+}
+
+/// A full CD. What is blank takes no space in its file: it was never written.
+#[test]
+fn the_largest_disc() {
+    let folder = Folder::begun(360_000);
+    for line in ["commit run.disc", "mount run.disc", "list run.disc"] {
+        folder.write(0, "run A");
+        folder.done(line);
+    }
+    assert!(folder.done_with("read run.disc 0", b"") == padded("run A"));
+    folder.done("look-back run.disc 0");
+    let about = fs::metadata(folder.path("run.disc")).expect("the disc");
+    assert_eq!(about.len(), 9 + 360_000 + 1 + 360_000 * SECTOR as u64);
+    assert!(about.blocks() * 512 < 1_000_000, "{}", about.blocks());
 }

@@ -156,6 +156,55 @@ fn a_link_stays_a_link_with_one_ledger() {
     assert!(!folder.path("desk/today.ledger").exists());
 }
 
+/// One file under two names is one disc: what is recorded by one name stands
+/// there by the other, whose ledger is then behind.
+#[test]
+fn a_disc_with_two_names() {
+    let folder = Folder::example();
+    fs::create_dir(folder.path("desk")).expect("a folder");
+    let (one, other) = (folder.path("run.disc"), folder.path("desk/too.disc"));
+    fs::hard_link(one, other).expect("a second name");
+    folder.fails_with("write desk/too.disc 0 --pad", b"run C", 4);
+    folder.done("mount desk/too.disc");
+    folder.done_with("write desk/too.disc 0 --pad", b"run C");
+    folder.fails("commit run.disc", 4);
+    folder.done("commit desk/too.disc");
+    let mounted = "clean, table at block 20\nsize 2, 2 in use: 0 to 1\n";
+    assert_eq!(folder.done("mount run.disc"), mounted);
+    assert!(folder.done_with("read run.disc 0", b"") == padded("run C"));
+}
+
+/// Both names at once: the file is locked, and not only the folders.
+#[test]
+fn commands_at_once_by_two_names() {
+    let folder = Folder::begun(200);
+    fs::create_dir(folder.path("desk")).expect("a folder");
+    let (one, other) = (folder.path("run.disc"), folder.path("desk/run.disc"));
+    fs::hard_link(one, other).expect("a second name");
+    folder.done("commit run.disc");
+    let write = |disc: &str| {
+        folder.done(&format!("mount {disc}"));
+        // Refused with 4 where the other name was quicker.
+        let told = folder.run_with(&format!("write {disc} 0 --pad"), b"run");
+        assert!([0, 4].contains(&told.status), "{told:?}");
+        told.out
+    };
+    let told: Vec<Vec<u8>> = thread::scope(|scope| {
+        let discs = ["run.disc", "desk/run.disc"].repeat(8).into_iter();
+        let all: Vec<_> = discs.map(|disc| scope.spawn(move || write(disc))).collect();
+        let ends = all.into_iter().map(|one| one.join().expect("done"));
+        ends.filter(|told| !told.is_empty()).collect()
+    });
+    // The save and each block told, and no other; nothing behind a blank sector.
+    let kinds = folder.kinds();
+    assert_eq!(kinds.matches('1').count(), 1 + told.len(), "{kinds}");
+    for (block, _) in kinds.match_indices('1').skip(1) {
+        let line = format!("block {block}\n").into_bytes();
+        assert!(told.contains(&line), "{block}: {kinds}");
+    }
+    assert!(!kinds.trim_end_matches('0').contains('0'), "{kinds}");
+}
+
 /// A name with which the ledger cannot be written, only the disc.
 #[test]
 fn nothing_changes_if_one_of_the_two_cannot_be_written() {

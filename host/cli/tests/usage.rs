@@ -52,6 +52,12 @@ fn version() {
 const WRONG: &str = "\
 | a command is missing |
 save run.disc | there is no command save |
+wirte run.disc 0 | there is no command wirte: did you mean write? |
+comit run.disc | there is no command comit: did you mean commit? |
+lookback run.disc 0 | there is no command lookback: did you mean look-back? |
+realese run.disc 1 | there is no command realese: did you mean release? |
+umount run.disc | there is no command umount: did you mean mount? |
+eject run.disc | there is no command eject |
 --quiet mount run.disc | there is no option --quiet |
 mount --quick run.disc | mount has no option --quick | mount
 commit run.disc -f | commit has no option -f | commit

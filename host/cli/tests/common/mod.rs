@@ -3,7 +3,7 @@
 // Each test file uses its own part of these.
 #![allow(dead_code)]
 
-use std::collections::BTreeMap;
+use std::collections::{BTreeMap, BTreeSet};
 use std::env;
 use std::fs;
 use std::io::{ErrorKind, Write};
@@ -12,6 +12,7 @@ use std::os::unix::process::CommandExt;
 use std::path::{Path, PathBuf};
 use std::process::{self, Command, Stdio};
 use std::sync::atomic::{AtomicUsize, Ordering};
+use std::sync::Mutex;
 
 use station::SECTOR;
 
@@ -24,6 +25,15 @@ pub const EXAMPLE_LISTING: &str = "   k   block  size  used
    2       1     1     1
 clean
 ";
+
+/// The proved listing program; `rt check list` makes it.
+const PROVED_LISTING: &str = concat!(env!("CARGO_MANIFEST_DIR"), "/../../target/bin/list");
+
+/// Bytes of a disc file of 31 sectors, the most that it takes.
+const MOST_LISTED: usize = 9 + 31 + 1 + 31 * SECTOR;
+
+/// The discs that both have listed.
+static LISTED: Mutex<BTreeSet<Vec<u8>>> = Mutex::new(BTreeSet::new());
 
 /// A temporary folder, removed with all that it holds.
 pub struct Folder(pub PathBuf);
@@ -67,7 +77,40 @@ impl Folder {
     pub fn run_with(&self, line: &str, input: &[u8]) -> Told {
         let mut command = Command::new(STATION);
         command.args(line.split_whitespace()).current_dir(&self.0);
-        finish(&mut command, input)
+        let told = finish(&mut command, input);
+        self.hold_listings_together();
+        told
+    }
+
+    /// The program's listing of each disc here that the proved listing program
+    /// takes is the same as that program's.
+    fn hold_listings_together(&self) {
+        for bytes in self.small_discs() {
+            let new = LISTED.lock().map(|mut seen| seen.insert(bytes.clone()));
+            if new.unwrap_or(true) {
+                // A copy: a command at the same time may change the disc.
+                let copy = Folder::new();
+                copy.put("copy.disc", &bytes);
+                let mut command = Command::new(STATION);
+                command.args(["list", "copy.disc"]).current_dir(&copy.0);
+                let told = finish(&mut command, b"");
+                let proved = finish(&mut Command::new(PROVED_LISTING), &bytes);
+                assert_eq!(told.out, proved.out);
+            }
+        }
+    }
+
+    /// What files with a disc's name hold, if they are not longer than a disc of
+    /// 31 sectors.
+    fn small_discs(&self) -> Vec<Vec<u8>> {
+        let entries = fs::read_dir(&self.0).expect("the folder");
+        let paths = entries.filter_map(|entry| Some(entry.ok()?.path()));
+        let discs = paths.filter(|path| path.extension().is_some_and(|end| end == "disc"));
+        let small = |path: &PathBuf| {
+            fs::metadata(path).is_ok_and(|about| about.len() <= MOST_LISTED as u64)
+        };
+        let read = discs.filter(small).map(fs::read);
+        read.filter_map(Result::ok).collect()
     }
 
     pub fn run(&self, line: &str) -> Told {

@@ -1,0 +1,188 @@
+//! The commands of the program `station`, each as an operator runs it, beside a
+//! copy of the same disc file.
+
+use std::env;
+use std::fs::{self, File};
+use std::io::{self, Write};
+use std::path::{Path, PathBuf};
+use std::process::{self, Command, Stdio};
+use std::time::{Duration, Instant};
+
+use station::{LEDGER, LIMIT, SECTOR};
+
+use crate::report::thousands;
+
+/// How often each command is run: as often as half of the smallest disc allows.
+const ROUNDS: usize = 25;
+
+/// Copies come last: they leave the disk much to write.
+const COPIES: usize = 5;
+const COPY: &str = "`cp` of the disc file";
+
+/// The lines of one round, in order, with what a row calls them. A disc is mounted
+/// after a look back and after a cut, and saved before a mount that is to find it
+/// clean.
+const LINES: [(&str, &str); 15] = [
+    ("new", "new blank.disc SECTORS"),
+    ("begin, blank disc", "begin blank.disc"),
+    ("write, after a mount", "write run.disc 0 --from block"),
+    ("write, packet open", "write run.disc 1 --from block"),
+    ("release", "release run.disc 2"),
+    ("", "write run.disc 2 --from block"),
+    ("close", "close run.disc"),
+    ("commit, after a close", "commit run.disc"),
+    ("commit, packet open", "commit run.disc"),
+    ("read", "read run.disc 7 --to /dev/null"),
+    ("look-back 1", "look-back run.disc 1"),
+    ("list", "list run.disc"),
+    ("mount, clean", "mount run.disc"),
+    ("cut 0 commit", "cut 0 commit run.disc"),
+    ("", "mount run.disc"),
+];
+
+pub const HOW: &str = "\
+Each command is the whole program, from its start to its end, on a disc that is half full, with 458 numbers in use; the file is in
+memory from the round before. Milliseconds, minimum and median of 25 rounds, each on the three discs in turn; then 5 copies of each disc file by `cp`,
+which flushes nothing. `list` shows between 4 and 52 saves.
+";
+
+/// A row of the table, with the times of each size.
+struct Row {
+    name: &'static str,
+    times: Vec<Vec<Duration>>,
+}
+
+/// Runs the commands on discs of these sizes, in turn, so that other work on the
+/// machine strikes all alike; and prints the table.
+pub fn run(program: &Path, sizes: &[usize]) -> io::Result<()> {
+    let discs = sizes.iter().map(|sectors| Disc::half_full(*sectors));
+    let discs: Vec<Disc> = discs.collect::<io::Result<_>>()?;
+    let named = LINES.iter().filter(|(name, _)| !name.is_empty());
+    let names = named.map(|(name, _)| *name).chain([COPY]);
+    let times = vec![Vec::new(); sizes.len()];
+    let row = |name| Row {
+        name,
+        times: times.clone(),
+    };
+    let mut rows: Vec<Row> = names.map(row).collect();
+    for _ in 0..ROUNDS {
+        for (place, disc) in discs.iter().enumerate() {
+            disc.round(program, |name, took| note(&mut rows, name, place, took))?;
+        }
+    }
+    for _ in 0..COPIES {
+        for (place, disc) in discs.iter().enumerate() {
+            note(&mut rows, COPY, place, disc.copy()?);
+        }
+    }
+    println!("{HOW}\n{}", table(&rows, sizes));
+    Ok(())
+}
+
+fn note(rows: &mut [Row], name: &str, place: usize, took: Duration) {
+    let row = rows.iter_mut().find(|row| row.name == name);
+    if let Some(row) = row {
+        row.times[place].push(took);
+    }
+}
+
+/// A disc in a folder of its own, which is removed with all that it holds.
+struct Disc {
+    folder: PathBuf,
+    sectors: usize,
+}
+
+impl Disc {
+    fn half_full(sectors: usize) -> io::Result<Disc> {
+        let name = format!("station-commands-{}-{sectors}", process::id());
+        let folder = env::temp_dir().join(name);
+        fs::create_dir(&folder)?;
+        let disc = Disc { folder, sectors };
+        store_half_full(&disc.folder, sectors)?;
+        Ok(disc)
+    }
+
+    fn round(&self, program: &Path, mut note: impl FnMut(&str, Duration)) -> io::Result<()> {
+        for (name, line) in LINES {
+            let line = line.replace("SECTORS", &self.sectors.to_string());
+            let mut command = Command::new(program);
+            note(name, timed(command.args(line.split(' ')), &self.folder)?);
+        }
+        fs::remove_file(self.folder.join("blank.disc"))?;
+        fs::remove_file(self.folder.join("blank.disc.ledger"))
+    }
+
+    fn copy(&self) -> io::Result<Duration> {
+        let mut copy = Command::new("cp");
+        let took = timed(copy.args(["run.disc", "copy.disc"]), &self.folder)?;
+        fs::remove_file(self.folder.join("copy.disc"))?;
+        Ok(took)
+    }
+}
+
+impl Drop for Disc {
+    fn drop(&mut self) {
+        // The figures were taken; what cannot be removed does no harm.
+        let _ = fs::remove_dir_all(&self.folder);
+    }
+}
+
+fn timed(command: &mut Command, folder: &Path) -> io::Result<Duration> {
+    command.current_dir(folder).stdout(Stdio::null());
+    let start = Instant::now();
+    let status = command.status()?;
+    let took = start.elapsed();
+    match status.success() {
+        true => Ok(took),
+        false => Err(io::Error::other(format!("{command:?}: {status}"))),
+    }
+}
+
+/// A disc whose first half is recorded: all numbers written, over and over, and
+/// saved twice; its ledger; and a block.
+fn store_half_full(folder: &Path, sectors: usize) -> io::Result<()> {
+    let (mut image, mut kinds) = (vec![0; sectors * SECTOR], vec![0; sectors]);
+    let mut ledger = [0; LEDGER];
+    let refused = |refusal: station::Refusal| io::Error::other(refusal.to_string());
+    station::begin(&image, &kinds, &mut ledger).map_err(refused)?;
+    let half = sectors / 2;
+    for v in (0..LIMIT).cycle().take(half - 2) {
+        station::write(&mut image, &mut kinds, &mut ledger, v, &[0x5A; SECTOR]).map_err(refused)?;
+    }
+    for _ in 0..2 {
+        station::commit(&mut image, &mut kinds, &mut ledger).map_err(refused)?;
+    }
+    let digits: Vec<u8> = kinds.iter().map(|kind| kind + b'0').collect();
+    let mut file = File::create(folder.join("run.disc"))?;
+    file.write_all(format!("{sectors:8}\n").as_bytes())?;
+    file.write_all(&digits)?;
+    file.write_all(b"\n")?;
+    file.write_all(&image[..half * SECTOR])?;
+    file.set_len((9 + sectors + 1 + image.len()) as u64)?;
+    file.sync_all()?;
+    fs::write(folder.join("run.disc.ledger"), ledger)?;
+    fs::write(folder.join("block"), [0xC3; SECTOR])
+}
+
+fn table(rows: &[Row], sizes: &[usize]) -> String {
+    let heads: Vec<String> = sizes
+        .iter()
+        .map(|sectors| format!(" {}: least | median |", thousands(*sectors)))
+        .collect();
+    let mut text = format!(
+        "| command |{}\n|---|{}\n",
+        heads.concat(),
+        "--:|".repeat(2 * sizes.len())
+    );
+    for row in rows {
+        text += &format!("| {} |", row.name);
+        for times in &row.times {
+            let mut sorted = times.clone();
+            sorted.sort();
+            let told = |time: Duration| format!(" {:.1} |", time.as_secs_f64() * 1000.0);
+            text += &(told(sorted[0]) + &told(sorted[sorted.len() / 2]));
+        }
+        text.push('\n');
+    }
+    text
+}

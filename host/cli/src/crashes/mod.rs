@@ -1,0 +1,245 @@
+//! A crash of the program or of the computer, at any moment: what it leaves is
+//! what document 01 lets a power cut leave.
+
+mod judge;
+mod noted;
+
+use std::cell::RefCell;
+use std::env;
+use std::ffi::OsString;
+use std::fs::{self, File};
+use std::path::PathBuf;
+use std::process;
+use std::rc::Rc;
+use std::sync::atomic::{AtomicUsize, Ordering};
+
+use station::{LEDGER, SECTOR};
+use station_model::answer::Answer;
+use station_model::book::{Ending, Fed, History};
+use station_model::calls::Call;
+
+use crate::commands::run;
+use crate::form::Disc;
+use crate::surroundings::Surroundings;
+use noted::{states, Noted, State, Step, Steps};
+
+static DESKS: AtomicUsize = AtomicUsize::new(0);
+
+/// A folder with one disc, on which commands are run, and the book of them.
+struct Desk {
+    folder: PathBuf,
+    book: History,
+    /// How many states were judged.
+    judged: usize,
+}
+
+/// A command line, the call that it makes, and whether it is cut.
+struct Event {
+    line: &'static str,
+    call: Call,
+    cut: bool,
+}
+
+const fn event(line: &'static str, call: Call) -> Event {
+    let cut = false;
+    Event { line, call, cut }
+}
+
+const fn cut(line: &'static str, call: Call) -> Event {
+    let cut = true;
+    Event { line, call, cut }
+}
+
+impl Desk {
+    /// A disc of so many sectors, of which some are recorded: written as number
+    /// 0, after a save of nothing, and not saved. Blank sectors hold bytes that no
+    /// call records, so that each piece of a sector makes a difference.
+    fn new(sectors: usize, recorded: usize) -> Desk {
+        let number = DESKS.fetch_add(1, Ordering::Relaxed);
+        let folder = env::temp_dir().join(format!("station-crash-{}-{number}", process::id()));
+        fs::create_dir(&folder).expect("a new folder");
+        let mut desk = Desk {
+            folder,
+            book: History::begun(),
+            judged: 0,
+        };
+        let (mut image, mut kinds) = (vec![0xEE; sectors * SECTOR], vec![0; sectors]);
+        let mut ledger = [0; LEDGER];
+        station::begin(&image, &kinds, &mut ledger).expect("begin");
+        for place in 0..recorded {
+            let (call, made) = match place {
+                0 => {
+                    let made = station::commit(&mut image, &mut kinds, &mut ledger);
+                    (Call::Commit, made)
+                }
+                _ => {
+                    let made = station::write(&mut image, &mut kinds, &mut ledger, 0, &BLOCK);
+                    (Call::Write(0), made)
+                }
+            };
+            desk.feed(call, Ending::Answered(Answer::done(made.expect("done"))));
+        }
+        let digits: String = kinds.iter().map(u8::to_string).collect();
+        let mut file = format!("{sectors:8}\n{digits}\n").into_bytes();
+        file.extend(image);
+        fs::write(desk.path("run.disc"), file).expect("a disc");
+        fs::write(desk.path("run.disc.ledger"), ledger).expect("a ledger");
+        desk
+    }
+
+    fn path(&self, name: &str) -> PathBuf {
+        self.folder.join(name)
+    }
+
+    fn feed(&mut self, call: Call, ending: Ending) {
+        feed(&mut self.book, call, ending);
+    }
+
+    fn state(&self) -> State {
+        State {
+            disc: fs::read(self.path("run.disc")).expect("the disc"),
+            ledger: fs::read(self.path("run.disc.ledger")).ok(),
+        }
+    }
+
+    /// Runs a command line, and gives its steps.
+    fn run(&self, line: &str) -> Vec<Step> {
+        let in_folder = |word: &str| match word {
+            "run.disc" => self.path(word).into_os_string(),
+            _ => word.into(),
+        };
+        let words: Vec<OsString> = line.split_whitespace().map(in_folder).collect();
+        let steps: Steps = Rc::new(RefCell::new(Vec::new()));
+        let noted = steps.clone();
+        let mut around = Surroundings {
+            input: &mut &BLOCK[..],
+            output: &mut Vec::new(),
+            disk: &move |files| {
+                let steps = noted.clone();
+                Box::new(Noted { files, steps })
+            },
+        };
+        let done = run(&words, &mut around);
+        done.unwrap_or_else(|failure| panic!("{line}: {failure}"));
+        let steps = steps.borrow();
+        steps.clone()
+    }
+
+    /// Runs a command, and judges every state that a crash in it can leave.
+    fn take(&mut self, event: &Event) {
+        let before = self.state();
+        let steps = self.run(event.line);
+        let after = self.state();
+        let (old, new) = (self.disc_of(&before), self.disc_of(&after));
+        let mut whole = self.book.clone();
+        let recorded = judge::recorded(&new) as u32;
+        let ending = match event.cut {
+            true => Ending::Cut { vat_kept: false },
+            false => Ending::Answered(Answer::done(recorded.saturating_sub(1))),
+        };
+        feed(&mut whole, event.call, ending);
+        let left = states(&before, &steps);
+        assert!(left.contains(&after), "the last state is the command's");
+        for state in &left {
+            let disc = self.disc_of(state);
+            judge::is_a_cut(&disc, &old, &new);
+            judge::ledger_is_safe((state, &disc), (&before, &old), (&after, &new));
+            let vat_kept = !event.cut && judge::recorded(&disc) == recorded as usize;
+            let mut book = self.book.clone();
+            feed(&mut book, event.call, Ending::Cut { vat_kept });
+            judge::shows_the_book(&disc, &book);
+            judge::lists_as_proved(state, &disc);
+        }
+        self.judged += left.len();
+        self.book = whole;
+    }
+
+    /// The disc in a file of its own, as a command would load it.
+    fn disc_of(&self, state: &State) -> Disc {
+        let path = self.path("left.disc");
+        // Another file each time: one that is loaded stays as it is.
+        let _ = fs::remove_file(&path);
+        fs::write(&path, &state.disc).expect("a copy");
+        let file = File::open(&path).expect("the copy");
+        Disc::load(&file, &path).unwrap_or_else(|failure| panic!("{failure}"))
+    }
+}
+
+impl Drop for Desk {
+    fn drop(&mut self) {
+        // What cannot be removed does no harm.
+        let _ = fs::remove_dir_all(&self.folder);
+    }
+}
+
+const BLOCK: [u8; SECTOR] = [0xC3; SECTOR];
+
+fn feed(book: &mut History, call: Call, ending: Ending) {
+    let written = matches!(call, Call::Write(_)).then_some(&BLOCK[..]);
+    book.feed(&Fed {
+        call,
+        written,
+        ending,
+    });
+}
+
+#[test]
+fn every_state_of_every_command() {
+    let mut desk = Desk::new(60, 0);
+    let events = [
+        event("write run.disc 0", Call::Write(0)),
+        event("commit run.disc", Call::Commit),
+        event("write run.disc 1", Call::Write(1)),
+        event("release run.disc 0", Call::Release(0)),
+        event("commit run.disc", Call::Commit),
+        event("close run.disc", Call::ClosePacket),
+        event("commit run.disc", Call::Commit),
+        event("look-back run.disc 2", Call::LookBack(2)),
+        event("read run.disc 0", Call::Read(0)),
+        event("list run.disc", Call::Read(0)),
+        event("mount run.disc", Call::Mount),
+        event("write run.disc 0", Call::Write(0)),
+        cut("cut 0 --torn commit run.disc", Call::Commit),
+        event("mount run.disc", Call::Mount),
+        cut("cut 3 --torn write run.disc 0", Call::Write(0)),
+        event("mount run.disc", Call::Mount),
+        cut("cut 5 commit run.disc", Call::Commit),
+        event("mount run.disc", Call::Mount),
+        event("commit run.disc", Call::Commit),
+    ];
+    for event in &events {
+        desk.take(event);
+    }
+    println!("{} states judged", desk.judged);
+    assert!(desk.judged > 250, "{}", desk.judged);
+    assert_eq!(desk.book.pages.len(), 4);
+}
+
+/// The digits of a call's eight sectors lie across two pieces of 512 bytes: the
+/// digit of block 503 is the first of the second piece.
+#[test]
+fn digits_across_two_pieces() {
+    for recorded in 494..505 {
+        for line in ["commit run.disc", "write run.disc 0"] {
+            let mut desk = Desk::new(540, recorded);
+            desk.take(&event("close run.disc", Call::ClosePacket));
+            let call = if line.starts_with('c') {
+                Call::Commit
+            } else {
+                Call::Write(0)
+            };
+            desk.take(&event(line, call));
+            desk.take(&event("commit run.disc", Call::Commit));
+        }
+    }
+}
+
+/// Before the first save: begin is done whatever is left.
+#[test]
+fn the_first_write_of_a_disc() {
+    let mut desk = Desk::new(31, 0);
+    desk.take(&event("begin run.disc", Call::Begin));
+    desk.take(&event("write run.disc 0", Call::Write(0)));
+    desk.take(&event("begin run.disc", Call::Begin));
+    desk.take(&event("write run.disc 0", Call::Write(0)));
+}

@@ -1,0 +1,20 @@
+//! What is around a command: where a block comes from, where answers go, and the
+//! disk that keeps its files.
+
+use std::io::{Read, Write};
+
+use crate::disk::{Disk, Files};
+use crate::failure::{Done, Failure};
+
+/// Of the terminal and the computer; the demo has its own streams.
+pub struct Surroundings<'a> {
+    pub input: &'a mut dyn Read,
+    pub output: &'a mut dyn Write,
+    pub disk: &'a dyn Fn(Files) -> Box<dyn Disk>,
+}
+
+/// Writes to standard output.
+pub fn say(around: &mut Surroundings, text: impl AsRef<[u8]>) -> Done {
+    let written = around.output.write_all(text.as_ref());
+    written.map_err(Failure::Output)
+}

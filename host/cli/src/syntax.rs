@@ -1,0 +1,54 @@
+//! The words of each command: its name, operands and options, with its help.
+
+use crate::help;
+
+pub struct Syntax {
+    pub name: &'static str,
+    pub operands: &'static [&'static str],
+    /// Each option, and whether a value follows it.
+    pub options: &'static [(&'static str, bool)],
+    /// Whether the words behind the operands belong to another command.
+    pub takes_command: bool,
+    pub help: &'static str,
+}
+
+/// A command of a disc and perhaps a number, without options.
+const fn plain(
+    name: &'static str,
+    operands: &'static [&'static str],
+    help: &'static str,
+) -> Syntax {
+    Syntax {
+        name,
+        operands,
+        options: &[],
+        takes_command: false,
+        help,
+    }
+}
+
+pub static NEW: Syntax = plain("new", &["DISC", "SECTORS"], help::NEW);
+pub static BEGIN: Syntax = plain("begin", &["DISC"], help::BEGIN);
+pub static MOUNT: Syntax = plain("mount", &["DISC"], help::MOUNT);
+pub static WRITE: Syntax = Syntax {
+    options: &[("--from", true), ("--pad", false)],
+    ..plain("write", &["DISC", "V"], help::WRITE)
+};
+pub static RELEASE: Syntax = plain("release", &["DISC", "V"], help::RELEASE);
+pub static CLOSE: Syntax = plain("close", &["DISC"], help::CLOSE);
+pub static COMMIT: Syntax = plain("commit", &["DISC"], help::COMMIT);
+pub static READ: Syntax = Syntax {
+    options: &[("--to", true)],
+    ..plain("read", &["DISC", "V"], help::READ)
+};
+pub static LOOK_BACK: Syntax = plain("look-back", &["DISC", "K"], help::LOOK_BACK);
+pub static LIST: Syntax = plain("list", &["DISC"], help::LIST);
+pub static CUT: Syntax = Syntax {
+    options: &[("--torn", false)],
+    takes_command: true,
+    ..plain("cut", &["J", "COMMAND"], help::CUT)
+};
+pub static DEMO: Syntax = Syntax {
+    options: &[("--keep", true)],
+    ..plain("demo", &[], help::DEMO)
+};

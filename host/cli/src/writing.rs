@@ -1,0 +1,67 @@
+//! The two calls that record, write and commit, up to what is to be kept of them:
+//! all, or what a cut leaves.
+
+use std::ffi::OsStr;
+use std::fs::{self, File};
+use std::path::Path;
+
+use station::SECTOR;
+
+use crate::advice;
+use crate::arguments::Arguments;
+use crate::failure::Failure;
+use crate::files::read_at_most;
+use crate::session::Session;
+use crate::surroundings::Surroundings;
+
+/// The block for a write, and where it is to go.
+pub struct Writing {
+    v: u32,
+    block: Vec<u8>,
+}
+
+impl Writing {
+    /// Reads the block. One byte too many says that it is longer, and the core
+    /// then answers 2 as it does for one that is shorter.
+    pub fn of(given: &Arguments, around: &mut Surroundings) -> Result<Writing, Failure> {
+        let v = given.number(1)?;
+        // Nobody is to type a block for a disc that is not there.
+        let disc = given.path(0);
+        fs::metadata(disc).map_err(|error| Failure::unreadable(disc, error))?;
+        let mut block = match given.value("--from").filter(|file| !is_stream(file)) {
+            Some(file) => {
+                let opened = File::open(file);
+                let read = opened.and_then(|mut file| read_at_most(&mut file, SECTOR + 1));
+                read.map_err(|error| Failure::unreadable(Path::new(file), error))?
+            }
+            None => {
+                let read = read_at_most(around.input, SECTOR + 1);
+                read.map_err(|error| Failure::unreadable(Path::new("standard input"), error))?
+            }
+        };
+        if given.has("--pad") && block.len() < SECTOR {
+            block.resize(SECTOR, 0);
+        }
+        Ok(Writing { v, block })
+    }
+
+    /// The block recorded.
+    pub fn record(&self, session: &mut Session) -> Result<u32, Failure> {
+        let (image, kinds) = session.disc.lent_to_record();
+        let block = &self.block;
+        station::write(image, kinds, &mut session.ledger, self.v, block)
+            .map_err(|refusal| Failure::Refused(refusal, advice::of_write(refusal, block)))
+    }
+}
+
+/// The table's block.
+pub fn record_table(session: &mut Session) -> Result<u32, Failure> {
+    let (image, kinds) = session.disc.lent_to_record();
+    let table = station::commit(image, kinds, &mut session.ledger)?;
+    Ok(table)
+}
+
+/// `-` as a file's name means the stream.
+pub fn is_stream(file: &OsStr) -> bool {
+    file == "-"
+}

@@ -1,0 +1,310 @@
+//! The program stopped at each of its system calls that write, and the same calls
+//! failing as on a full disk: what is left is what a power cut may leave.
+
+mod common;
+
+use std::collections::BTreeMap;
+use std::fs;
+use std::io::Write;
+use std::os::unix::process::ExitStatusExt;
+use std::path::PathBuf;
+use std::process::{Command, Stdio};
+
+use common::{disc_file, Folder, STATION};
+use station::{LEDGER, SECTOR};
+
+/// Every call by which the program, or a library below it, could change a file. A
+/// question mark says that a machine may be without it.
+const WRITING: [&str; 15] = [
+    "write",
+    "pwrite64",
+    "writev",
+    "?pwritev",
+    "fdatasync",
+    "fsync",
+    "?rename",
+    "renameat",
+    "?renameat2",
+    "?unlink",
+    "unlinkat",
+    "ftruncate",
+    "fallocate",
+    "fchmod",
+    "msync",
+];
+
+const KILLED: &str = "signal=KILL";
+const DISK_FULL: &str = "error=ENOSPC";
+
+/// How the program ended: killed, or with an exit status.
+#[derive(Debug, PartialEq)]
+enum End {
+    Killed,
+    Status(i32),
+}
+
+/// Runs the line, and at the nth of these calls the program meets the fate.
+fn run_traced(folder: &Folder, line: &str, call: &str, nth: usize, fate: &str) -> End {
+    let fate = format!("inject={call}:{fate}:when={nth}");
+    run_strace(folder, line, &["-e", &format!("trace={call}"), "-e", &fate]).0
+}
+
+/// Runs the line under strace with these options; the end, and what was traced.
+fn run_strace(folder: &Folder, line: &str, options: &[&str]) -> (End, String) {
+    let mut command = Command::new("strace");
+    command.args(["-qq", "-o", "trace"]).args(options);
+    command.arg(STATION).args(line.split_whitespace());
+    command.current_dir(&folder.0);
+    command.stdin(Stdio::piped()).stdout(Stdio::null());
+    let child = command.stderr(Stdio::piped()).spawn();
+    let mut child = child.unwrap_or_else(|error| panic!("strace does not start: {error}"));
+    let mut input = child.stdin.take().expect("a pipe");
+    let _ = input.write_all(&[0xC3; SECTOR]);
+    drop(input);
+    let output = child.wait_with_output().expect("an end");
+    let told = String::from_utf8_lossy(&output.stderr);
+    assert!(!told.contains("strace:"), "strace cannot trace: {told}");
+    let traced = fs::read_to_string(folder.path("trace")).expect("what was traced");
+    fs::remove_file(folder.path("trace")).expect("what was traced");
+    let end = match (output.status.code(), output.status.signal()) {
+        (Some(status), _) => End::Status(status),
+        (None, signal) => {
+            assert_eq!(signal, Some(9), "{told}");
+            End::Killed
+        }
+    };
+    (end, traced)
+}
+
+/// Disc and ledger, and what is shown of them.
+struct Known {
+    disc: Vec<u8>,
+    ledger: Option<Vec<u8>>,
+    shown: Vec<String>,
+}
+
+impl Known {
+    fn of(folder: &Folder) -> Known {
+        let start = folder.files();
+        let known = Known {
+            disc: folder.bytes("run.disc"),
+            ledger: fs::read(folder.path("run.disc.ledger")).ok(),
+            shown: shown(folder),
+        };
+        restore(folder, &start);
+        known
+    }
+
+    /// The digits of the kinds, and where the image starts.
+    fn kinds(&self) -> (&[u8], usize) {
+        let line = self.disc[9..].split(|byte| *byte == b'\n').next();
+        let digits = line.expect("a line");
+        (digits, 9 + digits.len() + 1)
+    }
+
+    fn recorded(&self) -> usize {
+        let (digits, _) = self.kinds();
+        digits.iter().take_while(|digit| **digit != b'0').count()
+    }
+}
+
+/// What a mount, a listing, two reads and a look back say, but for whether
+/// something stands behind the newest save. Where there is none, reads would show
+/// what is not saved.
+fn shown(folder: &Folder) -> Vec<String> {
+    let lines = "mount run.disc;list run.disc;read run.disc 0;read run.disc 1;\
+                 look-back run.disc 1;read run.disc 0";
+    let mut shown = Vec::new();
+    for line in lines.split(';') {
+        let told = folder.run(line.trim());
+        let text = String::from_utf8_lossy(&told.out);
+        let text = text.replace("clean", "").replace("dirty", "");
+        shown.push(format!("{} {text}{}", told.status, told.err));
+        if told.status == 7 && line.starts_with("list") {
+            break;
+        }
+    }
+    shown
+}
+
+fn restore(folder: &Folder, files: &BTreeMap<PathBuf, Vec<u8>>) {
+    for path in folder.files().keys() {
+        fs::remove_file(path).expect("a file");
+    }
+    for (path, bytes) in files {
+        fs::write(path, bytes).expect("a file as it was");
+    }
+}
+
+/// "A cut keeps the first j of them": the disc is such a one, its ledger fits or
+/// is refused, and what is shown is the last finished save.
+fn judge(folder: &Folder, line: &str, before: &Known, after: &Known) {
+    let left = Known::of(folder);
+    let kept = left.recorded();
+    assert!((before.recorded()..=after.recorded()).contains(&kept));
+    let ((digits, image), (all, _)) = (left.kinds(), after.kinds());
+    assert_eq!(digits[..kept], all[..kept], "{line}");
+    assert!(digits[kept..].iter().all(|digit| *digit == b'0'));
+    for block in (0..kept).filter(|block| digits[*block] == b'1') {
+        let place = image + block * SECTOR;
+        let bytes = place..place + SECTOR;
+        assert!(left.disc[bytes.clone()] == after.disc[bytes], "{line}");
+    }
+    let whole = kept == after.recorded();
+    if left.ledger == before.ledger && kept > before.recorded() {
+        assert_eq!(folder.run("read run.disc 1").status, 4, "{line}");
+    } else if left.ledger != before.ledger {
+        assert!(left.ledger == after.ledger, "{line}");
+        assert!(whole || left.ledger.is_none(), "{line}: a ledger ahead");
+    }
+    let saved = whole && line.starts_with("commit");
+    let expected = if saved { &after.shown } else { &before.shown };
+    assert_eq!(&left.shown, expected, "{line}");
+}
+
+/// Stops the line at each call of each name, from the same files; how often.
+fn stop_everywhere(folder: &Folder, line: &str, fate: &str) -> usize {
+    let start = folder.files();
+    let before = Known::of(folder);
+    folder.done_with(line, &[0xC3; SECTOR]);
+    let after = Known::of(folder);
+    let mut stopped = 0;
+    for call in WRITING {
+        for nth in 1.. {
+            restore(folder, &start);
+            let end = run_traced(folder, line, call, nth, fate);
+            judge(folder, line, &before, &after);
+            let names = folder.names();
+            let parts = names.iter().filter(|name| name.ends_with(".part")).count();
+            match end {
+                End::Status(0) => break,
+                End::Status(status) => {
+                    assert!([73, 74].contains(&status) && parts == 0, "{line}: {status}");
+                }
+                End::Killed => assert!(parts <= 1, "{line}"),
+            }
+            stopped += 1;
+        }
+    }
+    restore(folder, &start);
+    stopped
+}
+
+/// The names of the calls that write, in order, of a line that is done.
+fn calls_of(folder: &Folder, line: &str) -> Vec<String> {
+    let all = format!("trace={}", WRITING.join(","));
+    let (end, traced) = run_strace(folder, line, &["-e", &all]);
+    assert_eq!(end, End::Status(0), "{line}");
+    let names = traced.lines().filter_map(|call| call.split('(').next());
+    // The name of the call by which the library renames is its own affair.
+    let one_name = |name: &str| match name.starts_with("rename") {
+        true => "rename".into(),
+        false => name.into(),
+    };
+    names.map(one_name).collect()
+}
+
+/// Bytes, flush, digits, flush; around it the ledger, made before and named after.
+#[test]
+fn the_order_of_the_medium() {
+    let folder = Folder::example();
+    let ledger = ["write", "fchmod", "fsync"];
+    let recorded = ["pwrite64", "fdatasync", "pwrite64", "fdatasync"];
+    let named = ["rename", "fsync", "write"];
+    for line in ["write run.disc 0", "commit run.disc"] {
+        let whole = [&ledger[..], &recorded, &named].concat();
+        assert_eq!(calls_of(&folder, line), whole, "{line}");
+    }
+    for line in ["close run.disc", "mount run.disc"] {
+        let alone = [&ledger[..], &named].concat();
+        assert_eq!(calls_of(&folder, line), alone, "{line}");
+    }
+    assert_eq!(calls_of(&folder, "read run.disc 1"), ["write"]);
+}
+
+/// The command lines, each on the example with its packet closed.
+const LINES: [(&str, usize); 8] = [
+    ("write run.disc 0", 9),
+    ("commit run.disc", 9),
+    ("mount run.disc", 5),
+    ("release run.disc 1", 5),
+    ("close run.disc", 5),
+    ("look-back run.disc 1", 5),
+    ("cut 3 --torn commit run.disc", 5),
+    ("cut 8 write run.disc 0", 6),
+];
+
+#[test]
+fn killed_at_each_call_that_writes() {
+    let folder = Folder::example();
+    folder.done("close run.disc");
+    for (line, least) in LINES {
+        let stopped = stop_everywhere(&folder, line, KILLED);
+        assert!(stopped >= least, "{line}: killed {stopped} times");
+    }
+}
+
+#[test]
+fn killed_before_the_first_save() {
+    let folder = Folder::begun(31);
+    for (line, least) in [("begin run.disc", 5), ("write run.disc 0", 9)] {
+        let stopped = stop_everywhere(&folder, line, KILLED);
+        assert!(stopped >= least, "{line}: killed {stopped} times");
+    }
+    folder.done_with("write run.disc 0", &[7; SECTOR]);
+    let stopped = stop_everywhere(&folder, "commit run.disc", KILLED);
+    assert!(stopped >= 9, "killed {stopped} times");
+}
+
+#[test]
+fn each_call_that_writes_meets_a_full_disk() {
+    let folder = Folder::example();
+    folder.done("close run.disc");
+    for (line, least) in LINES {
+        let stopped = stop_everywhere(&folder, line, DISK_FULL);
+        assert!(stopped >= least - 1, "{line}: failed {stopped} times");
+    }
+}
+
+/// The digits of these eight sectors lie across two pieces of 512 bytes of the
+/// file, and take two writes.
+#[test]
+fn killed_between_the_digits() {
+    let (mut image, mut kinds) = (vec![0; 540 * SECTOR], vec![0; 540]);
+    let mut ledger = [0; LEDGER];
+    station::begin(&image, &kinds, &mut ledger).expect("begin");
+    for v in [0, 1] {
+        let block = [v as u8; SECTOR];
+        station::write(&mut image, &mut kinds, &mut ledger, v, &block).expect("write");
+        station::commit(&mut image, &mut kinds, &mut ledger).expect("commit");
+    }
+    for _ in 4..500 {
+        station::write(&mut image, &mut kinds, &mut ledger, 0, &[9; SECTOR]).expect("write");
+    }
+    let folder = Folder::new();
+    folder.put("run.disc", &disc_file(&kinds, &image));
+    folder.put("run.disc.ledger", &ledger);
+    folder.done("close run.disc");
+    for line in ["commit run.disc", "write run.disc 0"] {
+        let stopped = stop_everywhere(&folder, line, KILLED);
+        assert!(stopped >= 11, "{line}: killed {stopped} times");
+    }
+}
+
+/// A blank disc is there whole, or its name stands for an empty file, which is no
+/// disc, or for none.
+#[test]
+fn a_new_disc_is_whole_or_none() {
+    for call in WRITING {
+        for nth in 1.. {
+            let folder = Folder::new();
+            let end = run_traced(&folder, "new run.disc 31", call, nth, KILLED);
+            let left = fs::read(folder.path("run.disc")).unwrap_or_default();
+            let blank = disc_file(&[0; 31], &[0; 31 * SECTOR]);
+            assert!(left.is_empty() || left == blank);
+            if end == End::Status(0) {
+                break;
+            }
+        }
+    }
+}
