@@ -24,7 +24,8 @@ use Rattle.recorder.specs.Calls.{Call, begin, mount, write, release, closePacke
 use Rattle.recorder.specs.Refusals.{test, first, links, target, reserve, basic, ledgerLent, blockLent, unfit, forbidden, notInUse, isSome, walked, isBroken, isEnded, tests, outcome}
 use Rattle.recorder.specs.Effects.{Effect, settles, blockReached, cleanNumber, effect, settled, after, ifDone, sectorsIf, secondNumber, sectorsOf}
 use Rattle.alike.specs.Alike.{Alike, SameCall, MeanNothing}
-use Rattle.recorder.proofs.Done.{CommitDone, mount-done, write-done, commit-done, look-back-done, walked-table, read-done, links-few}
+use Rattle.recorder.proofs.Done.{CommitDone, mount-done, write-done, commit-done, look-back-done, read-done, links-few}
+use Rattle.history.proofs.Steps.{walked-table}
 use Rattle.recorder.proofs.Sectors.{AllWhole, behind-whole}
 use Rattle.alike.proofs.Discs.{alike-puts, same-recorded, same-sized, same-order, same-blanks, same-kind, same-newest, same-map, same-walked, same-fits}
 

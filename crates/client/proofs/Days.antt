@@ -20,7 +20,7 @@ use Rattle.recorder.specs.Calls.{Call, begin, mount, lookBack, blockOf}
 use Rattle.recorder.specs.Refusals.{outcome}
 use Rattle.recorder.specs.Effects.{Effect, effect, blockReached, cleanNumber, After, left, settled, after, secondNumber}
 use Rattle.recorder.proofs.Done.{ledger-accepted, look-back-done}
-use Rattle.recorder.proofs.Done.{walked-table}
+use Rattle.history.proofs.Steps.{walked-table}
 use Rattle.client.specs.Day.{Day, ended, morning, called, goingOn, day, AllDone}
 
 -- ---- one part of a day after another

@@ -16,16 +16,17 @@ use Rattle.vat.specs.Table.{sectorLength, unused, unusedOrBelow, isTable}
 use Rattle.vat.specs.Sector.{sector}
 use Rattle.vat.proofs.Theorems.{Named, recognised, Tells, tells, ReadsBack, reads-back}
 use Rattle.disc.specs.Disc.{Disc, recorded, blanks, kindAt, sectorAt, content, Sector, puts}
-use Rattle.disc.specs.Tables.{tableAt, mapAt, newest, blockFound}
+use Rattle.disc.specs.declared.Walk.the-variants.{Reached}
+use Rattle.disc.specs.Tables.{tableAt, mapAt, previousAt, newest, blockFound}
 use Rattle.disc.proofs.Recording.{Sound, leading-le}
-use Rattle.disc.proofs.Found.{table-recorded, newest-table}
+use Rattle.disc.proofs.Found.{table-recorded, newest-table, walk-table}
 use Rattle.volume.specs.declared.Volume.{Volume}
 use Rattle.volume.specs.Volume.{idle, readOnly, unpack, pack, mapOf, begun, filled, wrote, released, closed, committed}
 use Rattle.volume.proofs.State.{Proper, unpack-pack, proper-begun, proper-filled, proper-wrote, proper-released, proper-closed, proper-committed, grownMap, map-filled, map-wrote, map-released, length-map}
 use Rattle.recorder.specs.Calls.{Call, begin, mount, write, release, closePacket, commit, read, lookBack}
-use Rattle.recorder.specs.Refusals.{links, target, walked, outcome}
+use Rattle.recorder.specs.Refusals.{links, target, walkFrom, walked, outcome}
 use Rattle.recorder.specs.Effects.{effect, blockReached, after, secondNumber, sectorsIf, sectorsOf}
-use Rattle.recorder.proofs.Done.{Fits, WriteDone, CommitDone, begin-done, mount-done, write-done, release-done, close-done, commit-done, look-back-done, walked-table}
+use Rattle.recorder.proofs.Done.{Fits, WriteDone, CommitDone, begin-done, mount-done, write-done, release-done, close-done, commit-done, look-back-done}
 use Rattle.history.specs.History.{History, Told, Fed, answered, cut, cutCommit, feed}
 use Rattle.history.specs.Events.{World, Event, calls, cuts, ledgerHeld, Follows, Torn, Allowed, cutDisc, next, told, kept, cutShort, fed}
 use Rattle.history.proofs.Log.{AllBelow, all-below-more, View, State, Step, Saved, plain-same, at, working}
@@ -151,6 +152,15 @@ mount-step w l g e =
           subst (λ (u : View). Step F (stateOf w) (answered Told.mount 0 (effect d l mount .second)) (at F d (some u))) (sym view)
           (Step.mounted (effect d l mount .second) b (facts .1 .1));
     })
+
+-- what look back reaches is a table
+pub walked-table : (d : Disc) (k t : ℕ) → walked d k ≡ Reached t → tableAt d t ≡ true
+unfolding walked
+walked-table d k t e = go (newest d) refl e
+  where
+    go : (o : Option ℕ) → newest d ≡ o → walkFrom d k o ≡ Reached t → tableAt d t ≡ true
+    go none n e = absurd (let z : _≡_ {A = ℕ} 0 1 = cc in omega arith)
+    go (some b) n e = walk-table (tableAt d) (previousAt d) k b t e (newest-table (tableAt d) (recorded d) b n)
 
 looking-view : (map : List ℕ) (b r : ℕ) → viewIs (filled map b r readOnly) .looking ≡ true
 unfolding filled

@@ -29,14 +29,14 @@ use Rattle.volume.proofs.State.{Proper, unpack-pack, proper-unpack, map-filled,
 use Rattle.recorder.specs.Calls.{Call, begin, mount, commit, lookBack}
 use Rattle.recorder.specs.Refusals.{test, ledgerLent, isSome, walkFrom, walked, isBroken, isEnded, tests, outcome, links, target}
 use Rattle.recorder.specs.Effects.{effect, blockReached, cleanNumber, after}
-use Rattle.recorder.proofs.Done.{skip, stop, none-left, skip-basic, begin-done, mount-done, CommitDone, commit-done, walked-table}
+use Rattle.recorder.proofs.Done.{skip, stop, none-left, skip-basic, begin-done, mount-done, CommitDone, commit-done}
 use Rattle.history.specs.History.{Snapshot, History, feed}
 use Rattle.history.specs.Events.{World, Event, calls, AllAllowed, next, fed, runs, remembers, shown, pageOf, afterCall, begunHistory, mountedHistory}
 use Rattle.history.specs.Claim.{Shows, DoneShowing, Mounts, Claim, PowerCuts}
 use Rattle.history.proofs.Log.{Inv, Pages, Saved, pageFrom, newest-saved, kept, walk-page, head-link, working}
 use Rattle.recorder.proofs.Sectors.{behindLinks}
 use Rattle.history.proofs.Growth.{F, names-below, behind-sound}
-use Rattle.history.proofs.Steps.{Good, GoodStep, stateOf, event-step, proper-table, tableSector, sector-long, room, save, at-target, commit-records}
+use Rattle.history.proofs.Steps.{Good, GoodStep, stateOf, event-step, walked-table, proper-table, tableSector, sector-long, room, save, at-target, commit-records}
 use Rattle.history.proofs.Shown.{shows-table}
 
 -- ---- the invariant over a list

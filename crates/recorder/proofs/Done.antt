@@ -17,13 +17,13 @@ use Rattle.vat.proofs.Theorems.{recognised}
 use Rattle.disc.specs.Disc.{Disc, sized, inOrder, recorded, blanks, kindAt, sectorAt}
 use Rattle.disc.specs.declared.Walk.{Walk}
 use Rattle.disc.specs.declared.Walk.the-variants.{Reached, Broken, Ended}
-use Rattle.disc.specs.Tables.{tableAt, previousAt, newest}
+use Rattle.disc.specs.Tables.{tableAt, newest}
 use Rattle.disc.proofs.Recording.{sized-tells, Sound, sound, sound-sized, sound-order}
-use Rattle.disc.proofs.Found.{newest-table, walk-table, sector-end, table-within}
+use Rattle.disc.proofs.Found.{sector-end, table-within}
 use Rattle.volume.specs.declared.Volume.{Volume}
 use Rattle.volume.specs.Volume.{ledgerLength, idle, packetOpen, readOnly, mapOf, unpack, isUnused, fits}
 use Rattle.recorder.specs.Calls.{Call, begin, mount, write, release, closePacket, commit, read, lookBack}
-use Rattle.recorder.specs.Refusals.{Test, test, orElse, first, linkCount, linksIf, links, target, reserve, basic, ledgerLent, blockLent, unfit, forbidden, notInUse, isSome, walkFrom, walked, isBroken, isEnded, tests, outcome}
+use Rattle.recorder.specs.Refusals.{Test, test, orElse, first, linkCount, linksIf, links, target, reserve, basic, ledgerLent, blockLent, unfit, forbidden, notInUse, isSome, walked, isBroken, isEnded, tests, outcome}
 
 -- ---- lists of tests
 
@@ -412,12 +412,3 @@ look-back-done d l k e =
     let b : Basic d (ledgerLent l) (test 7 seven ∷ test 8 eight ∷ test 9 nine ∷ []) = basic-passed d (ledgerLent l) (test 7 seven ∷ test 8 eight ∷ test 9 nine ∷ []) e in
     let e₁ : first (test 8 eight ∷ test 9 nine ∷ []) ≡ 0 = later 6 seven (test 8 eight ∷ test 9 nine ∷ []) (b .rest-passed) in
     (b .sound-disc, way-reached (walked d k) (passed 7 eight (test 9 nine ∷ []) e₁) (passed 8 nine [] (later 7 eight (test 9 nine ∷ []) e₁)))
-
--- what look back reaches is a table
-pub walked-table : (d : Disc) (k t : ℕ) → walked d k ≡ Reached t → tableAt d t ≡ true
-unfolding walked
-walked-table d k t e = go (newest d) refl e
-  where
-    go : (o : Option ℕ) → newest d ≡ o → walkFrom d k o ≡ Reached t → tableAt d t ≡ true
-    go none n e = absurd (let z : _≡_ {A = ℕ} 0 1 = cc in omega arith)
-    go (some b) n e = walk-table (tableAt d) (previousAt d) k b t e (newest-table (tableAt d) (recorded d) b n)
