@@ -1,6 +1,7 @@
 // A host program's days, on lent buffers of any length and content, proved from what the eight calls promise and from the claim about power cuts.
-// A day is some calls in a row, the first refusal ends it, and the answer is that of the last call made. The first promise of a function says just that,
-// with every byte of the disc and of the ledger; the other is what its host wants of it: what was saved is read back.
+// A day is some calls in a row, the first refusal ends it, and the answer is that of the last call made. The first promise of a function that makes such a
+// day says just that, with every byte of the disc and of the ledger; the other is what its host wants of it: what was saved is read back. The functions at
+// the end look at a disc that an earlier day left: theirs is for every such day.
 ghost use mathlib.Core.Path.{_≡_};
 ghost use mathlib.Core.Bool.{Bool, true};
 ghost use mathlib.Core.List.{List, [], _∷_};

@@ -25,6 +25,7 @@ pub data Event : Type 0 where
   calls : Call → List ℕ → Event
   cuts : Call → List ℕ → ℕ → Option (List ℕ) → Event
 
+-- What a call is lent as ledger: what the one before left, or what a lost one holds.
 abbrev pub ledgerHeld : Option (List ℕ) → List ℕ → List ℕ
 ledgerHeld none junk = junk
 ledgerHeld (some l) junk = l

@@ -45,10 +45,10 @@ readOnly = 2
 abbrev pub mapOf : Volume → List ℕ
 mapOf v = take (v .size) (v .entries)
 
--- The state fits the disc: no clause of refusal 4 applies.
 abbrev pub isUnused : ℕ → Bool
 isUnused x = eqb x unused
 
+-- The state fits the disc: no clause of refusal 4 applies.
 unfoldable pub fits : Disc → Volume → Bool
 fits d v =
     leb (v .size) limit  -- "size above 458"
