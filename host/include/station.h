@@ -22,8 +22,9 @@
  *
  * Each call answers an outcome (0 done, else a refusal) and a second number, as
  * one number: outcome * 4294967296 + second number. A refusal's second number
- * is 0, and it alters no lent byte. The lowest applicable number is given. What
- * a call may not change is lent as const.
+ * is 0, and it alters no lent byte. Each function below names its refusals in
+ * the order in which it tests for them, and the first that applies is given.
+ * What a call may not change is lent as const.
  *
  * In mode 0 with recorded above 0, write and commit first record seven link
  * sectors; of a link sector only its kind changes, to 2.
@@ -124,7 +125,7 @@ uint64_t station_mount(const uint8_t *image, size_t image_length,
  * Write number v: records one data sector with the lent block and sets entry v
  * to it. If v equals size, size grows by one. A released number below size may
  * be written again. Mode becomes 1. Second number: the block recorded. Refusals
- * 1, 2, 3, 4, 5, 12, 13, 14, 15.
+ * 1, 2, 3, 4, 5, 13, 12, 14, 15: a v at or above 458 gives 13, even above size.
  */
 uint64_t station_write(uint8_t *image, size_t image_length, uint8_t *kinds,
                        size_t kinds_length, uint8_t *ledger,

@@ -120,7 +120,8 @@ pub fn mount(image: &[u8], kinds: &[u8], ledger: &mut [u8]) -> Result<bool, Refu
 ///
 /// # Errors
 ///
-/// 1, 2, 3, 4, 5, 12, 13, 14 and 15.
+/// 1, 2, 3, 4, 5, 13, 12, 14 and 15: a v at or above 458 gives 13, even above
+/// size.
 pub fn write(
     image: &mut [u8],
     kinds: &mut [u8],

@@ -3,8 +3,9 @@
 use std::error::Error;
 use std::fmt;
 
-/// A refusal, with document 01's number. It "alters no lent byte", and the
-/// lowest applicable number is given.
+/// A refusal, with document 01's number. It "alters no lent byte". Each call
+/// names its refusals in the order in which it tests for them, and the first
+/// that applies is given.
 #[repr(u32)]
 #[derive(Clone, Copy, Debug, PartialEq, Eq, Hash, PartialOrd, Ord)]
 pub enum Refusal {

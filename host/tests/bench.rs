@@ -140,19 +140,23 @@ fn write_above_size() {
     tell_compared("write_above_size");
 }
 
-/// "Write of 458 at size 458 with space: 13."
+/// "Write of 458 at size 458 with space: 13", and 459, above size, too.
 #[test]
 fn write_at_limit() {
     let mut station = of_size(600, 458);
     assert_eq!(station.write(458, &BLOCK), refused(13));
+    assert_eq!(station.write(459, &BLOCK), refused(13));
     tell_compared("write_at_limit");
 }
 
-/// "Write of 500 at size 3: 12."
+/// Write of 500 at size 3: "a number at or above the limit gives 13, even above
+/// size" (document 02). The last number below the limit leaves a gap.
 #[test]
 fn write_above_size_and_limit() {
     let mut station = of_size(30, 3);
-    assert_eq!(station.write(500, &BLOCK), refused(12));
+    assert_eq!(station.write(500, &BLOCK), refused(13));
+    assert_eq!(station.write(458, &BLOCK), refused(13));
+    assert_eq!(station.write(457, &BLOCK), refused(12));
     tell_compared("write_above_size_and_limit");
 }
 

@@ -33,7 +33,7 @@ const CALLS: [Call; 8] = [
 ];
 
 /// All eight calls with the station's buffers at each length; a kind that no
-/// disc has, or a spoiled ledger, shows that the lower refusal is given.
+/// disc has, or a spoiled ledger, shows that the refusal tested first is given.
 fn at_each_length(station: &Station) {
     for image in lengths(station.image.len()) {
         for kinds in lengths(station.kinds.len()) {
@@ -71,14 +71,14 @@ fn lengths_of_a_disc_of_one_sector() {
 }
 
 #[test]
-fn lengths_beside_higher_refusals() {
+fn lengths_beside_later_refusals() {
     let mut unsound = saved(12);
     unsound.kinds[5] = 9;
     at_each_length(&unsound);
     let mut unfit = saved(12);
     unfit.change(|volume| volume.mode = 3);
     at_each_length(&unfit);
-    tell_compared("lengths_beside_higher_refusals");
+    tell_compared("lengths_beside_later_refusals");
 }
 
 /// Every length of the ledger and of a block up to beyond the right one.

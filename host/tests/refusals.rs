@@ -1,6 +1,7 @@
 //! "The lowest applicable number is given, never another, and none without
-//! its condition"; a refusal "alters no lent byte". Each call is made on the
-//! core and on the model, and compared.
+//! its condition", where lowest "means first in the order of tests" (document
+//! 02); a refusal "alters no lent byte". Each call is made on the core and on the
+//! model, and compared.
 
 mod common;
 
@@ -26,8 +27,8 @@ fn outcome(station: &Station, call: Call, block: &[u8]) -> u32 {
 }
 
 /// Adds the conditions of 5, 4, 3, 2 and 1, those that the call has, to the
-/// ones there are; each time the lower number is given.
-fn lower_refusals_win(mut station: Station, call: Call, block: &[u8]) {
+/// ones there are; each is tested earlier, so its number is given.
+fn earlier_refusals_win(mut station: Station, call: Call, block: &[u8]) {
     let reads_ledger = !matches!(call, Call::Begin | Call::Mount | Call::LookBack(_));
     if reads_ledger && !matches!(call, Call::Read(_)) {
         station.change(|volume| volume.mode = 2);
@@ -54,11 +55,15 @@ fn write() {
     station.kinds.pop();
     station.image.truncate(8 * SECTOR);
     assert_eq!(outcome(&station, Call::Write(0), &table), 14);
-    station.change(|volume| volume.size = 458);
-    assert_eq!(outcome(&station, Call::Write(458), &table), 13);
-    assert_eq!(outcome(&station, Call::Write(500), &table), 12);
-    assert_eq!(outcome(&station, Call::Write(NONE), &table), 12);
-    lower_refusals_win(station, Call::Write(500), &table);
+    assert_eq!(outcome(&station, Call::Write(1), &table), 12);
+    assert_eq!(outcome(&station, Call::Write(457), &table), 12);
+    for size in [0, 457, 458] {
+        station.change(|volume| volume.size = size);
+        for v in [458, 459, 500, NONE] {
+            assert_eq!(outcome(&station, Call::Write(v), &table), 13);
+        }
+    }
+    earlier_refusals_win(station, Call::Write(500), &table);
     tell_compared("write");
 }
 
@@ -90,7 +95,7 @@ fn release_and_read() {
     assert_eq!(station.call(Call::Release(0)), done(0));
     for call in [Call::Release(0), Call::Read(0)] {
         assert_eq!(outcome(&station, call, &BLOCK), 10);
-        lower_refusals_win(station.clone(), call, &BLOCK);
+        earlier_refusals_win(station.clone(), call, &BLOCK);
     }
     tell_compared("release_and_read");
 }
@@ -112,8 +117,8 @@ fn commit_and_close_packet() {
     station.kinds[22] = DATA;
     station.change(|volume| volume.recorded = 23);
     assert_eq!(outcome(&station, Call::Commit, &[]), 14);
-    lower_refusals_win(station.clone(), Call::Commit, &[]);
-    lower_refusals_win(station, Call::ClosePacket, &[]);
+    earlier_refusals_win(station.clone(), Call::Commit, &[]);
+    earlier_refusals_win(station, Call::ClosePacket, &[]);
     tell_compared("commit_and_close_packet");
 }
 
@@ -121,13 +126,13 @@ fn commit_and_close_packet() {
 fn begin_and_mount() {
     let mut station = saved(30);
     assert_eq!(outcome(&station, Call::Begin, &[]), 6);
-    lower_refusals_win(station.clone(), Call::Begin, &[]);
+    earlier_refusals_win(station.clone(), Call::Begin, &[]);
     assert_eq!(station.call(Call::Mount), done(1));
     assert_eq!(station.write(1, &BLOCK), done(9));
     assert_eq!(station.call(Call::Mount), done(0));
     station.kinds[1] = UNREADABLE;
     assert_eq!(outcome(&station, Call::Mount, &[]), 7);
-    lower_refusals_win(station.clone(), Call::Mount, &[]);
+    earlier_refusals_win(station.clone(), Call::Mount, &[]);
     assert_eq!(station.call(Call::Begin), done(0));
     tell_compared("begin_and_mount");
 }
@@ -151,7 +156,7 @@ fn look_back() {
     }
     station.kinds[..4].fill(LINK);
     assert_eq!(outcome(&station, Call::LookBack(0), &[]), 7);
-    lower_refusals_win(station, Call::LookBack(0), &[]);
+    earlier_refusals_win(station, Call::LookBack(0), &[]);
     tell_compared("look_back");
 }
 

@@ -7,9 +7,9 @@ use mathlib.Core.Path.{_≡_, refl, ap, _∙_, subst, subst₂}
 use mathlib.Core.Bool.{Bool, true, not}
 use mathlib.Core.List.{List, [], _∷_, _++_}
 use mathlib.Core.Option.{Option, some}
-use lib.Dec.{eqb, ltb, leb}
+use lib.Dec.{eqb, ltb}
 use lib.ListN.{length, getD, length-take}
-use Rattle.vat.specs.Table.{sectorLength, limit, unused, isTable}
+use Rattle.vat.specs.Table.{sectorLength, unused}
 use Rattle.vat.specs.Sector.{sector}
 use Rattle.vat.proofs.Theorems.{length-sector}
 use Rattle.disc.specs.Disc.{Disc, recorded, puts}
@@ -21,7 +21,7 @@ use Rattle.disc.proofs.Found.{newest-table}
 use Rattle.volume.specs.declared.Volume.{Volume}
 use Rattle.volume.specs.Volume.{idle, readOnly, unpack, pack, mapOf, begun, filled}
 use Rattle.recorder.specs.Calls.{Call, begin, mount, write, release, closePacket, commit, read, lookBack, blockOf}
-use Rattle.recorder.specs.Refusals.{test, first, links, target, reserve, basic, ledgerLent, blockLent, unfit, forbidden, notInUse, isSome, walked, isBroken, isEnded, tests, outcome}
+use Rattle.recorder.specs.Refusals.{test, first, links, target, basic, ledgerLent, blockLent, unfit, forbidden, writeTests, notInUse, isSome, walked, isBroken, isEnded, tests, outcome}
 use Rattle.recorder.specs.Effects.{Effect, settles, blockReached, cleanNumber, effect, settled, after, ifDone, sectorsIf, secondNumber, sectorsOf}
 use Rattle.alike.specs.Alike.{Alike, SameCall, MeanNothing}
 use Rattle.recorder.proofs.Done.{CommitDone, mount-done, write-done, commit-done, look-back-done, read-done, links-few}
@@ -68,14 +68,7 @@ module _ {d e : Disc} (a : Alike d e) where
   same-tests l begin = λ i. same-basic (ledgerLent l) i ++ (test 6 (isSome (same-newest a i)) ∷ [])
   same-tests l mount = λ i. same-basic (ledgerLent l) i ++ (test 7 (not (isSome (same-newest a i))) ∷ [])
   same-tests l (write n block) = λ i.
-      same-basic (blockLent l block) i
-      ++ (same-unfit l i
-      ∷ forbidden l
-      ∷ test 12 (ltb (unpack l .size) n)
-      ∷ test 13 (leb limit n)
-      ∷ test 14 (ltb (same-blanks a i) (links (unpack l) + 1 + reserve))
-      ∷ test 15 (isTable 1 block (target (unpack l)))
-      ∷ [])
+      same-basic (blockLent l block) i ++ (same-unfit l i ∷ forbidden l ∷ writeTests (same-blanks a i) (unpack l) n block)
   same-tests l (release n) = λ i. same-basic (ledgerLent l) i ++ (same-unfit l i ∷ forbidden l ∷ test 10 (notInUse (unpack l) n) ∷ [])
   same-tests l closePacket = λ i. same-basic (ledgerLent l) i ++ (same-unfit l i ∷ forbidden l ∷ [])
   same-tests l commit = λ i.

@@ -1,4 +1,5 @@
--- The starred rows of document 01's 'Bench examples', shown once, as one claim over one list of them: the checker works each out from the definitions.
+-- The starred rows of document 01's 'Bench examples', and those of a number too high and above size (document 02, R-1), shown once, as one claim over one
+-- list of them: the checker works each out from the definitions.
 -- Assumes nothing.
 use Prim.Native.Nat.{ℕ, _*_}
 use mathlib.Core.Bool.{Bool, true, false, not, _&&_}
@@ -44,9 +45,12 @@ same (x ∷ xs) (y ∷ ys) = eqb x y && same xs ys
 abbrev pub refused : ℕ → ℕ
 refused n = n * 4294967296
 
--- 458 numbers, all unused, on a disc with nothing recorded.
+-- So many numbers, all unused, on a disc with nothing recorded.
+abbrev pub numbers : ℕ → List ℕ
+numbers n = pack (record { entries = replicate 458 unused; size = n; recorded = 0; last = unused; mode = 0 })
+
 abbrev pub full : List ℕ
-full = pack (record { entries = replicate 458 unused; size = 458; recorded = 0; last = unused; mode = 0 })
+full = numbers 458
 
 pub data Example : Type 0 where
   -- the CRC of these bytes
@@ -80,7 +84,8 @@ starred =
     ∷ calls-on 17 full (begin ∷ write 0 (block 1) ∷ closePacket ∷ write 1 (block 2) ∷ []) (0 ∷ 0 ∷ 0 ∷ 8 ∷ [])
     ∷ calls-on 16 full (begin ∷ write 0 (block 1) ∷ closePacket ∷ write 1 (block 2) ∷ []) (0 ∷ 0 ∷ 0 ∷ refused 14 ∷ [])
     ∷ calls-on 9 full (begin ∷ write 1 (block 1) ∷ []) (0 ∷ refused 12 ∷ [])
-    ∷ calls-on 9 full (write 458 (block 1) ∷ []) (refused 13 ∷ [])
+    ∷ calls-on 9 full (write 458 (block 1) ∷ write 459 (block 1) ∷ []) (refused 13 ∷ refused 13 ∷ [])
+    ∷ calls-on 9 (numbers 3) (write 500 (block 1) ∷ []) (refused 13 ∷ [])
     ∷ calls-on 12 full (begin ∷ write 0 (block 1) ∷ write 1 (block 2) ∷ write 2 (sector [] unused 1) ∷ []) (0 ∷ 0 ∷ 1 ∷ 2 ∷ [])
     ∷ calls-on 12 full (begin ∷ write 0 (block 1) ∷ write 1 (block 2) ∷ write 2 (sector [] unused 2) ∷ []) (0 ∷ 0 ∷ 1 ∷ refused 15 ∷ [])
     ∷ []

@@ -16,7 +16,7 @@ use Rattle.disc.specs.Tables.{blockFound, newestBelow, newest}
 use Rattle.disc.proofs.Found.{newest-below}
 use Rattle.volume.specs.Volume.{readOnly, unpack, fits}
 use Rattle.recorder.specs.Calls.{begin, mount, write, release, closePacket, commit, read, lookBack}
-use Rattle.recorder.specs.Refusals.{Test, test, first, links, target, reserve, basic, ledgerLent, blockLent, unfit, forbidden, notInUse, isSome, walked, isBroken, isEnded, tests, outcome}
+use Rattle.recorder.specs.Refusals.{Test, test, first, links, target, reserve, basic, ledgerLent, blockLent, unfit, forbidden, writeTests, notInUse, isSome, walked, isBroken, isEnded, tests, outcome}
 use Rattle.recorder.proofs.Done.{stopped, resumed, fittingTests, workingTests}
 
 -- ---- the newest table, as a block number
@@ -113,12 +113,7 @@ module _ (d : Disc) (l : List ℕ) (k : ℕ) where
 
 module _ (d : Disc) (l : List ℕ) (n : ℕ) (block : List ℕ) where
   writeRest : List Test
-  writeRest =
-      test 12 (ltb (unpack l .size) n)
-      ∷ test 13 (leb limit n)
-      ∷ test 14 (ltb (blanks d) (links (unpack l) + 1 + reserve))
-      ∷ test 15 (isTable 1 block (target (unpack l)))
-      ∷ []
+  writeRest = writeTests (blanks d) (unpack l) n block
 
   pub write-stopped : (first (workingTests d l (blockLent l block)) ≡ 0 → ⊥) → outcome d l (write n block) ≡ first (workingTests d l (blockLent l block))
   unfolding outcome tests writeRest
@@ -129,22 +124,22 @@ module _ (d : Disc) (l : List ℕ) (n : ℕ) (block : List ℕ) where
   write-rest z = resumed (workingTests d l (blockLent l block)) writeRest refl z
 
   module _ (z : first (workingTests d l (blockLent l block)) ≡ 0) where
-    pub write-12 : unpack l .size < n → outcome d l (write n block) ≡ 12
+    pub write-13 : limit ≤ n → outcome d l (write n block) ≡ 13
     unfolding first writeRest
-    write-12 h = write-rest z ∙ rw (lt-ltb (unpack l .size) n h)
+    write-13 h = write-rest z ∙ rw (le-leb limit n h)
 
-    pub write-13 : n ≤ unpack l .size → limit ≤ n → outcome d l (write n block) ≡ 13
+    pub write-12 : n < limit → unpack l .size < n → outcome d l (write n block) ≡ 12
     unfolding first writeRest
-    write-13 s h = write-rest z ∙ rw (le-ltb (unpack l .size) n s, le-leb limit n h)
+    write-12 m h = write-rest z ∙ rw (lt-leb limit n m, lt-ltb (unpack l .size) n h)
 
-    pub write-14 : n ≤ unpack l .size → n < limit → blanks d < links (unpack l) + 1 + reserve → outcome d l (write n block) ≡ 14
+    pub write-14 : n < limit → n ≤ unpack l .size → blanks d < links (unpack l) + 1 + reserve → outcome d l (write n block) ≡ 14
     unfolding first writeRest
-    write-14 s m h = write-rest z ∙ rw (le-ltb (unpack l .size) n s, lt-leb limit n m, lt-ltb (blanks d) (links (unpack l) + 1 + reserve) h)
+    write-14 m s h = write-rest z ∙ rw (lt-leb limit n m, le-ltb (unpack l .size) n s, lt-ltb (blanks d) (links (unpack l) + 1 + reserve) h)
 
-    pub write-tested : n ≤ unpack l .size → n < limit → links (unpack l) + 1 + reserve ≤ blanks d
+    pub write-tested : n < limit → n ≤ unpack l .size → links (unpack l) + 1 + reserve ≤ blanks d
         → outcome d l (write n block) ≡ first (test 15 (isTable 1 block (target (unpack l))) ∷ [])
     unfolding first writeRest
-    write-tested s m h = write-rest z ∙ rw (le-ltb (unpack l .size) n s, lt-leb limit n m, le-ltb (blanks d) (links (unpack l) + 1 + reserve) h)
+    write-tested m s h = write-rest z ∙ rw (lt-leb limit n m, le-ltb (unpack l .size) n s, le-ltb (blanks d) (links (unpack l) + 1 + reserve) h)
 
 module _ (d : Disc) (l : List ℕ) where
   -- no block is lent: only the ledger's length is tested

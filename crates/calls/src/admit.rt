@@ -1,4 +1,4 @@
-// The outcome of each call, its tests in document 01's order.
+// The outcome of each call, its tests in order.
 use crate::Plan;
 use crate::basic::LEDGER;
 use crate::refused;
@@ -76,11 +76,12 @@ pub fn write(image: &[u8], kinds: &[u8], ledger: &[u8], n: u32, block: &[u8]) ->
     if outcome != 0 {
         return outcome;
     }
-    if volume::ledger::size(ledger) < n {
-        return 12;
-    }
+    let size = volume::ledger::size(ledger);
     if LIMIT <= n {
         return 13;
+    }
+    if size < n {
+        return 12;
     }
     let links = crate::basic::links(ledger);
     let recorded = volume::ledger::recorded(ledger);

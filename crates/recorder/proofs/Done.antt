@@ -23,7 +23,7 @@ use Rattle.disc.proofs.Found.{sector-end, table-within}
 use Rattle.volume.specs.declared.Volume.{Volume}
 use Rattle.volume.specs.Volume.{ledgerLength, idle, packetOpen, readOnly, mapOf, unpack, isUnused, fits}
 use Rattle.recorder.specs.Calls.{Call, begin, mount, write, release, closePacket, commit, read, lookBack}
-use Rattle.recorder.specs.Refusals.{Test, test, orElse, first, linkCount, linksIf, links, target, reserve, basic, ledgerLent, blockLent, unfit, forbidden, notInUse, isSome, walked, isBroken, isEnded, tests, outcome}
+use Rattle.recorder.specs.Refusals.{Test, test, orElse, first, linkCount, linksIf, links, target, reserve, basic, ledgerLent, blockLent, unfit, forbidden, writeTests, notInUse, isSome, walked, isBroken, isEnded, tests, outcome}
 
 -- ---- lists of tests
 
@@ -220,8 +220,7 @@ ledger-accepted d l begin e = alone-long d l (test 6 (isSome (newest d)) ∷ [])
 ledger-accepted d l mount e = alone-long d l (test 7 (not (isSome (newest d))) ∷ []) e
 ledger-accepted d l (write n block) e =
     lent-long d l (eqb (length block) sectorLength)
-    (unfit d l ∷ forbidden l ∷ test 12 (ltb (unpack l .size) n) ∷ test 13 (leb limit n) ∷ test 14 (ltb (blanks d) (links (unpack l) + 1 + reserve)) ∷ test 15 (isTable 1 block (target (unpack l))) ∷ [])
-    e
+    (unfit d l ∷ forbidden l ∷ writeTests (blanks d) (unpack l) n block) e
 ledger-accepted d l (release n) e = alone-long d l (unfit d l ∷ forbidden l ∷ test 10 (notInUse (unpack l) n) ∷ []) e
 ledger-accepted d l closePacket e = alone-long d l (unfit d l ∷ forbidden l ∷ []) e
 ledger-accepted d l commit e = alone-long d l (unfit d l ∷ forbidden l ∷ test 14 (ltb (blanks d) (links (unpack l) + 1)) ∷ []) e
@@ -295,8 +294,8 @@ pub record WriteDone (d : Disc) (l : List ℕ) (n : ℕ) (block : List ℕ) : Ty
   pub block-long : length block ≡ sectorLength
   pub fit : Fits d (unpack l)
   pub not-looking : eqb (unpack l .mode) readOnly ≡ false
-  pub no-gap : n ≤ unpack l .size
   pub below-limit : n < limit
+  pub no-gap : n ≤ unpack l .size
   pub room : links (unpack l) + 1 + reserve ≤ blanks d
   pub no-table : isTable 1 block (target (unpack l)) ≡ false
 
@@ -304,22 +303,23 @@ pub write-done : (d : Disc) (l : List ℕ) (n : ℕ) (block : List ℕ) → outc
 unfolding outcome tests
 write-done d l n block e =
     let v : Volume = unpack l in
-    let twelve : Bool = ltb (v .size) n in
     let thirteen : Bool = leb limit n in
+    let twelve : Bool = ltb (v .size) n in
     let fourteen : Bool = ltb (blanks d) (links v + 1 + reserve) in
     let fifteen : Bool = isTable 1 block (target v) in
-    let rest : List Test = test 12 twelve ∷ test 13 thirteen ∷ test 14 fourteen ∷ test 15 fifteen ∷ [] in
+    let behind : List Test = test 14 fourteen ∷ test 15 fifteen ∷ [] in
+    let rest : List Test = writeTests (blanks d) v n block in
     let b : Basic d (blockLent l block) (unfit d l ∷ forbidden l ∷ rest) = basic-passed d (blockLent l block) (unfit d l ∷ forbidden l ∷ rest) e in
     let w : Working d l rest = working-passed d l rest (b .rest-passed) in
-    let e₁ : first (test 13 thirteen ∷ test 14 fourteen ∷ test 15 fifteen ∷ []) ≡ 0 = later 11 twelve (test 13 thirteen ∷ test 14 fourteen ∷ test 15 fifteen ∷ []) (w .rest-passed) in
-    let e₂ : first (test 14 fourteen ∷ test 15 fifteen ∷ []) ≡ 0 = later 12 thirteen (test 14 fourteen ∷ test 15 fifteen ∷ []) e₁ in
+    let e₁ : first (test 12 twelve ∷ behind) ≡ 0 = later 12 thirteen (test 12 twelve ∷ behind) (w .rest-passed) in
+    let e₂ : first behind ≡ 0 = later 11 twelve behind e₁ in
     record {
       sound-disc = b .sound-disc;
       block-long = eqb-true (length block) sectorLength (and-right (ledgerLent l) (eqb (length block) sectorLength) (b .lent));
       fit = w .fit;
       not-looking = w .not-looking;
-      no-gap = ltb-false (v .size) n (passed 11 twelve (test 13 thirteen ∷ test 14 fourteen ∷ test 15 fifteen ∷ []) (w .rest-passed));
-      below-limit = leb-false limit n (passed 12 thirteen (test 14 fourteen ∷ test 15 fifteen ∷ []) e₁);
+      below-limit = leb-false limit n (passed 12 thirteen (test 12 twelve ∷ behind) (w .rest-passed));
+      no-gap = ltb-false (v .size) n (passed 11 twelve behind e₁);
       room = ltb-false (blanks d) (links v + 1 + reserve) (passed 13 fourteen (test 15 fifteen ∷ []) e₂);
       no-table = passed 14 fifteen [] (later 13 fourteen (test 15 fifteen ∷ []) e₂);
     }

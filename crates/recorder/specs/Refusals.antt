@@ -1,5 +1,6 @@
 -- Which refusal a call is given (document 01, 'Refusals, by who causes them'): "The lowest applicable number is given, never another, and none without
--- its condition." Each call has a list of tests in order; the first that applies gives its number, and 0 is done.
+-- its condition", where lowest "means first in the order of tests", in demand 1 too (document 02, R-1). Each call has a list of tests in order; the first
+-- that applies gives its number, and 0 is done.
 use Prim.Native.Nat.{ℕ, _+_}
 use mathlib.Core.Bool.{Bool, true, false, _&&_, _||_, not}
 use mathlib.Core.List.{List, [], _∷_, _++_}
@@ -66,6 +67,16 @@ unfit d l = test 4 (not (fits d (unpack l)))
 abbrev pub forbidden : List ℕ → Test
 forbidden l = test 5 (eqb (unpack l .mode) readOnly)
 
+-- Write's own tests, with so many blank sectors on the disc: the number, the room, the lent block. "13 comes directly before 12": "a number at or above
+-- the limit gives 13, even above size".
+abbrev pub writeTests : ℕ → Volume → ℕ → List ℕ → List Test
+writeTests blank v n block =
+    test 13 (leb limit n)
+    ∷ test 12 (ltb (v .size) n)
+    ∷ test 14 (ltb blank (links v + 1 + reserve))
+    ∷ test 15 (isTable 1 block (target v))
+    ∷ []
+
 -- 10: "v not below size, or .. an unused entry".
 abbrev pub notInUse : Volume → ℕ → Bool
 notInUse v n = leb (v .size) n || eqb (getD (v .entries) n unused) unused
@@ -96,16 +107,7 @@ isEnded Ended = true
 unfoldable pub tests : Disc → List ℕ → Call → List Test
 tests d l begin = basic d (ledgerLent l) ++ (test 6 (isSome (newest d)) ∷ [])
 tests d l mount = basic d (ledgerLent l) ++ (test 7 (not (isSome (newest d))) ∷ [])
-tests d l (write n block) =
-    let v : Volume = unpack l in
-    basic d (blockLent l block)
-    ++ (unfit d l
-    ∷ forbidden l
-    ∷ test 12 (ltb (v .size) n)
-    ∷ test 13 (leb limit n)
-    ∷ test 14 (ltb (blanks d) (links v + 1 + reserve))
-    ∷ test 15 (isTable 1 block (target v))
-    ∷ [])
+tests d l (write n block) = basic d (blockLent l block) ++ (unfit d l ∷ forbidden l ∷ writeTests (blanks d) (unpack l) n block)
 tests d l (release n) = basic d (ledgerLent l) ++ (unfit d l ∷ forbidden l ∷ test 10 (notInUse (unpack l) n) ∷ [])
 tests d l closePacket = basic d (ledgerLent l) ++ (unfit d l ∷ forbidden l ∷ [])
 tests d l commit = basic d (ledgerLent l) ++ (unfit d l ∷ forbidden l ∷ test 14 (ltb (blanks d) (links (unpack l) + 1)) ∷ [])

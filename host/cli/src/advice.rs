@@ -30,7 +30,9 @@ pub fn of(refusal: Refusal) -> &'static str {
             "Look back to a save that has the number in another block, or drive the run again."
         }
         Refusal::AboveSize => "Write the size itself as the next new number, or one below it.",
-        Refusal::AboveLimit => "Write a number below 458 again, or take another disc.",
+        Refusal::AboveLimit => {
+            "Numbers end at 457: write the size itself as the next new one, or one below it, or take another disc."
+        }
         Refusal::NoRoom => FULL,
         Refusal::WouldBeVat => {
             "Change the block: as it is, the next mount would take it for a save."

@@ -55,8 +55,9 @@ pub const WRITE: &str = "\
 Usage: station write DISC V [--from FILE] [--pad]
 
 Records one block of 2048 bytes as number V, from FILE or from standard input,
-and tells where. V is a number below the size, or the size itself. The block is
-safe from a power cut only after a commit.
+and tells where. V is a number below the size, or the size itself, 457 at most.
+Refused with 13 if V is above 457, else with 12 if it is above the size. The
+block is safe from a power cut only after a commit.
 
   --from FILE   the block's bytes; - is standard input
   --pad         fill up a shorter block with zeros

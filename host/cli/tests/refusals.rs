@@ -138,9 +138,19 @@ fn number_11_an_unreadable_block() {
 #[test]
 fn number_12_a_number_above_the_size() {
     let folder = Folder::example();
-    refused_with(&folder, "write run.disc 3", &BLOCK, 12);
-    refused_with(&folder, "write run.disc 500", &BLOCK, 12);
-    refused_with(&folder, "write run.disc 4294967295", &BLOCK, 12);
+    for v in ["3", "4", "457"] {
+        refused_with(&folder, &format!("write run.disc {v}"), &BLOCK, 12);
+    }
+}
+
+/// Document 02: "a number at or above the limit gives 13, even above size."
+#[test]
+fn number_13_a_number_above_the_size_and_the_limit() {
+    let folder = Folder::example();
+    for v in ["458", "500", "4294967295"] {
+        let advice = refused_with(&folder, &format!("write run.disc {v}"), &BLOCK, 13);
+        assert!(advice.starts_with("Numbers end at 457"), "{advice}");
+    }
 }
 
 /// "Write of 458 at size 458 with space: 13."

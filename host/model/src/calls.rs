@@ -86,7 +86,8 @@ fn next_data_block(volume: &Volume) -> u32 {
     volume.recorded + volume.links()
 }
 
-/// What the call would do, or the lowest refusal that applies.
+/// What the call would do, or the refusal that applies "first in the order of
+/// tests".
 pub fn effect(lent: &Lent, call: Call) -> Result<Effect, Refusal> {
     let disc = sound_disc(lent, call)?;
     match call {
@@ -150,13 +151,14 @@ fn look_back_effect(disc: &Disc, k: u32) -> Result<Effect, Refusal> {
 }
 
 /// "records one data sector with the lent block and sets entry v to it. If v
-/// equals size, size grows by one."
+/// equals size, size grows by one." Document 02: "a number at or above the limit
+/// gives 13, even above size"; "13 comes directly before 12".
 fn write_effect(lent: &Lent, disc: &Disc, volume: Volume, v: u32) -> Result<Effect, Refusal> {
     let data: [u8; SECTOR] = lent.block.try_into().map_err(|_| Refusal::LentLength)?;
     let needed = volume.links() + 1 + RESERVE;
     let block = next_data_block(&volume);
-    refuse(v > volume.size, Refusal::AboveSize)?;
     refuse(v as usize >= LIMIT, Refusal::AboveLimit)?;
+    refuse(v > volume.size, Refusal::AboveSize)?;
     refuse(disc.blank() < needed, Refusal::NoRoom)?;
     refuse(recognise(&data, block).is_some(), Refusal::WouldBeVat)?;
     let mut effect = Effect::recorded(volume, data);

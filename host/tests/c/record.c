@@ -77,6 +77,7 @@ static void record(void)
 {
     expect("begin", station_begin(LENT), STATION_DONE, 0);
     expect("write 1 at size 0", write_number(1, 0x11), STATION_ABOVE_SIZE, 0);
+    expect("write 500 at size 0", write_number(500, 0x11), STATION_ABOVE_LIMIT, 0);
     expect("write 0", write_number(0, 0x11), STATION_DONE, 0);
     burn();
     expect("commit", station_commit(LENT), STATION_DONE, 1);

@@ -1,6 +1,6 @@
 //! "Each call answers an outcome (0 done, else a refusal) and a second number."
 
-/// The second number, or the lowest refusal that applies.
+/// The second number, or the first refusal, in the order of tests, that applies.
 pub type Answer = Result<u32, Refusal>;
 
 /// "Refusals, by who causes them": each with document 01's number.

@@ -1,4 +1,4 @@
-//! The eight calls, each with its refusals in document 01's order.
+//! The eight calls, each with its refusals in the order of its tests.
 
 use super::answer::{refuse, Answer, Refusal};
 use super::disc::{Disc, DATA, LINK};
@@ -63,8 +63,8 @@ pub fn write(
     let size = u32_at(ledger, SIZE);
     let links = ledger::links(ledger, recorded);
     let place = recorded + links;
-    refuse(v > size, Refusal::AboveSize)?;
     refuse(v as usize >= LIMIT, Refusal::AboveLimit)?;
+    refuse(v > size, Refusal::AboveSize)?;
     refuse(
         kinds.len() - recorded < links + 1 + RESERVE,
         Refusal::NoRoom,

@@ -1,13 +1,13 @@
 -- `calls::admit::write` meets its contract: 1 to 5 stop it first, then the number, the room, and the lent block.
 -- Assumes nothing.
-use Prim.Native.Nat.{ℕ, _+_, _-_, _≤_}
+use Prim.Native.Nat.{ℕ, _+_, _-_, _<_, _≤_}
 use native.Mathlib.Omega.{arith}
 use mathlib.Core.Path.{_≡_, sym, ap₂, _∙_}
 use mathlib.Core.Bool.{Bool, true, false, _&&_}
 use mathlib.Core.List.{List, [], _∷_}
 use lib.Dec.{eqb}
 use lib.ListN.{length}
-use Rattle.vat.specs.Table.{sectorLength, isTable}
+use Rattle.vat.specs.Table.{sectorLength, limit, isTable}
 use Rattle.disc.specs.Disc.{Disc, lent, recorded}
 use Rattle.disc.proofs.Recording.{leading-le}
 use Rattle.volume.specs.Volume.{unpack}
@@ -26,11 +26,11 @@ entered c = c .before .before .before .before .before
 abbrev start-of : tie.Else1 → tie.Start
 start-of c = entered (c .before)
 
-abbrev before-size : tie.Else2 → tie.Else1
-before-size c = c .before .before
+abbrev before-size : tie.Else3 → tie.Else1
+before-size c = c .before .before .before
 
-abbrev in-range : tie.After-recorded → tie.Else2
-in-range c = c .before .before .before
+abbrev in-range : tie.After-recorded → tie.Else3
+in-range c = c .before .before
 
 abbrev admitted : tie.After-recorded → tie.Else1
 admitted c = before-size (in-range c)
@@ -51,8 +51,11 @@ none c = sym (c .before .working .ensures) ∙ c .if1 .left
 admits : (c : tie.Else1) → let s = start-of c in Admitted (D s) (L s) (whole s)
 admits c = let s = start-of c in working-admits (D s) (L s) (whole s) (none c)
 
-no-gap : (c : tie.Else2) → let s = start-of (before-size c) in s .args .n ≤ unpack (L s) .size
-no-gap c = omega (arith, c .before .size .ensures, c .if2 .left)
+below-limit : (c : tie.Else3) → start-of (before-size c) .args .n < limit
+below-limit c = c .before .if2 .left
+
+no-gap : (c : tie.Else3) → let s = start-of (before-size c) in s .args .n ≤ unpack (L s) .size
+no-gap c = omega (arith, c .before .before .size .ensures, c .if3 .left)
 
 own : (c : tie.After-recorded) → c .recorded .result ≡ recorded (D (start-of (admitted c)))
 own c = c .recorded .ensures ∙ admits (admitted c) .fit .same-recorded
@@ -61,8 +64,8 @@ own c = c .recorded .ensures ∙ admits (admitted c) .fit .same-recorded
 tested : (c : tie.Else4) → let s = start-of (admitted (c .before)) in outcome (D s) (L s) (write (s .args .n) (s .args .block .now))
     ≡ first (test 15 (isTable 1 (s .args .block .now) (target (unpack (L s)))) ∷ [])
 tested c =
-    let r = c .before in let g = in-range r in let e = before-size g in let s = start-of e in
-    write-tested (D s) (L s) (s .args .n) (s .args .block .now) (none e) (no-gap g) (r .before .before .if3 .left)
+    let r = c .before in let g = in-range r in let e = admitted r in let s = start-of e in
+    write-tested (D s) (L s) (s .args .n) (s .args .block .now) (none e) (below-limit g) (no-gap g)
     (omega (arith, own r, r .before .links .ensures, c .if4 .left))
 
 judged : (c : tie.After-is-table) → let s = start-of (admitted (c .before .before)) in c .is-table .result ≡ isTable 1 (s .args .block .now) (target (unpack (L s)))
@@ -85,18 +88,18 @@ size-requires c κs = admits c .ledger-long
 returns-2 : tie.Need-returns-2
 returns-2 c =
     let e = c .before .before in let s = start-of e in
-    sym (write-12 (D s) (L s) (s .args .n) (s .args .block .now) (none e) (omega (arith, c .before .size .ensures, c .if2 .taken)))
+    sym (write-13 (D s) (L s) (s .args .n) (s .args .block .now) (none e) (c .if2 .taken))
 
 returns-3 : tie.Need-returns-3
 returns-3 c =
-    let g = c .before in let e = before-size g in let s = start-of e in
-    sym (write-13 (D s) (L s) (s .args .n) (s .args .block .now) (none e) (no-gap g) (c .if3 .taken))
+    let b = c .before in let e = b .before .before in let s = start-of e in
+    sym (write-12 (D s) (L s) (s .args .n) (s .args .block .now) (none e) (b .if2 .left) (omega (arith, b .before .size .ensures, c .if3 .taken)))
 
 links-requires : tie.Need-links-requires
-links-requires c κs = admits (before-size (c .before)) .ledger-long
+links-requires c κs = admits (before-size c) .ledger-long
 
 recorded-requires : tie.Need-recorded-requires
-recorded-requires c κs = admits (before-size (c .before .before)) .ledger-long
+recorded-requires c κs = admits (before-size (c .before)) .ledger-long
 
 cast-blank : tie.Need-cast-blank
 cast-blank c = omega (arith, admits (admitted c) .sound-disc .few)
@@ -112,8 +115,8 @@ add-if4-2 c = omega (arith, c .before .links .ensures, links-few (unpack (L (sta
 
 returns-4 : tie.Need-returns-4
 returns-4 c =
-    let r = c .before in let g = in-range r in let e = before-size g in let s = start-of e in
-    sym (write-14 (D s) (L s) (s .args .n) (s .args .block .now) (none e) (no-gap g) (r .before .before .if3 .left)
+    let r = c .before in let g = in-range r in let e = admitted r in let s = start-of e in
+    sym (write-14 (D s) (L s) (s .args .n) (s .args .block .now) (none e) (below-limit g) (no-gap g)
     (omega (arith, own r, r .before .links .ensures, c .if4 .taken)))
 
 add-is-table : tie.Need-add-is-table
