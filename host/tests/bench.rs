@@ -1,12 +1,14 @@
-//! Every row of "Bench examples" of document 01, and its example disc of 31.
-//! Each call is made on the core and on the model, and compared; so is what a cut
-//! leaves.
+//! Every row of "Bench examples" of document 01, rows of the same kind for what
+//! document 02 says, and document 01's example disc of 31. Each call is made on
+//! the core and on the model, and compared; so is what a cut leaves.
 
 mod common;
 
 use common::built::BLOCK;
+use common::forge::vat_behind;
 use common::pair::tell_compared;
 use common::station::{done, refused, Station};
+use station_model::answer::Answer;
 use station_model::calls::Call;
 use station_model::disc::{DATA, LINK};
 use station_model::fields::{u16_at, u32_at};
@@ -73,18 +75,52 @@ fn table_of_458_entries() {
     tell_compared("table_of_458_entries");
 }
 
+/// What mount answers and shows of a disc whose last recorded sector, at block 5,
+/// is this one.
+fn mounted_at_5(sector: &[u8; SECTOR]) -> (Answer, Vec<u32>) {
+    let mut station = Station::blank(6);
+    station.kinds[..5].fill(LINK);
+    station.put_sector(5, DATA, sector);
+    let answer = station.call(Call::Mount);
+    (answer, station.volume().entries().to_vec())
+}
+
 /// "N 459: not a table sector." One entry less, made alike, is one.
 #[test]
 fn table_of_459_entries() {
     assert_eq!(176 + table_length(459), SECTOR);
     for (entries, answer) in [(459, refused(7)), (LIMIT, done(1))] {
-        let mut station = Station::blank(6);
-        station.kinds[..5].fill(LINK);
-        station.put_sector(5, DATA, &vat_sector(5, &vec![NONE; entries], NONE));
-        assert_eq!(recognise(station.sector(5), 5).is_some(), answer == done(1));
-        assert_eq!(station.call(Call::Mount), answer);
+        let table = vat_sector(5, &vec![NONE; entries], NONE);
+        assert_eq!(recognise(&table, 5).is_some(), answer == done(1));
+        assert_eq!(mounted_at_5(&table).0, answer);
     }
     tell_compared("table_of_459_entries");
+}
+
+/// "The table [...] starts at 176 + attribute length (a multiple of 4)"
+/// (document 02): 220 bytes of attributes, as `mkudffs` records them, and a table
+/// at byte 396. Behind two bytes of attributes there is none.
+#[test]
+fn table_behind_attributes() {
+    let table = vat_behind(&[0xA7; 220], 5, &[3, NONE], NONE);
+    assert_eq!(u32_at(&table, 168), 220);
+    assert_eq!(u16_at(&table, 10), 160 + 220 + 44);
+    assert_eq!(u32_at(&table, 396), 3);
+    assert_eq!(mounted_at_5(&table), (done(1), vec![3, NONE]));
+    let (answer, _) = mounted_at_5(&vat_behind(&[0xA7; 2], 5, &[3, NONE], NONE));
+    assert_eq!(answer, refused(7));
+    tell_compared("table_behind_attributes");
+}
+
+/// "the whole must stay below one sector" (document 02): N 457 behind 4 bytes of
+/// attributes ends where N 458 behind none does, and N 458 with the sector.
+#[test]
+fn most_entries_behind_attributes() {
+    for (entries, answer) in [(457, done(1)), (LIMIT, refused(7))] {
+        let table = vat_behind(&[0xA7; 4], 5, &vec![NONE; entries], NONE);
+        assert_eq!(mounted_at_5(&table).0, answer);
+    }
+    tell_compared("most_entries_behind_attributes");
 }
 
 /// "Blank disc of 8: write gives 14; commit is done at block 0."
@@ -187,6 +223,18 @@ fn table_sector_for_its_own_block() {
     seal(&mut forged, 2);
     assert_eq!(station.write(1, &forged), refused(15));
     tell_compared("table_sector_for_its_own_block");
+}
+
+/// The same for a table that stands behind attributes: accepted at 2 with
+/// location 1, and 15 with location 2.
+#[test]
+fn table_sector_behind_attributes() {
+    let mut station = with_table_at_1();
+    let mut table = vat_behind(&[0xA7; 220], 1, &[0], NONE);
+    assert_eq!(station.clone().write(1, &table), done(2));
+    seal(&mut table, 2);
+    assert_eq!(station.write(1, &table), refused(15));
+    tell_compared("table_sector_behind_attributes");
 }
 
 /// "Commit after close packet, cut after j of 8 sectors: 0 to 7 show the old

@@ -4,23 +4,24 @@
 mod common;
 
 use common::built::{every_call, saved, BLOCK};
-use common::forge;
+use common::forge::{self, vat_behind};
 use common::pair::{tell_compared, Pair};
 use common::random::{cases, Random};
 use common::station::{done, refused, Station};
 use station_model::calls::Call;
 use station_model::disc::{BLANK, DATA, LINK, UNREADABLE};
 use station_model::ledger::Volume;
-use station_model::table::{vat_sector, LIMIT, NONE, SECTOR};
+use station_model::table::{LIMIT, NONE, SECTOR};
 
-/// A table sector in each block, naming the one before, and a ledger for the
-/// recorded ones.
+/// A table sector in each block, naming the one before, every other one behind
+/// attributes, and a ledger for the recorded ones.
 fn all_tables(kinds: &[u8]) -> Station {
     let mut station = Station::blank(kinds.len());
     for (block, kind) in (0..).zip(kinds) {
         let previous = u32::checked_sub(block, 1).unwrap_or(NONE);
-        let map = if block == 0 { NONE } else { block - 1 };
-        station.put_sector(block, *kind, &vat_sector(block, &[map], previous));
+        let attributes = vec![0xA7; 8 * (block as usize % 2)];
+        let table = vat_behind(&attributes, block, &[previous], previous);
+        station.put_sector(block, *kind, &table);
     }
     let volume = Volume::begun(&station.disc());
     station.ledger = volume.to_bytes().to_vec();
@@ -224,43 +225,66 @@ fn sizes_about_the_limit() {
     tell_compared("sizes_about_the_limit");
 }
 
-/// Tables of 0, 1, 457, 458 and 459 entries as the newest: mounted, looked
-/// back to, and gone on from.
+/// Tables of 0 to 459 entries, behind attributes of 0 to 1,836 bytes, as the
+/// newest: mounted, looked back to, and gone on from.
 #[test]
 fn tables_of_each_size() {
-    for entries in [0, 1, 2, 457, 458, 459] {
+    for (attributes, entries, is_table) in [
+        (0, 0, true),
+        (0, 1, true),
+        (0, 2, true),
+        (0, 457, true),
+        (0, 458, true),
+        (0, 459, false),
+        (4, 0, true),
+        (4, 457, true),
+        (4, 458, false),
+        (218, 2, false),
+        (220, 2, true),
+        (220, 403, true),
+        (220, 404, false),
+        (1832, 0, true),
+        (1832, 1, false),
+        (1836, 0, false),
+    ] {
         let mut station = saved(40);
-        let table = vat_sector(2, &vec![1; entries], 1);
+        let attributes = vec![0xA7; attributes];
+        let table = vat_behind(&attributes, 2, &vec![1; entries], 1);
         station.put_sector(2, DATA, &table);
         let answer = station.call(Call::Mount);
-        assert_eq!(answer, done(u32::from(entries <= LIMIT)));
+        assert_eq!(answer, done(u32::from(is_table)));
         every_call(&station);
         let looked = station.call(Call::LookBack(1));
-        assert_eq!(looked.is_done(), entries <= LIMIT);
+        assert_eq!(looked.is_done(), is_table);
         every_call(&station);
     }
     tell_compared("tables_of_each_size");
 }
 
-/// The block that a write takes is a table sector for a block near it: 15 at
-/// its own block alone, behind the links if there are any.
+/// The block that a write takes is a table sector for a block near it, also one
+/// whose table stands behind attributes: 15 at its own block alone, behind the
+/// links if there are any.
 #[test]
 fn blocks_that_are_tables() {
     let saved = with_four_entries();
     for (mode, taken) in [(0, 13), (1, 6)] {
         let mut station = saved.clone();
         station.change(|volume| volume.mode = mode);
-        let mut pair = Pair::holding(&station);
-        for block in 0..30 {
-            let table = vat_sector(block, &[0], NONE);
-            let expected = if block == taken {
-                refused(15)
-            } else {
-                done(taken)
-            };
-            assert_eq!(pair.call(Call::Write(4), &table), expected);
-            if expected.is_done() {
-                pair.take_back(&station);
+        for attributes in [0, 2, 4, 218, 220, 1828, 1832] {
+            let is_table = attributes % 4 == 0 && attributes < 1832;
+            let attributes = vec![0xA7; attributes];
+            let mut pair = Pair::holding(&station);
+            for block in 0..30 {
+                let table = vat_behind(&attributes, block, &[NONE], NONE);
+                let expected = if is_table && block == taken {
+                    refused(15)
+                } else {
+                    done(taken)
+                };
+                assert_eq!(pair.call(Call::Write(4), &table), expected);
+                if expected.is_done() {
+                    pair.take_back(&station);
+                }
             }
         }
     }
@@ -271,15 +295,19 @@ fn blocks_that_are_tables() {
 #[test]
 fn copies_of_a_table() {
     let station = with_four_entries();
-    let table = *station.sector(5);
-    for block in 6..30 {
-        let mut copied = station.clone();
-        copied.kinds[6..=block as usize].fill(LINK);
-        copied.put_sector(block, DATA, &table);
-        assert_eq!(copied.call(Call::Mount), done(0));
-        copied.put_sector(5, UNREADABLE, &table);
-        assert_eq!(copied.call(Call::LookBack(0)), done(1));
-        every_call(&copied);
+    let behind_attributes = vat_behind(&[0xA7; 220], 5, &[0, 2], 1);
+    for table in [*station.sector(5), behind_attributes] {
+        for block in 6..30 {
+            let mut copied = station.clone();
+            copied.put_sector(5, DATA, &table);
+            copied.kinds[6..=block as usize].fill(LINK);
+            copied.put_sector(block, DATA, &table);
+            assert_eq!(copied.call(Call::Mount), done(0));
+            assert_eq!(copied.volume().last_vat, 5);
+            copied.put_sector(5, UNREADABLE, &table);
+            assert_eq!(copied.call(Call::LookBack(0)), done(1));
+            every_call(&copied);
+        }
     }
     tell_compared("copies_of_a_table");
 }

@@ -27,8 +27,10 @@ use udftools::{udfinfo, Recipe, Report};
 
 /// UDF 1.50 discs with room behind the table. The table stands right behind the
 /// root directory or far behind it; the partition starts at sector 257, or 258 (a
-/// closed disc has a second anchor in front of it), or 272 (as on DVD-R).
-const EDITION_150: [Recipe; 6] = [
+/// closed disc has a second anchor in front of it), or 272 (as on DVD-R). The
+/// volume's name, which stands in the table's attributes, is mkudffs's own, a
+/// short one, the longest, or one with letters of two bytes.
+const EDITION_150: [Recipe; 8] = [
     Recipe("cdr", "1.50", 2_000, &[]),
     Recipe("cdr", "1.50", 860, &["--minblocks=1"]),
     Recipe("cdr", "1.50", 4_000, &["--minblocks=1000"]),
@@ -40,7 +42,15 @@ const EDITION_150: [Recipe; 6] = [
         333_000,
         &["--label=Bench disc", "--read-only"],
     ),
+    Recipe("cdr", "1.50", 2_000, &[LONGEST_NAME]),
+    Recipe("cdr", "1.50", 1_000, &["--label=Prüfstand Łódź"]),
 ];
+
+/// A logical volume's name has 126 bytes, between those of its encoding and its
+/// length (ECMA-167 3/10.6.4).
+const LONGEST_NAME: &str = "--lvid=\
+    A disc of the archive, recorded by another deck, whose name fills its field \
+    to the last byte, as long as a name can be: 126 ..";
 
 /// UDF 1.50 discs that end with their table, the smallest among them.
 const EDITION_150_FULL: [Recipe; 2] = [

@@ -10,6 +10,7 @@ mod common;
 use std::thread;
 
 use common::core::{unpacked, Core, Short};
+use common::forge::vat_behind;
 use common::guarded::Guarded;
 use common::station::{done, refused};
 use station_model::answer::{Answer, Refusal};
@@ -197,7 +198,7 @@ fn broken_at_the_end(disc: &mut FullSize) {
     disc.kinds()[MOST_SECTORS - 1] = 0;
 }
 
-/// 360,000 tables, each naming the one before.
+/// 360,000 tables, each naming the one before, every tenth behind attributes.
 fn chain(disc: &mut FullSize) {
     for block in 0..SECTORS {
         disc.put_sector(block, &link_of_the_chain(block));
@@ -217,7 +218,12 @@ fn chain(disc: &mut FullSize) {
 }
 
 fn link_of_the_chain(block: u32) -> [u8; SECTOR] {
-    vat_sector(block, &[], block.checked_sub(1).unwrap_or(NONE))
+    let previous = block.checked_sub(1).unwrap_or(NONE);
+    if block % 10 == 9 {
+        vat_behind(&[0xA7; 220], block, &[], previous)
+    } else {
+        vat_sector(block, &[], previous)
+    }
 }
 
 /// The oldest table cannot be read: the last step names no table.

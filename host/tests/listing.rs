@@ -7,6 +7,7 @@ use std::io::Write;
 use std::path::Path;
 use std::process::{Command, Stdio};
 
+use common::forge::{most_attributes, vat_behind};
 use common::station::Station;
 use station_model::answer::Refusal;
 use station_model::calls::Call;
@@ -176,6 +177,7 @@ fn chains_of_every_length_are_listed() {
     }
 }
 
+/// Each map stands behind no attributes, and behind as many as leave it room.
 #[test]
 fn maps_of_every_size_are_listed() {
     for size in (0..=458).step_by(17).chain([1, 9, 10, 99, 100, 457, 458]) {
@@ -185,6 +187,22 @@ fn maps_of_every_size_are_listed() {
             .collect();
         station.put_sector(0, 1, &[0; SECTOR]);
         station.put_sector(1, 1, &vat_sector(1, &map, NONE));
+        assert_listed(&station);
+        let attributes = vec![0xA7; most_attributes(size)];
+        station.put_sector(1, 1, &vat_behind(&attributes, 1, &map, NONE));
+        assert_listed(&station);
+    }
+}
+
+/// A chain of ours and of another writer's tables, which stand behind attributes;
+/// where the length of these is no multiple of 4, it breaks.
+#[test]
+fn tables_behind_attributes_are_listed() {
+    for (length, end) in [(220, "clean\n"), (218, "broken\n")] {
+        let mut station = disc_of_31();
+        let foreign = vat_behind(&vec![0xA7; length], 3, &[NONE, 2], 1);
+        station.put_sector(3, 1, &foreign);
+        assert!(listed(&input(&station)).ends_with(end));
         assert_listed(&station);
     }
 }

@@ -4,28 +4,40 @@
 
 mod common;
 
+use common::forge::{self, most_attributes, vat_behind};
 use common::pair::tell_compared;
 use common::random::{cases, Random};
 use common::recogniser::Recogniser;
-use common::station::Station;
-use common::{forge, station::done};
+use common::station::{done, Station};
 use station_model::calls::Call;
 use station_model::disc::{DATA, UNREADABLE};
-use station_model::fields::put;
-use station_model::table::{seal, vat_sector, LIMIT, NONE, SECTOR};
+use station_model::table::{seal, LIMIT, NONE, SECTOR};
 
 const BLOCK: u32 = 11;
 
-/// Two entries, previous 3: the table ends at byte 220.
-fn sector() -> [u8; SECTOR] {
-    vat_sector(BLOCK, &[NONE, 2], 3)
+/// Bytes of extended attributes before the table: none, a word, and as many as
+/// `mkudffs` records.
+const ATTRIBUTES: [usize; 3] = [0, 4, 220];
+
+/// A table sector of the block behind so many bytes of attributes.
+fn behind(attributes: usize, map: &[u32], previous: u32) -> [u8; SECTOR] {
+    vat_behind(&vec![0xA7; attributes], BLOCK, map, previous)
 }
 
-const END: usize = 220;
+/// Two entries, previous 3: the table has 44 bytes.
+fn sector(attributes: usize) -> [u8; SECTOR] {
+    behind(attributes, &[NONE, 2], 3)
+}
+
+fn end(attributes: usize) -> usize {
+    176 + attributes + 44
+}
 
 /// Bytes whose value matters beyond the sums. The previous block and the
 /// entries matter by their size; seal sets location and sums.
-fn is_tested(at: usize) -> bool {
+fn is_tested(at: usize, attributes: usize) -> bool {
+    let (entries, regid) = (176 + attributes, 184 + attributes);
+    let previous = regid + 32;
     let fields = [
         0..6,
         10..16,
@@ -34,53 +46,72 @@ fn is_tested(at: usize) -> bool {
         34..35,
         48..50,
         56..64,
-        168..184,
-        185..208,
-        216..220,
+        168..176,
+        entries..regid,
+        regid + 1..regid + 24,
+        previous..previous + 4,
     ];
     fields.iter().any(|field| field.contains(&at))
 }
 
 /// "A sector of kind 1 is a table sector exactly if all of this holds": a
-/// field changed under right sums.
+/// field changed under right sums. The attributes' bytes may be anything.
 #[test]
 fn each_byte_under_right_sums() {
     let mut recogniser = Recogniser::at(BLOCK);
-    assert!(recogniser.is_vat(&sector()));
-    for at in (0..SECTOR).filter(|at| !(12..16).contains(at) && *at != 4) {
-        let mut changed = sector();
-        changed[at] ^= 0x44;
-        seal(&mut changed, BLOCK);
-        assert_eq!(recogniser.is_vat(&changed), !is_tested(at), "{at}");
+    for attributes in ATTRIBUTES {
+        assert!(recogniser.is_vat(&sector(attributes)));
+        for at in (0..SECTOR).filter(|at| !(12..16).contains(at) && *at != 4) {
+            let mut changed = sector(attributes);
+            changed[at] ^= 0x44;
+            seal(&mut changed, BLOCK);
+            let expected = !is_tested(at, attributes);
+            assert_eq!(recogniser.is_vat(&changed), expected, "{at}, {attributes}");
+        }
     }
     tell_compared("each_byte_under_right_sums");
 }
 
-/// The sum covers bytes 0 to 15, the CRC bytes 16 to the table's end.
+/// The sum covers bytes 0 to 15, the CRC bytes 16 to the table's end, and so
+/// the attributes too.
 #[test]
 fn each_byte_under_the_old_sums() {
     let mut recogniser = Recogniser::at(BLOCK);
-    for at in 0..SECTOR {
-        let mut changed = sector();
-        changed[at] ^= 0x40;
-        assert_eq!(recogniser.is_vat(&changed), at >= END, "{at}");
+    for attributes in ATTRIBUTES {
+        for at in 0..SECTOR {
+            let mut changed = sector(attributes);
+            changed[at] ^= 0x40;
+            let expected = at >= end(attributes);
+            assert_eq!(recogniser.is_vat(&changed), expected, "{at}, {attributes}");
+        }
     }
     tell_compared("each_byte_under_the_old_sums");
 }
 
-/// The same for tables of other sizes; every bit of the first 236 bytes.
+/// The same for tables of other sizes and behind other attributes; every bit of
+/// the file entry's own fields and of the table's first 60 bytes.
 #[test]
 fn each_byte_of_other_tables() {
     let mut recogniser = Recogniser::at(BLOCK);
-    for size in [0, 1, 5, 457, 458] {
+    for (attributes, size) in [
+        (0, 0),
+        (0, 1),
+        (0, 5),
+        (0, 457),
+        (0, 458),
+        (4, 1),
+        (220, 403),
+        (1832, 0),
+    ] {
+        let table = 176 + attributes;
         for at in 0..SECTOR {
-            let masks: &[u8] = if at < 236 {
+            let masks: &[u8] = if at < 176 || (table..table + 60).contains(&at) {
                 &[1, 2, 4, 8, 16, 32, 64, 128]
             } else {
                 &[0x81]
             };
             for mask in masks {
-                let mut changed = vat_sector(BLOCK, &vec![4; size], 3);
+                let mut changed = behind(attributes, &vec![4; size], 3);
                 changed[at] ^= mask;
                 recogniser.is_vat(&changed);
                 seal(&mut changed, BLOCK);
@@ -96,7 +127,7 @@ fn each_byte_of_other_tables() {
 fn only_the_low_bits_of_the_flags() {
     let mut recogniser = Recogniser::at(BLOCK);
     for flags in (0..=u16::MAX).step_by(7) {
-        let mut changed = sector();
+        let mut changed = sector(0);
         changed[34..36].copy_from_slice(&flags.to_le_bytes());
         seal(&mut changed, BLOCK);
         assert_eq!(recogniser.is_vat(&changed), flags % 8 == 3);
@@ -117,87 +148,51 @@ fn entries_and_previous_below_the_block() {
         (NONE - 1, false),
         (NONE, true),
     ] {
-        let entry = vat_sector(BLOCK, &[block], NONE);
-        let previous = vat_sector(BLOCK, &[], block);
-        assert_eq!(recogniser.is_vat(&entry), allowed);
-        assert_eq!(recogniser.is_vat(&previous), allowed);
+        for attributes in ATTRIBUTES {
+            let entry = behind(attributes, &[block], NONE);
+            let previous = behind(attributes, &[], block);
+            assert_eq!(recogniser.is_vat(&entry), allowed);
+            assert_eq!(recogniser.is_vat(&previous), allowed);
+        }
     }
     let mut first = Recogniser::at(0);
-    assert!(first.is_vat(&vat_sector(0, &[NONE], NONE)));
-    assert!(!first.is_vat(&vat_sector(0, &[0], NONE)));
-    assert!(!first.is_vat(&vat_sector(0, &[], 0)));
+    for attributes in ATTRIBUTES.map(|length| vec![0xA7; length]) {
+        assert!(first.is_vat(&vat_behind(&attributes, 0, &[NONE], NONE)));
+        assert!(!first.is_vat(&vat_behind(&attributes, 0, &[0], NONE)));
+        assert!(!first.is_vat(&vat_behind(&attributes, 0, &[], 0)));
+    }
     tell_compared("entries_and_previous_below_the_block");
 }
 
-/// Each of 458 entries is looked at.
+/// Each entry is looked at: of 458, and of 403 behind attributes.
 #[test]
 fn each_entry_below_the_block() {
     let mut recogniser = Recogniser::at(BLOCK);
-    for v in 0..LIMIT {
-        for (block, allowed) in [(BLOCK - 1, true), (BLOCK, false), (NONE, true)] {
-            let mut map = [NONE; LIMIT];
-            map[v] = block;
-            let sector = vat_sector(BLOCK, &map, NONE);
-            assert_eq!(recogniser.is_vat(&sector), allowed, "entry {v}");
+    for (attributes, size) in [(0, LIMIT), (220, 403)] {
+        for v in 0..size {
+            for (block, allowed) in [(BLOCK - 1, true), (BLOCK, false), (NONE, true)] {
+                let mut map = vec![NONE; size];
+                map[v] = block;
+                let sector = behind(attributes, &map, NONE);
+                assert_eq!(recogniser.is_vat(&sector), allowed, "entry {v} of {size}");
+            }
         }
     }
     tell_compared("each_entry_below_the_block");
 }
 
-/// "The table length is 4 × N + 36 exactly", "N is at most 458": the four
-/// lengths agree with each other each time.
-#[test]
-fn lengths() {
-    let mut recogniser = Recogniser::at(BLOCK);
-    for length in 0..=1875usize {
-        let entries = length.saturating_sub(36) / 4;
-        let mut changed = vat_sector(BLOCK, &vec![NONE; entries], NONE);
-        put_lengths(&mut changed, length as u32);
-        let expected = length >= 36 && length % 4 == 0 && entries <= 458;
-        assert_eq!(recogniser.is_vat(&changed), expected, "{length}");
-    }
-    tell_compared("lengths");
-}
-
-/// Lengths that agree only modulo 2 to the 16, or that wrap.
-#[test]
-fn lengths_that_wrap() {
-    let mut recogniser = Recogniser::at(BLOCK);
-    for length in [36u32 + (1 << 16), 36 + (1 << 20), NONE, NONE - 3, 1 << 31] {
-        let mut changed = vat_sector(BLOCK, &[], NONE);
-        put_lengths(&mut changed, length);
-        assert!(!recogniser.is_vat(&changed), "{length}");
-    }
-    for attributes in [1u32, 4, 1 << 16, NONE, 0u32.wrapping_sub(36)] {
-        let mut changed = vat_sector(BLOCK, &[], NONE);
-        put(&mut changed, 168, &attributes.to_le_bytes());
-        let crc_length = (196 + u64::from(attributes)) as u16;
-        put(&mut changed, 10, &crc_length.to_le_bytes());
-        seal(&mut changed, BLOCK);
-        assert!(!recogniser.is_vat(&changed), "{attributes}");
-    }
-    tell_compared("lengths_that_wrap");
-}
-
-/// CRC length, information length and descriptor length; right sums.
-fn put_lengths(sector: &mut [u8; SECTOR], length: u32) {
-    let crc_length = 160u32.wrapping_add(length) as u16;
-    put(sector, 10, &crc_length.to_le_bytes());
-    put(sector, 56, &u64::from(length).to_le_bytes());
-    put(sector, 172, &length.to_le_bytes());
-    seal(sector, BLOCK);
-}
-
-/// Serial number, flags, times, suffix, unique id and the like as another
-/// writer has them: still a table, at its own block and no other.
+/// Serial number, flags, times, attributes, suffix, unique id and the like as
+/// another writer has them: still a table, at its own block and no other.
 #[test]
 fn foreign_fields() {
     let mut recogniser = Recogniser::at(BLOCK);
     for case in cases(2000) {
         let mut random = Random::of_case(case);
-        let size = [0, 1, 3, 200, 458][random.below(5)];
-        let mut foreign = vat_sector(BLOCK, &vec![7; size], NONE);
-        forge::foreign_fields(&mut random, &mut foreign, size);
+        let size = random.pick(&[0, 1, 3, 200, 458]);
+        let most = most_attributes(size);
+        let attributes = random.pick(&[0, most.min(4), most.min(220), most]);
+        let mut foreign = behind(attributes, &vec![7; size], NONE);
+        forge::foreign_fields(&mut random, &mut foreign);
         seal(&mut foreign, BLOCK);
         assert!(recogniser.is_vat(&foreign), "case {case}");
         for other in [0, 10, 12, BLOCK << 8, NONE] {
@@ -212,11 +207,13 @@ fn foreign_fields() {
 #[test]
 fn only_kind_1() {
     for kind in DATA..=UNREADABLE {
-        let mut station = Station::blank(20);
-        station.kinds[..11].fill(DATA);
-        station.put_sector(BLOCK, kind, &sector());
-        let answer = station.call(Call::Mount);
-        assert_eq!(answer == done(1), kind == DATA);
+        for attributes in ATTRIBUTES {
+            let mut station = Station::blank(20);
+            station.kinds[..11].fill(DATA);
+            station.put_sector(BLOCK, kind, &sector(attributes));
+            let answer = station.call(Call::Mount);
+            assert_eq!(answer == done(1), kind == DATA);
+        }
     }
     tell_compared("only_kind_1");
 }

@@ -1,27 +1,28 @@
--- The starred rows of document 01's 'Bench examples', and those of a number too high and above size (document 02, R-1), shown once, as one claim over one
--- list of them: the checker works each out from the definitions.
+-- The starred rows of document 01's 'Bench examples', and those of a number too high and above size and of tables behind attributes (document 02, R-1 and
+-- R-2), shown once, as one claim over one list of them: the checker works each out from the definitions.
 -- Assumes nothing.
-use Prim.Native.Nat.{ℕ, _*_}
+use Prim.Native.Nat.{ℕ, _+_, _*_}
 use mathlib.Core.Bool.{Bool, true, false, not, _&&_}
-use mathlib.Core.List.{List, [], _∷_}
+use mathlib.Core.List.{List, [], _∷_, _++_}
 use lib.Dec.{T, eqb}
 use lib.ListN.{replicate}
+use lib.Seq.{sets}
 use Rattle.le.specs.Field.{le, readLe, leadingWords, words, leWords, lay, holds}
 use Rattle.le.specs.Bytes.{every, total, holdsText}
 use Rattle.crc.specs.Crc.{crcOf, crcFrom, byteStep}
 use Rattle.tag.specs.Tag.{crcLength, checksum, bodyCrc, sealed, seal}
-use Rattle.vat.specs.Table.{unused, plainRows, lengthRows, tableName, entryCount, entriesOf, previousOf, framed, isTable}
+use Rattle.vat.specs.Table.{unused, plainRows, lengthRows, tableName, attributeLength, entryCount, entriesOf, previousOf, framed, isTable}
 use Rattle.vat.specs.Sector.{tableRegid, tableBytes, ownRows, stationName, body, sector}
 use Rattle.disc.specs.Disc.{Disc, sized, leading, inOrder, sectorAt, content, stored, puts}
 use Rattle.disc.specs.Tables.{newestBelow, walk}
 use Rattle.volume.specs.Volume.{unpack, pack, fits, begun, filled, wrote, released, closed, committed}
-use Rattle.recorder.specs.Calls.{Call, begin, write, closePacket, commit}
+use Rattle.recorder.specs.Calls.{Call, begin, mount, write, closePacket, commit}
 use Rattle.recorder.specs.Refusals.{first, links, walked, tests, outcome}
 use Rattle.recorder.specs.Effects.{effect, After, after, secondNumber, sectorsOf}
 
 -- To open this is to open every definition that the rows and lists are worked out from.
 unfoldable pub opened : Unit {0}
-unfolding le readLe leadingWords words leWords lay holds every total holdsText crcFrom byteStep checksum bodyCrc sealed seal plainRows lengthRows tableName entryCount entriesOf previousOf framed isTable tableRegid tableBytes ownRows stationName body sector sized leading inOrder sectorAt content stored puts newestBelow walk unpack pack fits begun filled wrote released closed committed first links walked tests outcome effect after secondNumber sectorsOf
+unfolding le readLe leadingWords words leWords lay holds every total holdsText crcFrom byteStep checksum bodyCrc sealed seal plainRows lengthRows tableName attributeLength entryCount entriesOf previousOf framed isTable tableRegid tableBytes ownRows stationName body sector sized leading inOrder sectorAt content stored puts newestBelow walk unpack pack fits begun filled wrote released closed committed first links walked tests outcome effect after secondNumber sectorsOf
 opened = tt
 
 -- A blank disc of n sectors, and a lent block.
@@ -30,6 +31,14 @@ blank n = record { image = replicate (2048 * n) 0; kinds = replicate n 0 }
 
 abbrev pub block : ℕ → List ℕ
 block x = x ∷ replicate 2047 0
+
+-- The table sector of n unused entries at block b behind a bytes of attributes, all zero; its sums are not put yet.
+abbrev pub behind : ℕ → ℕ → ℕ → List ℕ
+behind a n b = lay (sets (block 0) (176 + a) (tableBytes (replicate n unused) unused)) (plainRows b ++ (lengthRows a n ++ ownRows))
+
+-- A disc of two sectors, the first with these bytes, the other blank.
+abbrev pub holding : List ℕ → Disc
+holding s = record { image = s ++ block 0; kinds = 1 ∷ 0 ∷ [] }
 
 -- What a list of calls answers, each lent disc and ledger as the one before left them.
 unfoldable pub answers : Disc → List ℕ → List Call → List ℕ
@@ -55,18 +64,19 @@ full = numbers 458
 pub data Example : Type 0 where
   -- the CRC of these bytes
   crc-of : List ℕ → ℕ → Example
-  -- n entries: the table length and the CRC length that are recorded
-  lengths-of : ℕ → ℕ → ℕ → Example
-  -- the sector of n entries: not a table sector
-  no-table : ℕ → Example
-  -- calls on a blank disc of n sectors, with the ledger lent to the first of them: their answers
-  calls-on : ℕ → List ℕ → List Call → List ℕ → Example
+  -- a bytes of attributes and n entries: the table length and the CRC length that stand in the sector
+  lengths-of : ℕ → ℕ → ℕ → ℕ → Example
+  -- n entries behind a bytes of attributes: all but the sums of a table sector, or not, and then no table sector whatever the sums
+  framed-behind : ℕ → ℕ → Bool → Example
+  -- calls on a disc, with the ledger lent to the first of them: their answers
+  calls-on : Disc → List ℕ → List Call → List ℕ → Example
 
 unfoldable pub right : Example → Bool
 right (crc-of bytes value) = eqb (crcOf bytes) value
-right (lengths-of n table crc) = let s : List ℕ = lay (block 0) (lengthRows n) in eqb (readLe 4 s 172) table && eqb (crcLength s) crc
-right (no-table n) = not (isTable 1 (sector (replicate n unused) unused 0) 0)
-right (calls-on n l cs expected) = same (answers (blank n) l cs) expected
+right (lengths-of a n table crc) = let s : List ℕ = lay (block 0) (lengthRows a n) in eqb (readLe 4 s 172) table && eqb (crcLength s) crc
+right (framed-behind a n true) = framed (behind a n 0) 0
+right (framed-behind a n false) = not (framed (behind a n 0) 0)
+right (calls-on d l cs expected) = same (answers d l cs) expected
 
 unfoldable pub all-right : List Example → Bool
 all-right [] = true
@@ -75,19 +85,28 @@ all-right (e ∷ es) = right e && all-right es
 unfoldable pub starred : List Example
 starred =
     crc-of (0x70 ∷ 0x6A ∷ 0x77 ∷ []) 0x3299
-    ∷ lengths-of 0 36 196
-    ∷ lengths-of 458 1868 2028
-    ∷ no-table 459
-    ∷ calls-on 8 full (begin ∷ write 0 (block 1) ∷ commit ∷ []) (0 ∷ refused 14 ∷ 0 ∷ [])
-    ∷ calls-on 9 full (begin ∷ write 0 (block 1) ∷ write 1 (block 2) ∷ []) (0 ∷ 0 ∷ refused 14 ∷ [])
-    ∷ calls-on 10 full (begin ∷ write 0 (block 1) ∷ write 1 (block 2) ∷ write 2 (block 3) ∷ []) (0 ∷ 0 ∷ 1 ∷ refused 14 ∷ [])
-    ∷ calls-on 17 full (begin ∷ write 0 (block 1) ∷ closePacket ∷ write 1 (block 2) ∷ []) (0 ∷ 0 ∷ 0 ∷ 8 ∷ [])
-    ∷ calls-on 16 full (begin ∷ write 0 (block 1) ∷ closePacket ∷ write 1 (block 2) ∷ []) (0 ∷ 0 ∷ 0 ∷ refused 14 ∷ [])
-    ∷ calls-on 9 full (begin ∷ write 1 (block 1) ∷ []) (0 ∷ refused 12 ∷ [])
-    ∷ calls-on 9 full (write 458 (block 1) ∷ write 459 (block 1) ∷ []) (refused 13 ∷ refused 13 ∷ [])
-    ∷ calls-on 9 (numbers 3) (write 500 (block 1) ∷ []) (refused 13 ∷ [])
-    ∷ calls-on 12 full (begin ∷ write 0 (block 1) ∷ write 1 (block 2) ∷ write 2 (sector [] unused 1) ∷ []) (0 ∷ 0 ∷ 1 ∷ 2 ∷ [])
-    ∷ calls-on 12 full (begin ∷ write 0 (block 1) ∷ write 1 (block 2) ∷ write 2 (sector [] unused 2) ∷ []) (0 ∷ 0 ∷ 1 ∷ refused 15 ∷ [])
+    ∷ lengths-of 0 0 36 196
+    ∷ lengths-of 0 458 1868 2028
+    ∷ lengths-of 220 2 44 424
+    ∷ framed-behind 0 459 false
+    ∷ framed-behind 1832 0 true
+    ∷ framed-behind 1836 0 false
+    ∷ framed-behind 1824 2 true
+    ∷ framed-behind 1828 2 false
+    ∷ framed-behind 2 0 false
+    ∷ framed-behind 4294967292 0 false
+    ∷ calls-on (blank 8) full (begin ∷ write 0 (block 1) ∷ commit ∷ []) (0 ∷ refused 14 ∷ 0 ∷ [])
+    ∷ calls-on (blank 9) full (begin ∷ write 0 (block 1) ∷ write 1 (block 2) ∷ []) (0 ∷ 0 ∷ refused 14 ∷ [])
+    ∷ calls-on (blank 10) full (begin ∷ write 0 (block 1) ∷ write 1 (block 2) ∷ write 2 (block 3) ∷ []) (0 ∷ 0 ∷ 1 ∷ refused 14 ∷ [])
+    ∷ calls-on (blank 17) full (begin ∷ write 0 (block 1) ∷ closePacket ∷ write 1 (block 2) ∷ []) (0 ∷ 0 ∷ 0 ∷ 8 ∷ [])
+    ∷ calls-on (blank 16) full (begin ∷ write 0 (block 1) ∷ closePacket ∷ write 1 (block 2) ∷ []) (0 ∷ 0 ∷ 0 ∷ refused 14 ∷ [])
+    ∷ calls-on (blank 9) full (begin ∷ write 1 (block 1) ∷ []) (0 ∷ refused 12 ∷ [])
+    ∷ calls-on (blank 9) full (write 458 (block 1) ∷ write 459 (block 1) ∷ []) (refused 13 ∷ refused 13 ∷ [])
+    ∷ calls-on (blank 9) (numbers 3) (write 500 (block 1) ∷ []) (refused 13 ∷ [])
+    ∷ calls-on (blank 12) full (begin ∷ write 0 (block 1) ∷ write 1 (block 2) ∷ write 2 (sector [] unused 1) ∷ []) (0 ∷ 0 ∷ 1 ∷ 2 ∷ [])
+    ∷ calls-on (blank 12) full (begin ∷ write 0 (block 1) ∷ write 1 (block 2) ∷ write 2 (sector [] unused 2) ∷ []) (0 ∷ 0 ∷ 1 ∷ refused 15 ∷ [])
+    ∷ calls-on (blank 12) full (begin ∷ write 0 (seal (behind 220 2 1)) ∷ write 1 (seal (behind 220 2 1)) ∷ []) (0 ∷ 0 ∷ refused 15 ∷ [])
+    ∷ calls-on (holding (seal (behind 220 2 0))) full (begin ∷ mount ∷ []) (refused 6 ∷ 1 ∷ [])
     ∷ []
 
 pub starred-rows : T (all-right starred)

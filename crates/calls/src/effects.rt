@@ -6,7 +6,7 @@ ghost use mathlib.Core.Path.{_≡_};
 ghost use mathlib.Core.List.{[]};
 ghost use Prim.Native.Nat.{_+_, _*_, _≤_, _<_};
 ghost use lib.ListN.{length, take, drop, set, replicate};
-ghost use Rattle.vat.specs.Table.{sectorLength, limit, entryCount, entriesOf};
+ghost use Rattle.vat.specs.Table.{sectorLength, limit, wholeLength, entriesOf};
 ghost use Rattle.vat.specs.Sector.{sector};
 ghost use Rattle.disc.specs.Disc.{lent, link, stored, puts};
 ghost use Rattle.volume.specs.Volume.{ledgerLength, unpack, pack, mapOf, filled};
@@ -39,7 +39,7 @@ pub fn record_table(image: &mut [u8], kinds: &mut [u8], state: Volume, b: u32)
 
 // The ledger shows the table that a plan found.
 pub fn show(image: &[u8], ledger: &mut [u8], plan: Plan, mode: u32)
-    requires { ⌜ (length (now ledger) ≡ ledgerLength) × (sectorLength * plan .block + sectorLength ≤ length (now image)) × (entryCount (take sectorLength (drop (sectorLength * plan .block) (now image))) ≤ limit) ⌝ }
+    requires { ⌜ (length (now ledger) ≡ ledgerLength) × (sectorLength * plan .block + sectorLength ≤ length (now image)) × (wholeLength (take sectorLength (drop (sectorLength * plan .block) (now image))) < sectorLength) ⌝ }
     ensures { λ _. ⌜ now (ledger .exit) ≡ pack (filled (entriesOf (take sectorLength (drop (sectorLength * plan .block) (now (image .entry))))) (plan .block) (plan .recorded) mode) ⌝ }
 {
     let at = SECTOR * (plan.block as usize);

@@ -15,7 +15,7 @@ use Rattle.le.specs.Bytes.{every}
 use Rattle.le.specs.Field.{readLe, holds, words}
 use Rattle.le.proofs.Runs.{words-none}
 use Rattle.tag.specs.Tag.{sealed}
-use Rattle.vat.specs.Table.{sectorLength, unused, plainRows, unusedOrBelow, entryCount, entriesOf, framed, isTable}
+use Rattle.vat.specs.Table.{sectorLength, unused, plainRows, unusedOrBelow, entriesOf, framed, isTable}
 use Rattle.vat.proofs.Frame.{word-taken}
 use Rattle.vat.proofs.Theorems.{recognised}
 use Rattle.disc.specs.declared.Walk.{Walk}
@@ -97,11 +97,11 @@ module _ (kind : ℕ) (s : List ℕ) (b : ℕ) where
   unfolding isTable
   other-kind h = rw (ne-eqb kind 1 h)
 
-  pub not-framed : framed s b (entryCount s) ≡ false → isTable kind s b ≡ false
+  pub not-framed : framed s b ≡ false → isTable kind s b ≡ false
   unfolding isTable
   not-framed e =
       let rest : Bool = every (unusedOrBelow b) (entriesOf s) && sealed s in
-      let f : Bool = framed s b (entryCount s) in
+      let f : Bool = framed s b in
       and-false (eqb kind 1) (eqb (length s) sectorLength && (f && rest)) (and-false (eqb (length s) sectorLength) (f && rest) (ap (λ (t : Bool). t && rest) e))
 
   pub untagged : eqb (readLe 2 s 0) 261 ≡ false → isTable kind s b ≡ false
@@ -112,11 +112,11 @@ module _ (kind : ℕ) (s : List ℕ) (b : ℕ) where
   unfolding isTable
   not-held e =
       let held : Bool = every (unusedOrBelow b) (entriesOf s) in
-      let f : Bool = framed s b (entryCount s) in
+      let f : Bool = framed s b in
       and-false (eqb kind 1) (eqb (length s) sectorLength && (f && (held && sealed s)))
       (and-false (eqb (length s) sectorLength) (f && (held && sealed s)) (and-false f (held && sealed s) (ap (λ (t : Bool). t && sealed s) e)))
 
-  pub all-but-sums : kind ≡ 1 → length s ≡ sectorLength → framed s b (entryCount s) ≡ true → every (unusedOrBelow b) (entriesOf s) ≡ true → isTable kind s b ≡ sealed s
+  pub all-but-sums : kind ≡ 1 → length s ≡ sectorLength → framed s b ≡ true → every (unusedOrBelow b) (entriesOf s) ≡ true → isTable kind s b ≡ sealed s
   unfolding isTable
   all-but-sums k l f e = rw (eq-eqb kind 1 k, eq-eqb (length s) sectorLength l, f, e)
 

@@ -1,7 +1,6 @@
 // The tables on a disc: the newest one, and the walk back from table to table.
 use crate::Walk;
 use vat::table::SECTOR;
-use vat::table::TABLE_AT;
 use vat::table::UNUSED;
 ghost use mathlib.Core.Path.{_≡_};
 ghost use mathlib.Core.Bool.{true};
@@ -48,14 +47,13 @@ pub fn newest(image: &[u8], kinds: &[u8], recorded: u32) -> u32
         if !vat::table::framed(s, b) {
             continue 'scan;
         }
-        let mut left = vat::table::entry_count(s);
-        let mut entry = TABLE_AT;
-        while 0 < left {
-            if !vat::table::may_name(b, le::read32(s, entry)) {
+        let n = vat::table::entry_count(s);
+        let mut i = 0;
+        while i < n {
+            if !vat::table::may_name(b, vat::table::entry(s, i)) {
                 continue 'scan;
             }
-            entry += 4;
-            left -= 1;
+            i += 1;
         }
         if tag::sealed(s) {
             break 'scan b;

@@ -11,9 +11,9 @@ use lib.ListN.{length, getD, take, drop}
 use lib.Seq.{getD-take}
 use borrow.Author.Tests.{eqb-true, eqb-false, ltb-true, ltb-false, leb-true, leb-false, not-false}
 use Rattle.le.specs.Bytes.{every}
-use Rattle.vat.specs.Table.{sectorLength, limit, unused, unusedOrBelow, entryCount, isTable}
+use Rattle.vat.specs.Table.{sectorLength, limit, unused, unusedOrBelow, wholeLength, isTable}
 use Rattle.vat.proofs.Frame.{and-left, and-right}
-use Rattle.vat.proofs.Theorems.{recognised}
+use Rattle.vat.proofs.Theorems.{tells}
 use Rattle.disc.specs.Disc.{Disc, sized, inOrder, recorded, blanks, kindAt, sectorAt}
 use Rattle.disc.specs.declared.Walk.{Walk}
 use Rattle.disc.specs.declared.Walk.the-variants.{Reached, Broken, Ended}
@@ -255,13 +255,13 @@ read-done d l n block e =
       data-kind = eqb-true kind 1 (not-false (eqb kind 1) (passed 10 eleven [] (later 9 ten (test 11 eleven ∷ []) e₁)));
     }
 
--- a table that is shown lies within the image, and its entries fit
+-- a table that is shown lies within the image, and within its sector
 pub shown-fits : (d : Disc) (b : ℕ) → Sound d → tableAt d b ≡ true
-    → (sectorLength * b + sectorLength ≤ length (d .image)) × (entryCount (take sectorLength (drop (sectorLength * b) (d .image))) ≤ limit)
+    → (sectorLength * b + sectorLength ≤ length (d .image)) × (wholeLength (take sectorLength (drop (sectorLength * b) (d .image))) < sectorLength)
 unfolding sectorAt
 shown-fits d b s e = (
   sector-end d (sized-tells d (sound-sized d s)) b (table-within d b e),
-  recognised (kindAt d b) (sectorAt d b) b e .frame .few,
+  tells (kindAt d b) (sectorAt d b) b e .below,
 )
 
 none-found : (o : Option ℕ) → isSome o ≡ false → o ≡ none

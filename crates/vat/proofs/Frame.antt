@@ -1,18 +1,18 @@
 -- What the recogniser's functions need of its definition, on plain values.
 -- Assumes nothing.
-use Prim.Native.Nat.{ℕ, zero, suc, _+_, _-_, _≤_, _<_}
+use Prim.Native.Nat.{ℕ, zero, suc, _+_, _-_, _%_, _≤_, _<_}
 use native.Mathlib.Nat.{not-suc-le-zero}
 use native.Mathlib.Omega.{arith}
 use mathlib.Core.Path.{_≡_, refl}
 use mathlib.Core.Bool.{Bool, true, false, _&&_, and-assoc, false≢true}
 use mathlib.Core.List.{List}
-use lib.Dec.{eqb, leb}
-use borrow.Author.Tests.{eqb-true, leb-true}
+use lib.Dec.{eqb, ltb}
+use borrow.Author.Tests.{eqb-true, ltb-true}
 use Rattle.le.specs.Bytes.{every, holdsText}
 use Rattle.le.specs.Field.{readLe, words, holds}
 use Rattle.le.proofs.Runs.{words-step}
 use Rattle.tag.specs.Tag.{crcLength}
-use Rattle.vat.specs.Table.{limit, tableLength, regidAt, plainRows, lengthRows, embedded, tableName, unusedOrBelow, previousOf, framed}
+use Rattle.vat.specs.Table.{sectorLength, limit, tableLength, regidAt, plainRows, lengthRows, embedded, tableName, attributeLength, entryCount, wholeLength, previousOf, unusedOrBelow, placed, framed}
 
 pub and-left : (a b : Bool) → (a && b) ≡ true → a ≡ true
 and-left true b e = refl
@@ -31,45 +31,62 @@ word-taken held f (suc left) s at h =
     let e : suc left - 1 ≡ left = omega arith in
     rw (e, words-step left s at) (and-assoc held (f (readLe 4 s at)) (every f (words left s (at + 4))))
 
--- what the rows that the entry count settles say, one by one
-pub record Lengths (s : List ℕ) (n : ℕ) : Type 0 where
+-- what the rows that the two lengths settle say, one by one
+pub record Lengths (s : List ℕ) (a n : ℕ) : Type 0 where
+  pub attributes : readLe 4 s 168 ≡ a
   pub descriptors : readLe 4 s 172 ≡ tableLength n
   pub information : readLe 8 s 56 ≡ tableLength n
-  pub summed : crcLength s ≡ 160 + tableLength n
+  pub summed : crcLength s ≡ 160 + a + tableLength n
 
-pub lengths : (s : List ℕ) (n : ℕ) → holds s (lengthRows n) ≡ true → Lengths s n
+pub lengths : (s : List ℕ) (a n : ℕ) → holds s (lengthRows a n) ≡ true → Lengths s a n
 unfolding holds lengthRows
-lengths s n e =
-    let a : Bool = eqb (readLe 4 s 172) (tableLength n) in
-    let b : Bool = eqb (readLe 8 s 56) (tableLength n) in
-    let c : Bool = eqb (readLe 2 s 10) (160 + tableLength n) in
-    let bc : (b && (c && true)) ≡ true = and-right a (b && (c && true)) e in
+lengths s a n e =
+    let p : Bool = eqb (readLe 4 s 168) a in
+    let q : Bool = eqb (readLe 4 s 172) (tableLength n) in
+    let r : Bool = eqb (readLe 8 s 56) (tableLength n) in
+    let t : Bool = eqb (readLe 2 s 10) (160 + a + tableLength n) in
+    let e₁ : (q && (r && (t && true))) ≡ true = and-right p (q && (r && (t && true))) e in
+    let e₂ : (r && (t && true)) ≡ true = and-right q (r && (t && true)) e₁ in
     record {
-      descriptors = eqb-true (readLe 4 s 172) (tableLength n) (and-left a (b && (c && true)) e);
-      information = eqb-true (readLe 8 s 56) (tableLength n) (and-left b (c && true) bc);
-      summed = eqb-true (readLe 2 s 10) (160 + tableLength n) (and-left c true (and-right b (c && true) bc));
+      attributes = eqb-true (readLe 4 s 168) a (and-left p (q && (r && (t && true))) e);
+      descriptors = eqb-true (readLe 4 s 172) (tableLength n) (and-left q (r && (t && true)) e₁);
+      information = eqb-true (readLe 8 s 56) (tableLength n) (and-left r (t && true) e₂);
+      summed = eqb-true (readLe 2 s 10) (160 + a + tableLength n) (and-left t true (and-right r (t && true) e₂));
     }
 
+-- what a table's place tells
+pub placed-below : (s : List ℕ) → placed s ≡ true → wholeLength s < sectorLength
+placed-below s e = ltb-true (wholeLength s) sectorLength (and-right (eqb (attributeLength s % 4) 0) (ltb (wholeLength s) sectorLength) e)
+
+-- below one sector there is room for 458 entries at most
+pub few-entries : (s : List ℕ) → wholeLength s < sectorLength → entryCount s ≤ limit
+few-entries s h = omega arith
+
 -- what a framed sector tells, one by one
-pub record Framed (s : List ℕ) (b n : ℕ) : Type 0 where
+pub record Framed (s : List ℕ) (b : ℕ) : Type 0 where
   pub plain : holds s (plainRows b) ≡ true
-  pub few : n ≤ limit
-  pub sized : Lengths s n
+  pub aligned : attributeLength s % 4 ≡ 0
+  pub below : wholeLength s < sectorLength
+  pub sized : Lengths s (attributeLength s) (entryCount s)
   pub backward : unusedOrBelow b (previousOf s) ≡ true
 
-pub framed-tells : (s : List ℕ) (b n : ℕ) → framed s b n ≡ true → Framed s b n
+pub framed-tells : (s : List ℕ) (b : ℕ) → framed s b ≡ true → Framed s b
 unfolding framed
-framed-tells s b n e =
-    let named : Bool = holdsText s (regidAt n + 1) tableName in
+framed-tells s b e =
+    let a : ℕ = attributeLength s in
+    let n : ℕ = entryCount s in
+    let plain : Bool = holds s (plainRows b) in
+    let sizes : Bool = holds s (lengthRows a n) in
+    let named : Bool = holdsText s (regidAt a n + 1) tableName in
     let back : Bool = unusedOrBelow b (previousOf s) in
-    let sizes : Bool = holds s (lengthRows n) in
-    let e₁ : (embedded s && (leb n limit && (sizes && (named && back)))) ≡ true = and-right (holds s (plainRows b)) (embedded s && (leb n limit && (sizes && (named && back)))) e in
-    let e₂ : (leb n limit && (sizes && (named && back))) ≡ true = and-right (embedded s) (leb n limit && (sizes && (named && back))) e₁ in
-    let e₃ : (sizes && (named && back)) ≡ true = and-right (leb n limit) (sizes && (named && back)) e₂ in
-    let e₄ : (named && back) ≡ true = and-right sizes (named && back) e₃ in
+    let e₁ : (embedded s && (placed s && (sizes && (named && back)))) ≡ true = and-right plain (embedded s && (placed s && (sizes && (named && back)))) e in
+    let e₂ : (placed s && (sizes && (named && back))) ≡ true = and-right (embedded s) (placed s && (sizes && (named && back))) e₁ in
+    let e₃ : (sizes && (named && back)) ≡ true = and-right (placed s) (sizes && (named && back)) e₂ in
+    let put : placed s ≡ true = and-left (placed s) (sizes && (named && back)) e₂ in
     record {
-      plain = and-left (holds s (plainRows b)) (embedded s && (leb n limit && (sizes && (named && back)))) e;
-      few = leb-true n limit (and-left (leb n limit) (sizes && (named && back)) e₂);
-      sized = lengths s n (and-left sizes (named && back) e₃);
-      backward = and-right named back e₄;
+      plain = and-left plain (embedded s && (placed s && (sizes && (named && back)))) e;
+      aligned = eqb-true (a % 4) 0 (and-left (eqb (a % 4) 0) (ltb (wholeLength s) sectorLength) put);
+      below = placed-below s put;
+      sized = lengths s a n (and-left sizes (named && back) e₃);
+      backward = and-right named back (and-right sizes (named && back) e₃);
     }

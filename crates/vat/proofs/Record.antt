@@ -17,7 +17,7 @@ use Rattle.vat.specs.Sector.{tableRegid, tableBytes, ownRows, stationAt,
 use Rattle.vat.proofs.Frame.{and-left, and-right, Lengths, lengths}
 
 abbrev pub header : ℕ → ℕ → List Row
-header b n = plainRows b ++ (lengthRows n ++ ownRows)
+header b n = plainRows b ++ (lengthRows 0 n ++ ownRows)
 
 -- the regid as it is put: flags, text, suffix
 regid-parts : tableRegid ≡ le 1 0 ++ (tableName ++ le 8 0x0150)
@@ -33,22 +33,22 @@ unfolding tableRegid tableName
 regid-length = refl
 
 -- the table, put part by part
-pub table-put : (s map : List ℕ) (previous r : ℕ) → r ≡ regidAt (length map)
-    → sets (sets (sets (sets (sets s tableStart (leWords map)) r (le 1 0)) (r + 1) tableName) (r + 24) (le 8 0x0150)) (r + 32) (le 4 previous)
-    ≡ sets s tableStart (tableBytes map previous)
+pub table-put : (s map : List ℕ) (previous r : ℕ) → r ≡ regidAt 0 (length map)
+    → sets (sets (sets (sets (sets s (tableStart 0) (leWords map)) r (le 1 0)) (r + 1) tableName) (r + 24) (le 8 0x0150)) (r + 32) (le 4 previous)
+    ≡ sets s (tableStart 0) (tableBytes map previous)
 unfolding tableBytes
 table-put s map previous r e =
-    let t : List ℕ = sets s tableStart (leWords map) in
+    let t : List ℕ = sets s (tableStart 0) (leWords map) in
     let name-end : r + 1 + length tableName ≡ r + 24 = omega (arith, name-length) in
     let regid : sets t r tableRegid ≡ sets (sets (sets t r (le 1 0)) (r + 1) tableName) (r + 24) (le 8 0x0150) =
     ap (sets t r) regid-parts
     ∙ sets-append (le 1 0) (tableName ++ le 8 0x0150) t r
     ∙ rw (length-le 1 0) (sets-append tableName (le 8 0x0150) (sets t r (le 1 0)) (r + 1))
     ∙ ap (λ (k : ℕ). sets (sets (sets t r (le 1 0)) (r + 1) tableName) k (le 8 0x0150)) name-end in
-    let behind : tableStart + length (leWords map) ≡ r = omega (arith, length-leWords map) in
+    let behind : tableStart 0 + length (leWords map) ≡ r = omega (arith, length-leWords map) in
     sym
     (rw (
-      sets-append (leWords map) (tableRegid ++ le 4 previous) s tableStart,
+      sets-append (leWords map) (tableRegid ++ le 4 previous) s (tableStart 0),
       behind,
       sets-append tableRegid (le 4 previous) t r,
       regid-length,
@@ -60,20 +60,20 @@ pub header-held : (b n : ℕ) (s : List ℕ) → b < 4294967296 → n ≤ limit 
 unfolding plainRows lengthRows ownRows
 header-held b n s hb hn hs = holds-lay (header b n) s tt 176 tt (omega arith) (omega arith)
 
-pub header-lengths : (b n : ℕ) (s : List ℕ) → b < 4294967296 → n ≤ limit → length s ≡ sectorLength → Lengths (lay s (header b n)) n
+pub header-lengths : (b n : ℕ) (s : List ℕ) → b < 4294967296 → n ≤ limit → length s ≡ sectorLength → Lengths (lay s (header b n)) 0 n
 header-lengths b n s hb hn hs =
     let t : List ℕ = lay s (header b n) in
-    let all : (holds t (plainRows b) && holds t (lengthRows n ++ ownRows)) ≡ true = sym (holds-append (plainRows b) (lengthRows n ++ ownRows) t) ∙ header-held b n s hb hn hs in
-    let rest : (holds t (lengthRows n) && holds t ownRows) ≡ true = sym (holds-append (lengthRows n) ownRows t) ∙ and-right (holds t (plainRows b)) (holds t (lengthRows n ++ ownRows)) all in
-    lengths t n (and-left (holds t (lengthRows n)) (holds t ownRows) rest)
+    let all : (holds t (plainRows b) && holds t (lengthRows 0 n ++ ownRows)) ≡ true = sym (holds-append (plainRows b) (lengthRows 0 n ++ ownRows) t) ∙ header-held b n s hb hn hs in
+    let rest : (holds t (lengthRows 0 n) && holds t ownRows) ≡ true = sym (holds-append (lengthRows 0 n) ownRows t) ∙ and-right (holds t (plainRows b)) (holds t (lengthRows 0 n ++ ownRows)) all in
+    lengths t 0 n (and-left (holds t (lengthRows 0 n)) (holds t ownRows) rest)
 
 -- the header laid part by part
-pub header-laid : (b n : ℕ) (s : List ℕ) → lay (lay (lay s (plainRows b)) (lengthRows n)) ownRows ≡ lay s (header b n)
-header-laid b n s = rw (lay-append (plainRows b) (lengthRows n ++ ownRows) s, lay-append (lengthRows n) ownRows (lay s (plainRows b)))
+pub header-laid : (b n : ℕ) (s : List ℕ) → lay (lay (lay s (plainRows b)) (lengthRows 0 n)) ownRows ≡ lay s (header b n)
+header-laid b n s = rw (lay-append (plainRows b) (lengthRows 0 n ++ ownRows) s, lay-append (lengthRows 0 n) ownRows (lay s (plainRows b)))
 
 pub length-body : (map : List ℕ) (previous : ℕ) → length (body map previous) ≡ sectorLength
 unfolding body
 length-body map previous =
-    length-sets (sets (replicate sectorLength 0) tableStart (tableBytes map previous)) stationAt stationName
-    ∙ length-sets (replicate sectorLength 0) tableStart (tableBytes map previous)
+    length-sets (sets (replicate sectorLength 0) (tableStart 0) (tableBytes map previous)) stationAt stationName
+    ∙ length-sets (replicate sectorLength 0) (tableStart 0) (tableBytes map previous)
     ∙ length-replicate {A = ℕ} sectorLength 0

@@ -2,19 +2,20 @@
 --     reads-back       the sector recorded for a map, a previous table and block b is a table sector at b that holds exactly these
 --     at-one-block     a sector is a table sector at one block number at most, so the recorded one at no other (`not-elsewhere`)
 --     of-kind-1        a sector of any other kind is none
---     tells            what is recognised holds at most 458 entries, each and its previous FFFFFFFF or below b; at block 0 all are FFFFFFFF
+--     tells            what is recognised stands below one sector's end behind attributes of a multiple of 4 bytes, and holds at most 458 entries,
+--                      each and its previous FFFFFFFF or below b; at block 0 all are FFFFFFFF
 -- Assumes nothing.
-use Prim.Native.Nat.{ℕ, zero, suc, _+_, _*_, _≤_, _<_}
+use Prim.Native.Nat.{ℕ, zero, suc, _+_, _*_, _%_, _≤_, _<_}
 use native.Mathlib.Nat.{not-suc-le-zero}
 use native.Mathlib.Omega.{arith}
-use mathlib.Core.Path.{_≡_, refl, sym, ap, _∙_}
+use mathlib.Core.Path.{_≡_, refl, sym, ap, ap₂, _∙_}
 use mathlib.Core.Bool.{Bool, true, false, _&&_, _||_}
 use mathlib.Core.List.{List, [], _∷_, _++_, append-assoc}
 use mathlib.Core.Logic.{_⊎_, inl, inr}
 use lib.Dec.{eqb, ltb, lit≤}
 use lib.ListN.{length, drop, getD, replicate, length-append, length-replicate}
 use lib.Seq.{sets}
-use borrow.Author.Tests.{eq-eqb, eqb-true, ltb-true, le-leb}
+use borrow.Author.Tests.{eq-eqb, eqb-true, ltb-true, lt-ltb}
 use Rattle.le.specs.Bytes.{every, holdsText}
 use Rattle.le.specs.Field.{le, readLe, words, leWords, holds, lay}
 use Rattle.le.proofs.Bytes.{drop-sets, drop-sets-after}
@@ -22,9 +23,9 @@ use Rattle.le.proofs.Fields.{length-le, read-le}
 use Rattle.le.proofs.Rows.{length-lay, holds-spared, holds-append, drop-lay}
 use Rattle.le.proofs.Runs.{length-leWords, drop-on, text-held, Words, words-read, length-words}
 use Rattle.tag.specs.Tag.{sealed}
-use Rattle.vat.specs.Table.{sectorLength, limit, unused, tableStart, tableLength, regidAt, plainRows, lengthRows, embedded, tableName, unusedOrBelow, entryCount, entriesOf, previousOf, framed, isTable}
+use Rattle.vat.specs.Table.{sectorLength, limit, unused, tableStart, tableLength, regidAt, plainRows, lengthRows, embedded, tableName, attributeLength, entryCount, wholeLength, entriesOf, previousOf, unusedOrBelow, framed, isTable}
 use Rattle.vat.specs.Sector.{tableRegid, tableBytes, ownRows, stationName, stationAt, body, sector}
-use Rattle.vat.proofs.Frame.{and-left, and-right, lengths, Framed, framed-tells}
+use Rattle.vat.proofs.Frame.{and-left, and-right, lengths, few-entries, Framed, framed-tells}
 use Rattle.vat.proofs.Record.{header, header-held, length-body}
 use Rattle.tag.proofs.Sums.{sealRows, seal-lays, sealed-seal}
 
@@ -33,7 +34,7 @@ use Rattle.tag.proofs.Sums.{sealRows, seal-lays, sealed-seal}
 pub record Recognised (kind : ℕ) (s : List ℕ) (b : ℕ) : Type 0 where
   pub data-kind : kind ≡ 1
   pub whole : length s ≡ sectorLength
-  pub frame : Framed s b (entryCount s)
+  pub frame : Framed s b
   pub entries : every (unusedOrBelow b) (entriesOf s) ≡ true
   pub sums : sealed s ≡ true
 
@@ -41,14 +42,14 @@ pub recognised : (kind : ℕ) (s : List ℕ) (b : ℕ) → isTable kind s b ≡ 
 unfolding isTable
 recognised kind s b e =
     let listed : Bool = every (unusedOrBelow b) (entriesOf s) in
-    let f : Bool = framed s b (entryCount s) in
+    let f : Bool = framed s b in
     let e₁ : (eqb (length s) sectorLength && (f && (listed && sealed s))) ≡ true = and-right (eqb kind 1) (eqb (length s) sectorLength && (f && (listed && sealed s))) e in
     let e₂ : (f && (listed && sealed s)) ≡ true = and-right (eqb (length s) sectorLength) (f && (listed && sealed s)) e₁ in
     let e₃ : (listed && sealed s) ≡ true = and-right f (listed && sealed s) e₂ in
     record {
       data-kind = eqb-true kind 1 (and-left (eqb kind 1) (eqb (length s) sectorLength && (f && (listed && sealed s))) e);
       whole = eqb-true (length s) sectorLength (and-left (eqb (length s) sectorLength) (f && (listed && sealed s)) e₁);
-      frame = framed-tells s b (entryCount s) (and-left f (listed && sealed s) e₂);
+      frame = framed-tells s b (and-left f (listed && sealed s) e₂);
       entries = and-left listed (sealed s) e₃;
       sums = and-right listed (sealed s) e₃;
     }
@@ -56,7 +57,7 @@ recognised kind s b e =
 location : (s : List ℕ) (b : ℕ) → holds s (plainRows b) ≡ true → readLe 4 s 12 ≡ b
 unfolding holds plainRows
 location s b e =
-    let tail : Bool = eqb (readLe 2 s 20) 4 && (eqb (readLe 1 s 27) 0 && (eqb (readLe 2 s 48) 0 && (eqb (readLe 4 s 168) 0 && true))) in
+    let tail : Bool = eqb (readLe 2 s 20) 4 && (eqb (readLe 1 s 27) 0 && (eqb (readLe 2 s 48) 0 && true)) in
     let at : Bool = eqb (readLe 4 s 12) b in
     let three : Bool = eqb (readLe 1 s 5) 0 in
     let two : Bool = eqb (readLe 2 s 2) 2 in
@@ -91,6 +92,8 @@ each-named b (x ∷ xs) e zero h = named b x (and-left (unusedOrBelow b x) (ever
 each-named b (x ∷ xs) e (suc i) h = each-named b xs (and-right (unusedOrBelow b x) (every (unusedOrBelow b) xs) e) i (omega arith)
 
 pub record Tells (s : List ℕ) (b : ℕ) : Type 0 where
+  pub aligned : attributeLength s % 4 ≡ 0
+  pub below : wholeLength s < sectorLength
   pub counted : length (entriesOf s) ≡ entryCount s
   pub few : entryCount s ≤ limit
   pub entry : (i : ℕ) → i < entryCount s → Named b (getD (entriesOf s) i 0)
@@ -100,11 +103,13 @@ pub tells : (kind : ℕ) (s : List ℕ) (b : ℕ) → isTable kind s b ≡ true 
 unfolding entriesOf
 tells kind s b e =
     let r : Recognised kind s b = recognised kind s b e in
-    let n : ℕ = entryCount s in
+    let count : length (entriesOf s) ≡ entryCount s = length-words (entryCount s) s (tableStart (attributeLength s)) in
     record {
-      counted = length-words n s tableStart;
-      few = r .frame .few;
-      entry = λ i h. each-named b (entriesOf s) (r .entries) i (rw (length-words n s tableStart) h);
+      aligned = r .frame .aligned;
+      below = r .frame .below;
+      counted = count;
+      few = few-entries s (r .frame .below);
+      entry = λ i h. each-named b (entriesOf s) (r .entries) i (rw count h);
       previous = named b (previousOf s) (r .frame .backward);
     }
 
@@ -167,33 +172,33 @@ module _ (map : List ℕ) (previous b : ℕ) (few : length map ≤ limit) (small
   sums-held = sealed-seal laid (omega (arith, length-laid))
 
   -- header and sums end before the table
-  table-stands : drop tableStart (sector map previous b) ≡ tableBytes map previous ++ drop (tableStart + tableLength (length map)) (replicate sectorLength 0)
+  table-stands : drop (tableStart 0) (sector map previous b) ≡ tableBytes map previous ++ drop (tableStart 0 + tableLength (length map)) (replicate sectorLength 0)
   unfolding laid plainRows lengthRows ownRows body stationName
   table-stands =
       let zeros : List ℕ = replicate sectorLength 0 in
       let table : List ℕ = tableBytes map previous in
-      let inside : tableStart + length table ≤ length zeros = omega (arith, length-table map previous, length-replicate {A = ℕ} sectorLength 0) in
-      ap (drop tableStart) sector-lays
-      ∙ drop-lay (sealRows laid) laid tableStart tt
-      ∙ drop-lay (header b (length map)) (body map previous) tableStart tt
-      ∙ drop-sets-after stationName (sets zeros tableStart table) stationAt tableStart (lit≤ tt)
-      ∙ drop-sets table zeros tableStart inside
-      ∙ ap (λ (k : ℕ). table ++ drop (tableStart + k) zeros) (length-table map previous)
+      let inside : tableStart 0 + length table ≤ length zeros = omega (arith, length-table map previous, length-replicate {A = ℕ} sectorLength 0) in
+      ap (drop (tableStart 0)) sector-lays
+      ∙ drop-lay (sealRows laid) laid (tableStart 0) tt
+      ∙ drop-lay (header b (length map)) (body map previous) (tableStart 0) tt
+      ∙ drop-sets-after stationName (sets zeros (tableStart 0) table) stationAt (tableStart 0) (lit≤ tt)
+      ∙ drop-sets table zeros (tableStart 0) inside
+      ∙ ap (λ (k : ℕ). table ++ drop (tableStart 0 + k) zeros) (length-table map previous)
 
   -- the header's parts, one by one
   plain-held : holds (sector map previous b) (plainRows b) ≡ true
   plain-held =
       let s : List ℕ = sector map previous b in
-      and-left (holds s (plainRows b)) (holds s (lengthRows (length map) ++ ownRows)) (sym (holds-append (plainRows b) (lengthRows (length map) ++ ownRows) s) ∙ held)
+      and-left (holds s (plainRows b)) (holds s (lengthRows 0 (length map) ++ ownRows)) (sym (holds-append (plainRows b) (lengthRows 0 (length map) ++ ownRows) s) ∙ held)
 
-  rest-held : (holds (sector map previous b) (lengthRows (length map)) && holds (sector map previous b) ownRows) ≡ true
+  rest-held : (holds (sector map previous b) (lengthRows 0 (length map)) && holds (sector map previous b) ownRows) ≡ true
   rest-held =
       let s : List ℕ = sector map previous b in
-      sym (holds-append (lengthRows (length map)) ownRows s)
-      ∙ and-right (holds s (plainRows b)) (holds s (lengthRows (length map) ++ ownRows)) (sym (holds-append (plainRows b) (lengthRows (length map) ++ ownRows) s) ∙ held)
+      sym (holds-append (lengthRows 0 (length map)) ownRows s)
+      ∙ and-right (holds s (plainRows b)) (holds s (lengthRows 0 (length map) ++ ownRows)) (sym (holds-append (plainRows b) (lengthRows 0 (length map) ++ ownRows) s) ∙ held)
 
-  lengths-held : holds (sector map previous b) (lengthRows (length map)) ≡ true
-  lengths-held = and-left (holds (sector map previous b) (lengthRows (length map))) (holds (sector map previous b) ownRows) rest-held
+  lengths-held : holds (sector map previous b) (lengthRows 0 (length map)) ≡ true
+  lengths-held = and-left (holds (sector map previous b) (lengthRows 0 (length map))) (holds (sector map previous b) ownRows) rest-held
 
   flags-held : embedded (sector map previous b) ≡ true
   unfolding holds ownRows
@@ -202,54 +207,59 @@ module _ (map : List ℕ) (previous b : ℕ) (few : length map ≤ limit) (small
       let tail : Bool = eqb (readLe 4 s 36) unused && (eqb (readLe 4 s 40) unused && (eqb (readLe 4 s 108) 1 && true)) in
       let most : Bool = eqb (readLe 2 s 24) 1 in
       let flags : Bool = eqb (readLe 2 s 34) 3 in
-      let own : (most && (flags && tail)) ≡ true = and-right (holds s (lengthRows (length map))) (holds s ownRows) rest-held in
+      let own : (most && (flags && tail)) ≡ true = and-right (holds s (lengthRows 0 (length map))) (holds s ownRows) rest-held in
       rw (eqb-true (readLe 2 s 34) 3 (and-left flags tail (and-right most (flags && tail) own)))
+
+  unattributed : attributeLength (sector map previous b) ≡ 0
+  unfolding attributeLength
+  unattributed = lengths (sector map previous b) 0 (length map) lengths-held .attributes
 
   counted : entryCount (sector map previous b) ≡ length map
   unfolding entryCount
-  counted = omega (arith, lengths (sector map previous b) (length map) lengths-held .descriptors)
+  counted = omega (arith, lengths (sector map previous b) 0 (length map) lengths-held .descriptors)
 
   -- the parts of the table, each where it stands
-  regid-stands : drop (regidAt (length map)) (sector map previous b) ≡ tableRegid ++ (le 4 previous ++ drop (tableStart + tableLength (length map)) (replicate sectorLength 0))
+  regid-stands : drop (regidAt 0 (length map)) (sector map previous b) ≡ tableRegid ++ (le 4 previous ++ drop (tableStart 0 + tableLength (length map)) (replicate sectorLength 0))
   unfolding tableBytes
   regid-stands =
-      let zeros : List ℕ = drop (tableStart + tableLength (length map)) (replicate sectorLength 0) in
-      drop-on (sector map previous b) (leWords map) (tableRegid ++ (le 4 previous ++ zeros)) tableStart (4 * length map)
+      let zeros : List ℕ = drop (tableStart 0 + tableLength (length map)) (replicate sectorLength 0) in
+      drop-on (sector map previous b) (leWords map) (tableRegid ++ (le 4 previous ++ zeros)) (tableStart 0) (4 * length map)
       (table-stands ∙ append-assoc (leWords map) (tableRegid ++ le 4 previous) zeros ∙ ap (λ (l : List ℕ). leWords map ++ l) (append-assoc tableRegid (le 4 previous) zeros))
       (length-leWords map)
 
-  named-held : holdsText (sector map previous b) (regidAt (length map) + 1) tableName ≡ true
+  named-held : holdsText (sector map previous b) (regidAt 0 (length map) + 1) tableName ≡ true
   unfolding tableRegid
   named-held =
-      let zeros : List ℕ = drop (tableStart + tableLength (length map)) (replicate sectorLength 0) in
+      let zeros : List ℕ = drop (tableStart 0 + tableLength (length map)) (replicate sectorLength 0) in
       let suffix : List ℕ = 0x50 ∷ 0x01 ∷ 0 ∷ 0 ∷ 0 ∷ 0 ∷ 0 ∷ 0 ∷ [] in
       let behind : List ℕ = suffix ++ (le 4 previous ++ zeros) in
-      text-held tableName (sector map previous b) behind (regidAt (length map) + 1)
-      (drop-on (sector map previous b) (0 ∷ []) (tableName ++ behind) (regidAt (length map)) 1
+      text-held tableName (sector map previous b) behind (regidAt 0 (length map) + 1)
+      (drop-on (sector map previous b) (0 ∷ []) (tableName ++ behind) (regidAt 0 (length map)) 1
       (regid-stands ∙ ap (λ (l : List ℕ). 0 ∷ l) (append-assoc tableName suffix (le 4 previous ++ zeros))) refl)
 
   module _ (entries-below : every (unusedOrBelow b) map ≡ true) (previous-below : unusedOrBelow b previous ≡ true) where
     listed : entriesOf (sector map previous b) ≡ map
     unfolding entriesOf tableBytes
     listed =
-        let zeros : List ℕ = drop (tableStart + tableLength (length map)) (replicate sectorLength 0) in
-        ap (λ (k : ℕ). words k (sector map previous b) tableStart) counted
-        ∙ words-read map (sector map previous b) ((tableRegid ++ le 4 previous) ++ zeros) tableStart
+        let zeros : List ℕ = drop (tableStart 0 + tableLength (length map)) (replicate sectorLength 0) in
+        ap₂ (λ (a k : ℕ). words k (sector map previous b) (tableStart a)) unattributed counted
+        ∙ words-read map (sector map previous b) ((tableRegid ++ le 4 previous) ++ zeros) (tableStart 0)
         (table-stands ∙ append-assoc (leWords map) (tableRegid ++ le 4 previous) zeros) (all-fit b map small entries-below)
 
     linked : previousOf (sector map previous b) ≡ previous
     unfolding previousOf tableRegid tableName
     linked =
-        let zeros : List ℕ = drop (tableStart + tableLength (length map)) (replicate sectorLength 0) in
-        ap (λ (k : ℕ). readLe 4 (sector map previous b) (regidAt k + 32)) counted
-        ∙ read-le 4 previous (sector map previous b) zeros (regidAt (length map) + 32)
-        (drop-on (sector map previous b) tableRegid (le 4 previous ++ zeros) (regidAt (length map)) 32 regid-stands refl)
+        let zeros : List ℕ = drop (tableStart 0 + tableLength (length map)) (replicate sectorLength 0) in
+        ap₂ (λ (a k : ℕ). readLe 4 (sector map previous b) (regidAt a k + 32)) unattributed counted
+        ∙ read-le 4 previous (sector map previous b) zeros (regidAt 0 (length map) + 32)
+        (drop-on (sector map previous b) tableRegid (le 4 previous ++ zeros) (regidAt 0 (length map)) 32 regid-stands refl)
         (fits b previous small previous-below)
 
-    framed-held : framed (sector map previous b) b (entryCount (sector map previous b)) ≡ true
+    framed-held : framed (sector map previous b) b ≡ true
     unfolding framed
     framed-held =
-        rw (counted, plain-held, flags-held, le-leb (length map) limit few, lengths-held, named-held, linked, previous-below)
+        let short : ltb (tableStart 0 + tableLength (length map)) sectorLength ≡ true = lt-ltb (tableStart 0 + tableLength (length map)) sectorLength (omega arith) in
+        rw (unattributed, counted, plain-held, flags-held, short, lengths-held, named-held, linked, previous-below)
 
     recognised-here : isTable 1 (sector map previous b) b ≡ true
     unfolding isTable
@@ -261,6 +271,7 @@ module _ (map : List ℕ) (previous b : ℕ) (few : length map ≤ limit) (small
 -- the sector recorded for a map, a previous table and a block
 pub record ReadsBack (map : List ℕ) (previous b : ℕ) : Type 0 where
   pub is-table : isTable 1 (sector map previous b) b ≡ true
+  pub attributes : attributeLength (sector map previous b) ≡ 0
   pub count : entryCount (sector map previous b) ≡ length map
   pub entries : entriesOf (sector map previous b) ≡ map
   pub previous-table : previousOf (sector map previous b) ≡ previous
@@ -270,6 +281,7 @@ pub reads-back : (map : List ℕ) (previous b : ℕ) → length map ≤ limit �
 reads-back map previous b few below before small =
     record {
       is-table = recognised-here map previous b few small below before;
+      attributes = unattributed map previous b few small;
       count = counted map previous b few small;
       entries = listed map previous b few small below before;
       previous-table = linked map previous b few small below before;

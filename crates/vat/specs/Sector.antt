@@ -34,8 +34,8 @@ stationName = 42 ∷ 66 ∷ 101 ∷ 110 ∷ 99 ∷ 104 ∷ 32 ∷ 83 ∷ 116 ∷
 
 -- The table and the name over zeros: "Everything else is zero, up to byte 2047."
 unfoldable pub body : List ℕ → ℕ → List ℕ
-body map previous = sets (sets (replicate sectorLength 0) tableStart (tableBytes map previous)) stationAt stationName
+body map previous = sets (sets (replicate sectorLength 0) (tableStart 0) (tableBytes map previous)) stationAt stationName
 
--- The sector for a map, a previous table and the block b that it is recorded at.
+-- The sector for a map, a previous table and the block b that it is recorded at. "Our commit [..] records none" of the attributes.
 unfoldable pub sector : List ℕ → ℕ → ℕ → List ℕ
-sector map previous b = seal (lay (body map previous) (plainRows b ++ (lengthRows (length map) ++ ownRows)))
+sector map previous b = seal (lay (body map previous) (plainRows b ++ (lengthRows 0 (length map) ++ ownRows)))

@@ -1,9 +1,9 @@
--- A table sector (ECMA-167 4/14.9, UDF 1.50 2.2.10; document 01, 'The table sector at block b'): the ICB of the virtual allocation table,
--- with the table embedded. What such a sector holds, and which sectors are such.
+-- A table sector (ECMA-167 4/14.9, UDF 1.50 2.2.10; document 01, 'The table sector at block b', and document 02 for the attributes): the ICB of
+-- the virtual allocation table, with the table embedded behind extended attributes. What such a sector holds, and which sectors are such.
 use Prim.Native.Nat.{ℕ, _+_, _-_, _*_, _/_, _%_}
 use mathlib.Core.Bool.{Bool, _&&_, _||_}
 use mathlib.Core.List.{List, [], _∷_}
-use lib.Dec.{eqb, ltb, leb}
+use lib.Dec.{eqb, ltb}
 use lib.ListN.{length}
 use Rattle.le.specs.Bytes.{every, holdsText}
 use Rattle.le.specs.Field.{Row, row, readLe, holds, words}
@@ -13,7 +13,7 @@ use Rattle.tag.specs.Tag.{sealed}
 abbrev pub sectorLength : ℕ
 sectorLength = 2048
 
--- "000 asks that ICB and file together be less than a sector: 176 + 4 × N + 36 < 2048, so N is at most 458."
+-- "000 asks that ICB and file together be less than a sector: 176 + 4 × N + 36 < 2048, so N is at most 458", and less behind attributes.
 abbrev pub limit : ℕ
 limit = 458
 
@@ -21,16 +21,16 @@ limit = 458
 abbrev pub unused : ℕ
 unused = 0xFFFFFFFF
 
--- Byte 176: the table.
-abbrev pub tableStart : ℕ
-tableStart = 176
+-- "The table [..] starts at 176 + attribute length"; between them the attributes, of which nothing is asked.
+abbrev pub tableStart : ℕ → ℕ
+tableStart a = 176 + a
 
 -- "Table: entries of 32 bits, a 32-byte regid, the previous table's block (32 bits)." "The table length is 4 × N + 36 exactly."
 abbrev pub tableLength : ℕ → ℕ
 tableLength n = 4 * n + 36
 
-abbrev pub regidAt : ℕ → ℕ
-regidAt n = tableStart + 4 * n
+abbrev pub regidAt : ℕ → ℕ → ℕ
+regidAt a n = tableStart a + 4 * n
 
 -- Rows whose number the format or the block b settles.
 unfoldable pub plainRows : ℕ → List Row
@@ -42,15 +42,15 @@ plainRows b =
     ∷ row 20 2 4  -- strategy
     ∷ row 27 1 0  -- file type
     ∷ row 48 2 0  -- link count
-    ∷ row 168 4 0  -- attribute length
     ∷ []
 
--- Rows whose number the entry count n settles.
-unfoldable pub lengthRows : ℕ → List Row
-lengthRows n =
-    row 172 4 (tableLength n)  -- descriptor length = table length
+-- Rows whose number the attribute length a and the entry count n settle.
+unfoldable pub lengthRows : ℕ → ℕ → List Row
+lengthRows a n =
+    row 168 4 a  -- attribute length
+    ∷ row 172 4 (tableLength n)  -- descriptor length = table length
     ∷ row 56 8 (tableLength n)  -- information length = table length
-    ∷ row 10 2 (160 + tableLength n)  -- CRC length = 160 + attribute length, which is 0, + descriptor length
+    ∷ row 10 2 (160 + a + tableLength n)  -- CRC length = 160 + attribute length + descriptor length
     ∷ []
 
 -- Byte 34, 16 bits: "flags: low three bits 3, embedded".
@@ -62,32 +62,46 @@ unfoldable pub tableName : List ℕ
 tableName =
     42 ∷ 85 ∷ 68 ∷ 70 ∷ 32 ∷ 86 ∷ 105 ∷ 114 ∷ 116 ∷ 117 ∷ 97 ∷ 108 ∷ 32 ∷ 65 ∷ 108 ∷ 108 ∷ 111 ∷ 99 ∷ 32 ∷ 84 ∷ 98 ∷ 108 ∷ 0 ∷ []
 
+-- The attribute length, at byte 168.
+unfoldable pub attributeLength : List ℕ → ℕ
+attributeLength s = readLe 4 s 168
+
 -- "Entry count N = (length − 36) / 4", of the descriptor length at byte 172.
 unfoldable pub entryCount : List ℕ → ℕ
 entryCount s = (readLe 4 s 172 - 36) / 4
 
+-- "ICB and file together", with the attributes between them, of the lengths that the sector tells.
+abbrev pub wholeLength : List ℕ → ℕ
+wholeLength s = tableStart (attributeLength s) + tableLength (entryCount s)
+
 -- Entry i of the table, all of its entries, and the previous table's block.
 abbrev pub entryOf : List ℕ → ℕ → ℕ
-entryOf s i = readLe 4 s (tableStart + 4 * i)
+entryOf s i = readLe 4 s (tableStart (attributeLength s) + 4 * i)
 
 unfoldable pub entriesOf : List ℕ → List ℕ
-entriesOf s = words (entryCount s) s tableStart
+entriesOf s = words (entryCount s) s (tableStart (attributeLength s))
 
 unfoldable pub previousOf : List ℕ → ℕ
-previousOf s = readLe 4 s (regidAt (entryCount s) + 32)
+previousOf s = readLe 4 s (regidAt (attributeLength s) (entryCount s) + 32)
 
 -- A block that a sector at block b may name: it is "FFFFFFFF or less than b".
 abbrev pub unusedOrBelow : ℕ → ℕ → Bool
 unusedOrBelow b x = ltb x b || eqb x unused
 
--- All but the entries and the two sums, on the entry count n of the sector s.
-unfoldable pub framed : List ℕ → ℕ → ℕ → Bool
-framed s b n =
+-- The attribute length is "a multiple of 4", "and the whole must stay below one sector".
+abbrev pub placed : List ℕ → Bool
+placed s = eqb (attributeLength s % 4) 0 && ltb (wholeLength s) sectorLength
+
+-- All but the entries and the two sums.
+unfoldable pub framed : List ℕ → ℕ → Bool
+framed s b =
+    let a : ℕ = attributeLength s in
+    let n : ℕ = entryCount s in
     holds s (plainRows b)
-    && (embedded s && (leb n limit && (holds s (lengthRows n) && (holdsText s (regidAt n + 1) tableName && unusedOrBelow b (previousOf s)))))
+    && (embedded s && (placed s && (holds s (lengthRows a n) && (holdsText s (regidAt a n + 1) tableName && unusedOrBelow b (previousOf s)))))
 
 -- The sector s of the kind given is a table sector at block b. The costly CRC comes last.
 unfoldable pub isTable : ℕ → List ℕ → ℕ → Bool
 isTable kind s b =
     eqb kind 1
-    && (eqb (length s) sectorLength && (framed s b (entryCount s) && (every (unusedOrBelow b) (entriesOf s) && sealed s)))
+    && (eqb (length s) sectorLength && (framed s b && (every (unusedOrBelow b) (entriesOf s) && sealed s)))

@@ -1,6 +1,5 @@
 // The sector that commit records.
-use crate::table::SECTOR;
-use crate::table::TABLE_AT;
+use crate::table::ATTRIBUTES_AT;
 use crate::table::TABLE_NAME;
 use crate::table::UNUSED;
 ghost use mathlib.Core.Path.{_≡_};
@@ -24,14 +23,14 @@ fn put_plain(s: &mut [u8], b: u32)
     le::put16(s, 20, 4);
     le::put8(s, 27, 0);
     le::put16(s, 48, 0);
-    le::put32(s, 168, 0);
 }
 
 fn put_lengths(s: &mut [u8], n: u32)
     requires { ⌜ (length (now s) ≡ sectorLength) × (n ≤ limit) ⌝ }
-    ensures { λ _. ⌜ now (s .exit) ≡ lay (now (s .entry)) (lengthRows n) ⌝ }
+    ensures { λ _. ⌜ now (s .exit) ≡ lay (now (s .entry)) (lengthRows 0 n) ⌝ }
 {
     let length = 4 * n + 36;
+    le::put32(s, 168, 0);
     le::put32(s, 172, length);
     le::put64(s, 56, length as u64);
     le::put16(s, 10, (160 + length) as u16);
@@ -51,11 +50,11 @@ fn put_own(s: &mut [u8])
 // The entries, the regid (flags, text, suffix) and the previous table, one behind the other.
 fn put_table(s: &mut [u8], map: &[u32], previous: u32)
     requires { ⌜ (length (now s) ≡ sectorLength) × (length (now map) ≤ limit) ⌝ }
-    ensures { λ _. ⌜ now (s .exit) ≡ sets (now (s .entry)) tableStart (tableBytes (now (map .entry)) previous) ⌝ }
+    ensures { λ _. ⌜ now (s .exit) ≡ sets (now (s .entry)) (tableStart 0) (tableBytes (now (map .entry)) previous) ⌝ }
 {
-    let regid = TABLE_AT + 4 * map.len();
+    let regid = ATTRIBUTES_AT + 4 * map.len();
     let name = TABLE_NAME;
-    le::run::put_words(s, TABLE_AT, map);
+    le::run::put_words(s, ATTRIBUTES_AT, map);
     le::put8(s, regid, 0);
     le::run::put_text(s, regid + 1, &name);
     le::put64(s, regid + 24, 0x0150);

@@ -5,7 +5,7 @@ ghost use lib.Dec.{eqb};
 ghost use lib.ListN.{length};
 ghost use Rattle.le.specs.Bytes.{every};
 ghost use Rattle.le.specs.Field.{readLe, holds, words};
-ghost use Rattle.vat.specs.Table.{sectorLength, limit, plainRows, lengthRows, unusedOrBelow, entryCount, entryOf, previousOf, framed, isTable};
+ghost use Rattle.vat.specs.Table.{sectorLength, tableStart, regidAt, plainRows, lengthRows, unusedOrBelow, attributeLength, entryCount, wholeLength, entryOf, previousOf, placed, framed, isTable};
 
 pub const SECTOR: usize = 2048;
 
@@ -14,7 +14,8 @@ pub const LIMIT: u32 = 458;
 
 pub const UNUSED: u32 = 4294967295;
 
-pub const TABLE_AT: usize = 176;
+// Where the attributes start; the table, where there are none.
+pub const ATTRIBUTES_AT: usize = 176;
 
 pub const TABLE_NAME: [u8; 23] = *b"*UDF Virtual Alloc Tbl\0";
 
@@ -32,19 +33,14 @@ fn plain_held(s: &[u8], b: u32) -> bool
     let strategy = le::read16(s, 20) == 4;
     let file_type = le::read8(s, 27) == 0;
     let links = le::read16(s, 48) == 0;
-    let attributes = le::read32(s, 168) == 0;
-    version & (zero & (location & (strategy & (file_type & (links & attributes)))))
+    version & (zero & (location & (strategy & (file_type & links))))
 }
 
-fn lengths_held(s: &[u8], n: u32) -> bool
-    requires { ⌜ (length (now s) ≡ sectorLength) × (n ≤ limit) ⌝ }
-    ensures { λ r. ⌜ r ≡ holds (now (s .entry)) (lengthRows n) ⌝ }
+fn attribute_length(s: &[u8]) -> u32
+    requires { ⌜ length (now s) ≡ sectorLength ⌝ }
+    ensures { λ r. ⌜ r ≡ attributeLength (now (s .entry)) ⌝ }
 {
-    let length = 4 * n + 36;
-    let descriptors = le::read32(s, 172) == length;
-    let information = le::read64(s, 56) == (length as u64);
-    let summed = (le::read16(s, 10) as u32) == 160 + length;
-    descriptors & (information & summed)
+    le::read32(s, 168)
 }
 
 pub fn entry_count(s: &[u8]) -> u32
@@ -58,19 +54,56 @@ pub fn entry_count(s: &[u8]) -> u32
     (length - 36) / 4
 }
 
+// "a multiple of 4", "and the whole must stay below one sector": summed in 64 bits, where two lengths of 32 bits cannot wrap.
+pub fn placed(s: &[u8]) -> bool
+    requires { ⌜ length (now s) ≡ sectorLength ⌝ }
+    ensures { λ r. ⌜ r ≡ placed (now (s .entry)) ⌝ }
+{
+    let attributes = attribute_length(s) as u64;
+    let table = 4 * (entry_count(s) as u64) + 36;
+    (attributes % 4 == 0) & (176 + attributes + table < 2048)
+}
+
+// The place of the table, behind the attributes.
+pub fn table_start(s: &[u8]) -> usize
+    requires { ⌜ (length (now s) ≡ sectorLength) × (wholeLength (now s) < sectorLength) ⌝ }
+    ensures { λ r. ⌜ r ≡ tableStart (attributeLength (now (s .entry))) ⌝ }
+{
+    ATTRIBUTES_AT + (attribute_length(s) as usize)
+}
+
+// The place of the regid, behind the entries.
+fn regid_at(s: &[u8]) -> usize
+    requires { ⌜ (length (now s) ≡ sectorLength) × (wholeLength (now s) < sectorLength) ⌝ }
+    ensures { λ r. ⌜ r ≡ regidAt (attributeLength (now (s .entry))) (entryCount (now (s .entry))) ⌝ }
+{
+    table_start(s) + 4 * (entry_count(s) as usize)
+}
+
 pub fn entry(s: &[u8], i: u32) -> u32
-    requires { ⌜ (length (now s) ≡ sectorLength) × (i < limit) ⌝ }
+    requires { ⌜ (length (now s) ≡ sectorLength) × (wholeLength (now s) < sectorLength) × (i < entryCount (now s)) ⌝ }
     ensures { λ r. ⌜ r ≡ entryOf (now (s .entry)) i ⌝ }
 {
-    le::read32(s, TABLE_AT + 4 * (i as usize))
+    le::read32(s, table_start(s) + 4 * (i as usize))
 }
 
 pub fn previous(s: &[u8]) -> u32
-    requires { ⌜ (length (now s) ≡ sectorLength) × (entryCount (now s) ≤ limit) ⌝ }
+    requires { ⌜ (length (now s) ≡ sectorLength) × (wholeLength (now s) < sectorLength) ⌝ }
     ensures { λ r. ⌜ r ≡ previousOf (now (s .entry)) ⌝ }
 {
-    let n = entry_count(s);
-    le::read32(s, TABLE_AT + 4 * (n as usize) + 32)
+    le::read32(s, regid_at(s) + 32)
+}
+
+// The attribute length needs no test of its own: the others are held against it.
+fn lengths_held(s: &[u8]) -> bool
+    requires { ⌜ (length (now s) ≡ sectorLength) × (wholeLength (now s) < sectorLength) ⌝ }
+    ensures { λ r. ⌜ r ≡ holds (now (s .entry)) (lengthRows (attributeLength (now (s .entry))) (entryCount (now (s .entry)))) ⌝ }
+{
+    let length = 4 * entry_count(s) + 36;
+    let descriptors = le::read32(s, 172) == length;
+    let information = le::read64(s, 56) == (length as u64);
+    let summed = (le::read16(s, 10) as u32) == 160 + attribute_length(s) + length;
+    descriptors & (information & summed)
 }
 
 // A block that a sector at block b may name.
@@ -91,19 +124,18 @@ pub fn tagged(s: &[u8]) -> bool
 // All but the entries and the two sums.
 pub fn framed(s: &[u8], b: u32) -> bool
     requires { ⌜ length (now s) ≡ sectorLength ⌝ }
-    ensures { λ r. ⌜ r ≡ framed (now (s .entry)) b (entryCount (now (s .entry))) ⌝ }
+    ensures { λ r. ⌜ r ≡ framed (now (s .entry)) b ⌝ }
 {
     if !plain_held(s, b) {
         return false;
     }
     let embedded = (le::read16(s, 34) & 7) == 3;
-    let n = entry_count(s);
-    if LIMIT < n {
+    if !placed(s) {
         return false;
     }
-    let lengths = lengths_held(s, n);
+    let lengths = lengths_held(s);
     let name = TABLE_NAME;
-    let named = le::run::holds_text(s, TABLE_AT + 4 * (n as usize) + 1, &name);
+    let named = le::run::holds_text(s, regid_at(s) + 1, &name);
     let backward = may_name(b, previous(s));
     embedded & (lengths & (named & backward))
 }
@@ -137,8 +169,7 @@ pub fn is_table(kind: u8, s: &[u8], b: u32) -> bool
     if !framed(s, b) {
         return false;
     }
-    let n = entry_count(s);
-    if !words_held(s, TABLE_AT, n, b) {
+    if !words_held(s, table_start(s), entry_count(s), b) {
         return false;
     }
     tag::sealed(s)

@@ -5,6 +5,7 @@ use vat::table::UNUSED;
 use vat::table::entry;
 use vat::table::entry_count;
 use vat::table::is_table;
+use vat::table::placed;
 use vat::table::previous;
 ghost use Prim.Native.Nat.{_≤_};
 ghost use mathlib.Core.Path.{_≡_};
@@ -68,10 +69,10 @@ fn show_map(s: &[u8]) {
     if s.len() != 2048 {
         return;
     }
-    let n = entry_count(s);
-    if n > 458 {
+    if !placed(s) {
         return;
     }
+    let n = entry_count(s);
     say(b"count ");
     io::print_decimal(STDOUT, n as u64);
     let mut i = 0;
@@ -145,6 +146,41 @@ fn small_table() {
     show_map(&sector);
 }
 
+// The table sector `plain`, which has no attributes, with so many bytes of them before its table.
+fn put_behind(s: &mut [u8], plain: &[u8], attributes: usize)
+    requires { ⌜ (length (now s) ≡ 2048) × (length (now plain) ≡ 2048) × (attributes ≤ 1872) ⌝ }
+    ensures { λ _. ⌜ length (now (s .exit)) ≡ 2048 ⌝ }
+{
+    ramp(s);
+    le::run::put_text(s, 0, &plain[0..176]);
+    le::run::put_text(s, 176 + attributes, &plain[176..2048 - attributes]);
+    le::put32(s, 168, attributes as u32);
+    let summed = (le::read16(plain, 10) as usize) + attributes;
+    le::put16(s, 10, (summed % 65536) as u16);
+    if (le::read16(s, 10) as usize) <= 2032 {
+        tag::seal(s);
+    }
+}
+
+// The small table behind 220 bytes of attributes, as mkudffs has them; as far behind as there is room; one word further; and behind two bytes.
+fn tables_behind() {
+    let mut plain = [0u8; 2048];
+    let mut sector = [0u8; 2048];
+    let map = [0, UNUSED, 299999, 3, 65537];
+    record(&mut plain, &map, 123456, 300000);
+    put_behind(&mut sector, &plain, 220);
+    show_rows(&sector);
+    show_tests(&sector);
+    show_map(&sector);
+    put_behind(&mut sector, &plain, 1812);
+    show_test(1, &sector, 300000);
+    show_map(&sector);
+    put_behind(&mut sector, &plain, 1816);
+    show_test(1, &sector, 300000);
+    put_behind(&mut sector, &plain, 2);
+    show_test(1, &sector, 300000);
+}
+
 fn full_table() {
     let mut sector = [0u8; 2048];
     let mut map = [0u32; 458];
@@ -159,4 +195,5 @@ fn main() {
     crcs();
     small_table();
     full_table();
+    tables_behind();
 }

@@ -1,14 +1,13 @@
 // The volume's working state (document 01: the ledger).
 pub mod ledger;
 
-use vat::table::TABLE_AT;
 use vat::table::UNUSED;
 ghost use mathlib.Core.Path.{_≡_};
 ghost use mathlib.Core.List.{_++_};
-ghost use Prim.Native.Nat.{_-_, _≤_, _<_};
+ghost use Prim.Native.Nat.{_+_, _-_, _*_, _≤_, _<_};
 ghost use lib.ListN.{length, replicate};
 ghost use Rattle.le.specs.Field.{words};
-ghost use Rattle.vat.specs.Table.{sectorLength, limit, unused, tableStart, entryCount, entriesOf};
+ghost use Rattle.vat.specs.Table.{sectorLength, limit, unused, wholeLength, entriesOf};
 ghost use Rattle.volume.specs.Volume.{ledgerLength, unpack, pack, begun, filled, wrote, released, closed, committed};
 
 // "458 map entries, then size, recorded, last table, mode, each 32 bits."
@@ -37,16 +36,16 @@ fn load_entries(l: &[u8]) -> [u32; 458]
     entries
 }
 
-// The n entries of the table in a sector, then unused ones.
-fn fill_entries(s: &[u8], n: u32) -> [u32; 458]
-    requires { ⌜ (length (now s) ≡ sectorLength) × (n ≤ limit) ⌝ }
-    ensures { λ r. ⌜ r ≡ words n (now (s .entry)) tableStart ++ replicate (limit - n) unused ⌝ }
+// The n entries that stand in a sector from place `at` on, then unused ones.
+fn fill_entries(s: &[u8], at: usize, n: u32) -> [u32; 458]
+    requires { ⌜ (at + 4 * n ≤ length (now s)) × (n ≤ limit) ⌝ }
+    ensures { λ r. ⌜ r ≡ words n (now (s .entry)) at ++ replicate (limit - n) unused ⌝ }
 {
     let mut entries = [UNUSED; 458];
     let count = n as usize;
     let mut i: usize = 0;
     while i < count {
-        entries[i] = le::read32(s, TABLE_AT + 4 * i);
+        entries[i] = le::read32(s, at + 4 * i);
         i += 1;
     }
     entries
@@ -92,12 +91,12 @@ impl Volume {
 
     // The state that shows the table sector s, which is at block b.
     pub fn filled(s: &[u8], b: u32, recorded: u32, mode: u32) -> Volume
-        requires { ⌜ (length (now s) ≡ sectorLength) × (entryCount (now s) ≤ limit) ⌝ }
+        requires { ⌜ (length (now s) ≡ sectorLength) × (wholeLength (now s) < sectorLength) ⌝ }
         ensures { λ r. ⌜ r ≡ filled (entriesOf (now (s .entry))) b recorded mode ⌝ }
     {
         let n = vat::table::entry_count(s);
         Volume {
-            entries: fill_entries(s, n),
+            entries: fill_entries(s, vat::table::table_start(s), n),
             size: n,
             recorded: recorded,
             last: b,

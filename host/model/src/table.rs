@@ -1,5 +1,5 @@
 //! The table sector at block b: a file entry (ECMA-167 4/14.9) with the VAT
-//! (virtual allocation table) embedded.
+//! (virtual allocation table) embedded behind its extended attributes.
 //!
 //! [`recognise`] says whether a sector of kind 1 is one and what it holds;
 //! [`vat_sector`] is the sector that commit records.
@@ -18,8 +18,8 @@ pub const LIMIT: usize = 458;
 /// Byte 16: where the CRC starts, behind the tag.
 const BODY: usize = 16;
 
-/// Byte 176: "the table".
-const TABLE: usize = 176;
+/// Byte 176: where the extended attributes start, and behind them the table.
+const ATTRIBUTES: usize = 176;
 
 /// "Regid bytes 1 to 23 hold the text `*UDF Virtual Alloc Tbl` and one zero."
 const VAT_NAME: [u8; 23] = *b"*UDF Virtual Alloc Tbl\0";
@@ -63,12 +63,12 @@ pub fn recognise(sector: &[u8; SECTOR], b: u32) -> Option<Vat> {
     if !has_tag(sector, b) || !is_embedded_file(sector) {
         return None;
     }
-    let entries = entry_count(sector)?;
-    if !names_vat(sector, entries) {
+    let layout = Layout::named_in(sector)?;
+    if !names_vat(sector, layout) {
         return None;
     }
-    let vat = held(sector, entries);
-    (vat.points_below(b) && has_crc(sector, entries)).then_some(vat)
+    let vat = held(sector, layout);
+    (vat.points_below(b) && has_crc(sector, layout)).then_some(vat)
 }
 
 /// Bytes 0 to 5 and 12 to 15: "tag identifier 261; descriptor version 2",
@@ -96,42 +96,69 @@ fn is_embedded_file(sector: &[u8; SECTOR]) -> bool {
         && u16_at(sector, 48) == 0
 }
 
-/// "Entry count N = (length − 36) / 4", if the four lengths of bytes 10, 56,
-/// 168 and 172 agree on a table of at most 458 entries.
-fn entry_count(sector: &[u8; SECTOR]) -> Option<usize> {
-    let attributes = u32_at(sector, 168) as usize;
-    let descriptors = u32_at(sector, 172) as usize;
-    let entries = descriptors.checked_sub(36)? / 4;
-    let agree = entries <= LIMIT
-        && table_length(entries) == descriptors
-        && attributes == 0
-        && u64_at(sector, 56) == descriptors as u64
-        && usize::from(u16_at(sector, 10)) == 160 + attributes + descriptors;
-    agree.then_some(entries)
+/// Where the parts of a table sector stand: "The table [...] starts at 176 +
+/// attribute length" (document 02).
+#[derive(Clone, Copy)]
+struct Layout {
+    /// Bytes of extended attributes.
+    attributes: usize,
+    /// "Entry count N"
+    entries: usize,
+}
+
+impl Layout {
+    /// The layout on which the four lengths of bytes 10, 56, 168 and 172 agree:
+    /// "N = (length − 36) / 4", the attribute length "a multiple of 4", and "the
+    /// whole must stay below one sector" (document 02). The sums have 64 bits and
+    /// the lengths 32, so none wraps.
+    fn named_in(sector: &[u8; SECTOR]) -> Option<Layout> {
+        let attributes = u64::from(u32_at(sector, 168));
+        let descriptors = u64::from(u32_at(sector, 172));
+        let entries = descriptors.checked_sub(36)? / 4;
+        let agree = attributes % 4 == 0
+            && 4 * entries + 36 == descriptors
+            && 176 + attributes + 4 * entries + 36 < 2048
+            && u64_at(sector, 56) == descriptors
+            && u64::from(u16_at(sector, 10)) == 160 + attributes + descriptors;
+        agree.then_some(Layout {
+            attributes: attributes as usize,
+            entries: entries as usize,
+        })
+    }
+
+    /// The table, its entries first, stands behind the attributes.
+    fn table(self) -> usize {
+        ATTRIBUTES + self.attributes
+    }
+
+    /// The table's regid stands behind its entries.
+    fn regid(self) -> usize {
+        self.table() + 4 * self.entries
+    }
+
+    /// The previous table's block stands behind the 32-byte regid.
+    fn previous(self) -> usize {
+        self.regid() + 32
+    }
+
+    /// Where the table ends.
+    fn end(self) -> usize {
+        self.table() + table_length(self.entries)
+    }
 }
 
 /// "Its flags (byte 0) and suffix are not tested."
-fn names_vat(sector: &[u8; SECTOR], entries: usize) -> bool {
-    let name = regid_at(entries) + 1;
+fn names_vat(sector: &[u8; SECTOR], layout: Layout) -> bool {
+    let name = layout.regid() + 1;
     sector[name..name + VAT_NAME.len()] == VAT_NAME
 }
 
-/// The table's regid stands behind its entries.
-fn regid_at(entries: usize) -> usize {
-    TABLE + 4 * entries
-}
-
-/// The previous table's block stands behind the 32-byte regid.
-fn previous_at(entries: usize) -> usize {
-    regid_at(entries) + 32
-}
-
-fn held(sector: &[u8; SECTOR], entries: usize) -> Vat {
+fn held(sector: &[u8; SECTOR], layout: Layout) -> Vat {
     Vat {
-        map: (0..entries)
-            .map(|v| u32_at(sector, TABLE + 4 * v))
+        map: (0..layout.entries)
+            .map(|v| u32_at(sector, layout.table() + 4 * v))
             .collect(),
-        previous: u32_at(sector, previous_at(entries)),
+        previous: u32_at(sector, layout.previous()),
     }
 }
 
@@ -143,14 +170,14 @@ impl Vat {
     }
 }
 
-/// "over CRC-length bytes from byte 16": 160 + table length of them, which
-/// end with the table.
-fn has_crc(sector: &[u8; SECTOR], entries: usize) -> bool {
-    let end = TABLE + table_length(entries);
-    u16_at(sector, 8) == crc(&sector[BODY..end])
+/// "over CRC-length bytes from byte 16": 160 + attribute length + descriptor
+/// length of them, which end with the table.
+fn has_crc(sector: &[u8; SECTOR], layout: Layout) -> bool {
+    u16_at(sector, 8) == crc(&sector[BODY..layout.end()])
 }
 
-/// "What commit records" at block b, for at most 458 entries.
+/// "What commit records" at block b, for at most 458 entries; of attributes
+/// "Our commit [...] records none" (document 02).
 pub fn vat_sector(b: u32, map: &[u32], previous: u32) -> [u8; SECTOR] {
     let mut sector = [0; SECTOR];
     put_file_entry(&mut sector, table_length(map.len()));
@@ -178,13 +205,16 @@ fn put_file_entry(sector: &mut [u8; SECTOR], length: usize) {
 
 /// "table regid flags 0, suffix hex 50 01 and six zeros"
 fn put_table(sector: &mut [u8; SECTOR], map: &[u32], previous: u32) {
+    let layout = Layout {
+        attributes: 0,
+        entries: map.len(),
+    };
     for (v, block) in map.iter().enumerate() {
-        put(sector, TABLE + 4 * v, &block.to_le_bytes());
+        put(sector, layout.table() + 4 * v, &block.to_le_bytes());
     }
-    let regid = regid_at(map.len());
-    put(sector, regid + 1, &VAT_NAME);
-    put(sector, regid + 24, &[0x50, 0x01]);
-    put(sector, previous_at(map.len()), &previous.to_le_bytes());
+    put(sector, layout.regid() + 1, &VAT_NAME);
+    put(sector, layout.regid() + 24, &[0x50, 0x01]);
+    put(sector, layout.previous(), &previous.to_le_bytes());
 }
 
 /// Puts the location and the right sums into a tag: the CRC over CRC-length

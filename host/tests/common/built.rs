@@ -7,6 +7,7 @@ use station_model::fields::u32_at;
 use station_model::ledger::LEDGER;
 use station_model::table::{vat_sector, LIMIT, NONE, SECTOR};
 
+use super::forge::vat_behind;
 use super::pair::Pair;
 use super::station::Station;
 
@@ -64,15 +65,18 @@ fn size(station: &Station) -> u32 {
     }
 }
 
-/// Plain bytes; table sectors for the block before the links, the block behind
-/// them, and the one after that.
+/// Plain bytes; table sectors, also behind attributes, for the block before the
+/// links, the block behind them, and the one after that.
 fn blocks(station: &Station) -> Vec<Vec<u8>> {
     let recorded = station.kinds.iter().filter(|kind| **kind != BLANK).count() as u32;
     let table = |block| vat_sector(block, &[NONE], NONE).to_vec();
+    let behind = |block| vat_behind(&[0x5A; 8], block, &[NONE], NONE).to_vec();
     vec![
         BLOCK.to_vec(),
         table(recorded),
+        behind(recorded),
         table(recorded + 7),
+        behind(recorded + 7),
         table(recorded + 8),
     ]
 }

@@ -2,12 +2,15 @@
 
 use station_model::calls::Call;
 use station_model::disc::{Disc, DATA, UNREADABLE};
-use station_model::fields::{put, u32_at};
+use station_model::fields::{put, u16_at, u32_at};
 use station_model::ledger::{Volume, LEDGER, READ_ONLY};
-use station_model::table::{seal, table_length, vat_sector, LIMIT, NONE, SECTOR};
+use station_model::table::{crc, seal, table_length, vat_sector, LIMIT, NONE, SECTOR};
 
 use super::random::Random;
 use super::station::Station;
+
+/// Byte 176, where extended attributes start, and behind them the table.
+const ATTRIBUTES: usize = 176;
 
 /// A disc of 1 to 60 sectors without a table sector: blank, or used.
 pub fn disc_without_vat(random: &mut Random) -> Station {
@@ -85,9 +88,53 @@ pub fn disc_of_chains(random: &mut Random, sectors: usize) -> Station {
         let location = if random.one_in(12) { block + 1 } else { block };
         let kind = if random.one_in(12) { UNREADABLE } else { DATA };
         let map = vec![NONE; random.below(3)];
-        station.put_sector(block, kind, &vat_sector(location, &map, previous));
+        let attributes = attributes(random, map.len());
+        let sector = vat_behind(&attributes, location, &map, previous);
+        station.put_sector(block, kind, &sector);
     }
     station
+}
+
+/// A table sector as commit records it, but behind these extended attributes:
+/// "The table [...] starts at 176 + attribute length" (document 02). What would
+/// reach beyond the sector is cut off.
+pub fn vat_behind(attributes: &[u8], block: u32, map: &[u32], previous: u32) -> [u8; SECTOR] {
+    let mut sector = vat_sector(block, map, previous);
+    let table = ATTRIBUTES + attributes.len();
+    sector.copy_within(ATTRIBUTES..SECTOR - attributes.len(), table);
+    put(&mut sector, ATTRIBUTES, attributes);
+    let descriptors = table_length(map.len()) as u32;
+    put_lengths(&mut sector, attributes.len() as u32, descriptors);
+    seal(&mut sector, block);
+    sector
+}
+
+/// Puts attribute length and descriptor length, and CRC length and information
+/// length that agree with them, modulo 2 to the 16 where they are larger.
+pub fn put_lengths(sector: &mut [u8; SECTOR], attributes: u32, descriptors: u32) {
+    let crc_length = 160u32.wrapping_add(attributes).wrapping_add(descriptors);
+    put(sector, 10, &(crc_length as u16).to_le_bytes());
+    put(sector, 56, &u64::from(descriptors).to_le_bytes());
+    put(sector, 168, &attributes.to_le_bytes());
+    put(sector, 172, &descriptors.to_le_bytes());
+}
+
+/// Seals the sector for the block with a CRC over so many bytes, whatever its
+/// CRC length says.
+pub fn seal_over(sector: &mut [u8; SECTOR], block: u32, length: usize) {
+    let sum = crc(&sector[16..16 + length]);
+    put(sector, 8, &sum.to_le_bytes());
+    put(sector, 12, &block.to_le_bytes());
+    sector[4] = 0;
+    let all = sector[..16].iter().map(|byte| u32::from(*byte));
+    sector[4] = all.sum::<u32>() as u8;
+}
+
+/// The most bytes of attributes before a table of so many entries: "the whole
+/// must stay below one sector" (document 02), and all its lengths are multiples
+/// of 4.
+pub fn most_attributes(size: usize) -> usize {
+    SECTOR - 4 - ATTRIBUTES - table_length(size)
 }
 
 /// A table sector for the block, with right sums, that need not be one that
@@ -95,37 +142,81 @@ pub fn disc_of_chains(random: &mut Random, sectors: usize) -> Station {
 pub fn valid_vat(random: &mut Random, block: u32) -> [u8; SECTOR] {
     let size = size(random);
     let map = entries(random, size, block);
-    let mut sector = vat_sector(block, &map, entry(random, block));
+    let attributes = attributes(random, size);
+    let mut sector = vat_behind(&attributes, block, &map, entry(random, block));
     if random.one_in(2) {
-        foreign_fields(random, &mut sector, size);
+        foreign_fields(random, &mut sector);
         seal(&mut sector, block);
     }
     sector
 }
 
-/// A table sector one byte of which was changed, with right sums or without: as
-/// a rule it is none.
+/// What is nearly a table sector, with right sums or without: as a rule it is
+/// none.
 pub fn near_vat(random: &mut Random, block: u32) -> [u8; SECTOR] {
-    let mut sector = valid_vat(random, block);
-    let at = match random.below(8) {
-        0 => random.below(SECTOR),
-        1..=3 => random.below(64),
-        _ => 168 + random.below(100),
+    let mut sector = match random.below(8) {
+        0 => vat_behind_any_length(random, block),
+        1 => vat_elsewhere(random, block),
+        _ => vat_with_a_bit_changed(random, block),
     };
-    sector[at] ^= 1 << random.below(8);
     if random.one_in(2) {
         seal(&mut sector, block);
     }
+    sector
+}
+
+/// All is right but the length of the attributes: of four lengths in a row one
+/// is a multiple of 4, and for some tables it is one word too long.
+fn vat_behind_any_length(random: &mut Random, block: u32) -> [u8; SECTOR] {
+    let size = size(random);
+    let map = entries(random, size, block);
+    let length = match random.below(2) {
+        0 => random.below(24),
+        _ => most_attributes(size) + random.below(8),
+    };
+    let attributes = random.bytes(length);
+    vat_behind(&attributes, block, &map, entry(random, block))
+}
+
+/// The lengths agree, and the table does not stand where they say.
+fn vat_elsewhere(random: &mut Random, block: u32) -> [u8; SECTOR] {
+    let mut sector = valid_vat(random, block);
+    let (attributes, descriptors) = (u32_at(&sector, 168), u32_at(&sector, 172));
+    let other = match random.below(4) {
+        0 => 0,
+        1 => attributes.wrapping_sub(4),
+        2 => attributes + 4,
+        _ => attributes ^ 1 << random.below(32),
+    };
+    put_lengths(&mut sector, other, descriptors);
+    seal(&mut sector, block);
+    sector
+}
+
+/// One bit: anywhere, in the tag and what follows it, in the lengths before the
+/// attributes, in the attributes, or about the table's beginning.
+fn vat_with_a_bit_changed(random: &mut Random, block: u32) -> [u8; SECTOR] {
+    let mut sector = valid_vat(random, block);
+    let table = ATTRIBUTES + u32_at(&sector, 168) as usize;
+    let at = match random.below(8) {
+        0 => random.below(SECTOR),
+        1..=3 => random.below(64),
+        4 => 168 + random.below(8),
+        5 => ATTRIBUTES + random.below(table + 8 - ATTRIBUTES),
+        _ => table - 8 + random.below(100),
+    };
+    sector[at.min(SECTOR - 1)] ^= 1 << random.below(8);
     sector
 }
 
 /// Fields that recognition does not test, as another writer would have them:
 /// serial number, record format, the flags' high bits, user, group, times,
-/// checkpoint, implementation, unique id, the regid's flags and suffix, and
-/// what lies behind the table.
-pub fn foreign_fields(random: &mut Random, sector: &mut [u8; SECTOR], size: usize) {
-    let regid = 176 + 4 * size;
-    let end = 176 + table_length(size);
+/// checkpoint, implementation, unique id, the attributes, the regid's flags and
+/// suffix, and what lies behind the table.
+pub fn foreign_fields(random: &mut Random, sector: &mut [u8; SECTOR]) {
+    let table = ATTRIBUTES + u32_at(sector, 168) as usize;
+    let end = 16 + usize::from(u16_at(sector, 10));
+    let regid = end - 36;
     let fields = [
         6..8,
         16..20,
@@ -134,6 +225,7 @@ pub fn foreign_fields(random: &mut Random, sector: &mut [u8; SECTOR], size: usiz
         35..48,
         50..56,
         64..168,
+        ATTRIBUTES..table,
         regid..regid + 1,
         regid + 24..regid + 32,
         end..SECTOR,
@@ -144,6 +236,19 @@ pub fn foreign_fields(random: &mut Random, sector: &mut [u8; SECTOR], size: usiz
         }
     }
     sector[34] = 3 | (random.next() as u8 & 0xF8);
+}
+
+/// None or a few words, as a rule; sometimes any number of words up to the most
+/// before a table of this size, and sometimes the most.
+fn attributes(random: &mut Random, size: usize) -> Vec<u8> {
+    let most = most_attributes(size) / 4;
+    let words = match random.below(24) {
+        0 => most,
+        1 => random.below(most + 1),
+        2..=9 => most.min(1 + random.below(8)),
+        _ => 0,
+    };
+    random.bytes(4 * words)
 }
 
 /// Small as a rule; sometimes near the limit.

@@ -1,7 +1,7 @@
 //! ECMA-167 descriptors, as far as these tests look into them or alter them.
 //!
-//! Written from ECMA-167 and document 01 for these tests alone: neither the
-//! core nor the model has a part in it.
+//! Written from ECMA-167 and documents 01 and 02 for these tests alone: neither
+//! the core nor the model has a part in it.
 
 use std::ops::Range;
 
@@ -127,12 +127,21 @@ pub fn vat_icbs(image: &[u8]) -> Vec<usize> {
     found.map(|(block, _)| block).collect()
 }
 
-/// A table in a file entry, wherever it lies in its sector: behind the extended
-/// attributes. Lengths that leave the sector give an empty one.
+/// A file entry's extended attributes. Like its table, they are empty where
+/// their lengths leave the sector.
+pub fn attributes(sector: &[u8]) -> &[u8] {
+    sector.get(176..table_start(sector)).unwrap_or_default()
+}
+
+/// A table in a file entry: it stands behind the extended attributes.
 fn table(sector: &[u8]) -> &[u8] {
-    let start = 176 + u32_at(sector, 168) as usize;
+    let start = table_start(sector);
     let end = start + u32_at(sector, 172) as usize;
     sector.get(start..end).unwrap_or_default()
+}
+
+fn table_start(sector: &[u8]) -> usize {
+    176 + u32_at(sector, 168) as usize
 }
 
 /// The entries of a UDF 1.50 table; 36 bytes stand behind them.
@@ -144,22 +153,20 @@ pub fn entries(sector: &[u8]) -> Vec<u32> {
     entries.map(|entry| u32_at(entry, 0)).collect()
 }
 
-/// Moves a file entry's table to byte 176 over its extended attributes and
-/// says so in its lengths and sums.
-pub fn without_attributes(sector: &[u8]) -> Vec<u8> {
-    let mut plain = sector[..176].to_vec();
+/// Puts a file entry's table behind other extended attributes and says so in its
+/// lengths and sums.
+pub fn with_attributes(sector: &[u8], attributes: &[u8]) -> Vec<u8> {
     let table = table(sector);
-    plain.extend_from_slice(table);
-    plain.resize(SECTOR, 0);
-    put(&mut plain, 10, &(160 + table.len() as u16).to_le_bytes());
-    put(&mut plain, 168, &0u32.to_le_bytes());
-    seal(&mut plain);
-    plain
+    let mut other = [&sector[..176], attributes, table].concat();
+    other.resize(SECTOR, 0);
+    let length = 160 + attributes.len() + table.len();
+    put(&mut other, 10, &(length as u16).to_le_bytes());
+    put(&mut other, 168, &(attributes.len() as u32).to_le_bytes());
+    seal(&mut other);
+    other
 }
 
-/// Document 01's rows that a file entry at this block does not keep, by name.
-/// The table's own rows are read where its attributes end, so that attributes
-/// count once, in their own row.
+/// The documents' rows that a file entry at this block does not keep, by name.
 pub fn rows_not_kept(sector: &[u8], block: usize) -> Vec<&'static str> {
     let mut rows = Vec::from(tag_rows(sector, block));
     rows.extend(entry_rows(sector));
@@ -185,16 +192,19 @@ fn tag_rows(sector: &[u8], block: usize) -> [Row; 7] {
     ]
 }
 
-/// Bytes 20 to 171.
+/// Bytes 20 to 171. Of the attribute length document 02 says that it is "a
+/// multiple of 4, and the whole must stay below one sector".
 fn entry_rows(sector: &[u8]) -> [Row; 6] {
+    let attributes = u64::from(u32_at(sector, 168));
     let length = u64::from(u32_at(sector, 172));
+    let suits = attributes % 4 == 0 && 176 + attributes + length < 2048;
     [
         ("strategy", u16_at(sector, 20) == 4),
         ("file type", sector[27] == 0),
         ("flags", u16_at(sector, 34) & 7 == 3),
         ("link count", u16_at(sector, 48) == 0),
         ("information length", u64_at(sector, 56) == length),
-        ("attribute length", u32_at(sector, 168) == 0),
+        ("attribute length", suits),
     ]
 }
 
@@ -209,10 +219,7 @@ fn table_rows(sector: &[u8], block: usize) -> [Row; 3] {
     blocks.extend(previous.chunks_exact(4).map(|entry| u32_at(entry, 0)));
     let below = |b: &u32| *b == NONE || (*b as usize) < block;
     [
-        (
-            "table length",
-            count <= 458 && table.len() == 4 * count + 36,
-        ),
+        ("table length", table.len() == 4 * count + 36),
         ("regid text", text == b"*UDF Virtual Alloc Tbl\0"),
         ("entries and previous", blocks.iter().all(below)),
     ]

@@ -4,7 +4,7 @@
 
 use station::SECTOR;
 
-use super::descriptors::{entries, name_file_set, renamed_file_set, without_attributes};
+use super::descriptors::{entries, name_file_set, renamed_file_set};
 use super::disc::Disc;
 use super::udftools::written_by_mkudffs;
 use super::{assert_both_find, outcome, writers_vat, EDITION_150};
@@ -15,19 +15,17 @@ const ROOM: usize = 600;
 /// What udfinfo tells as the name of a file set that mkudffs recorded.
 const WRITERS_FILE_SET: &str = "LinuxUDF";
 
-/// A 1.50 disc that the core has taken over: the numbers of the writer's own
-/// map, each written with what the writer's map shows for it. Number 0 is the
-/// file set descriptor and number 1 the root directory's file entry; readers
-/// come to both through the table.
+/// A 1.50 disc that the core has taken over: mounted by the writer's own table.
+/// Number 0 is the file set descriptor and number 1 the root directory's file
+/// entry; readers come to both through the table.
 fn taken_over(volume: &[u8]) -> Disc {
     let mut disc = Disc::of_volume(volume).with_blank(ROOM);
-    let map = entries(disc.sector(writers_vat(&disc)));
-    assert_eq!(map.len(), 2, "the writer's file set and root directory");
-    assert_eq!(outcome(disc.begin()), 0);
-    for (v, block) in map.into_iter().enumerate() {
-        let bytes = disc.sector(block as usize).to_vec();
-        disc.write(v as u32, &bytes);
-    }
+    assert_eq!(disc.mount(), Ok(true), "clean");
+    assert_eq!(
+        disc.map().len(),
+        2,
+        "the writer's file set and root directory"
+    );
     disc
 }
 
@@ -36,29 +34,43 @@ fn bench_disc() -> Disc {
     taken_over(&written_by_mkudffs(EDITION_150[0]))
 }
 
-/// The first save on each of the writer's discs.
+/// A 1.50 disc whose writer was stopped before its table, and which the core has
+/// begun; and the map that the writer meant.
+fn begun(volume: &[u8]) -> (Disc, Vec<u32>) {
+    let whole = Disc::of_volume(volume).with_blank(ROOM);
+    let vat = writers_vat(&whole);
+    let mut disc = whole.cut_to(vat);
+    assert_eq!(outcome(disc.mount()), 7);
+    assert_eq!(outcome(disc.begin()), 0);
+    (disc, entries(whole.sector(vat)))
+}
+
+/// The first table on each disc is ours: the numbers of the writer's map, each
+/// written with what that map shows for it.
 #[test]
-fn udfinfo_finds_our_commit() {
+fn udfinfo_finds_our_first_table() {
     for recipe in EDITION_150 {
-        let mut disc = taken_over(&written_by_mkudffs(recipe));
+        let (mut disc, map) = begun(&written_by_mkudffs(recipe));
+        for (v, block) in map.into_iter().enumerate() {
+            let bytes = disc.sector(block as usize).to_vec();
+            disc.write(v as u32, &bytes);
+        }
         let table = disc.commit();
         let report = assert_both_find(&disc, table);
         report.expect("fsid", WRITERS_FILE_SET);
         report.expect_no_complaint();
+        assert_eq!(outcome(disc.look_back(1)), 9, "{recipe:?}");
     }
 }
 
-/// A disc mounted by the writer's own table (without its attributes) and saved
-/// on: udfinfo shows the new save, and look back shows the writer's.
+/// A disc mounted by the writer's own table, behind its attributes, and saved on:
+/// udfinfo shows the new save, and look back shows the writer's.
 #[test]
 fn a_mounted_disc_of_the_writer_is_continued() {
     for recipe in EDITION_150 {
-        let mut disc = Disc::of_volume(&written_by_mkudffs(recipe)).with_blank(ROOM);
+        let mut disc = taken_over(&written_by_mkudffs(recipe));
         let writers = writers_vat(&disc);
-        let map = entries(disc.sector(writers));
-        let plain = without_attributes(disc.sector(writers));
-        disc.set_sector(writers, &plain);
-        assert_eq!(disc.mount(), Ok(true), "{recipe:?}");
+        let map = disc.map();
         let renamed = renamed_file_set(disc.sector(map[0] as usize), "ours", 0);
         let block = disc.write(0, &renamed);
         let table = disc.commit();
@@ -68,6 +80,7 @@ fn a_mounted_disc_of_the_writer_is_continued() {
         report.expect_no_complaint();
         assert_eq!(disc.look_back(1), Ok(writers), "{recipe:?}");
         assert_eq!(disc.map(), map, "{recipe:?}");
+        assert_eq!(outcome(disc.look_back(2)), 9, "{recipe:?}");
     }
 }
 
@@ -75,8 +88,7 @@ fn a_mounted_disc_of_the_writer_is_continued() {
 /// blocks to udfinfo, and block 0 is the writer's file set.
 #[test]
 fn udfinfo_finds_a_table_without_numbers() {
-    let mut disc = Disc::of_volume(&written_by_mkudffs(EDITION_150[0])).with_blank(ROOM);
-    assert_eq!(outcome(disc.begin()), 0);
+    let (mut disc, _) = begun(&written_by_mkudffs(EDITION_150[0]));
     let table = disc.commit();
     let report = assert_both_find(&disc, table);
     report.expect("fsid", WRITERS_FILE_SET);
@@ -102,12 +114,13 @@ fn unsaved_writes_hide_no_table() {
 }
 
 /// Each save renames the file set, which udfinfo reads through number 0: so its
-/// name tells which save udfinfo shows. Every third one opens a packet.
+/// name tells which save udfinfo shows. Every third one opens a packet. Look back
+/// shows them all, and before them the writer's.
 #[test]
 fn udfinfo_shows_the_newest_of_several_saves() {
     let mut disc = bench_disc();
     let file_set = disc.sector(0).to_vec();
-    let mut tables = Vec::new();
+    let mut tables = vec![writers_vat(&disc)];
     for save in 0..13 {
         if save % 3 == 0 {
             disc.close_packet();
@@ -123,7 +136,7 @@ fn udfinfo_shows_the_newest_of_several_saves() {
     for (k, table) in tables.iter().rev().enumerate() {
         assert_eq!(disc.look_back(k as u32), Ok(*table), "{k} saves back");
     }
-    assert_eq!(outcome(disc.look_back(13)), 9);
+    assert_eq!(outcome(disc.look_back(14)), 9);
 }
 
 /// "Commit after close packet, cut after j of 8 sectors: 0 to 7 show the old
@@ -182,15 +195,18 @@ fn a_released_number_is_unused_to_udfinfo() {
     report.expect_remark("File Set Descriptor cannot be read");
 }
 
-/// A copy of a table, recorded as data, stands at another block than its tag
-/// says. Both readers pass over it to the table itself.
+/// A copy of a table, ours or the writer's, recorded as data, stands at another
+/// block than its tag says. Both readers pass over it to the table itself.
 #[test]
 fn a_copied_table_is_none_to_both() {
     let mut disc = bench_disc();
+    let writers = writers_vat(&disc);
     let table = disc.commit();
-    let copy = disc.sector(table).to_vec();
-    disc.write(2, &copy);
-    let report = assert_both_find(&disc, table);
-    report.expect("fsid", WRITERS_FILE_SET);
-    report.expect_remark("ignoring it");
+    for copied in [table, writers] {
+        let copy = disc.sector(copied).to_vec();
+        disc.write(2, &copy);
+        let report = assert_both_find(&disc, table);
+        report.expect("fsid", WRITERS_FILE_SET);
+        report.expect_remark("ignoring it");
+    }
 }

@@ -54,7 +54,8 @@ pub fn written_by_mkudffs(recipe: Recipe) -> Vec<u8> {
     let folder = Folder::new();
     let file = folder.0.join("disc.img");
     let mut command = Command::new(tool("mkudffs"));
-    command.args(["--new-file", "--blocksize=2048"]);
+    // The encoding of names has to come first.
+    command.args(["--utf8", "--new-file", "--blocksize=2048"]);
     command.arg(format!("--media-type={medium}"));
     command.arg(format!("--udfrev={revision}"));
     command.args(options).arg(&file).arg(blocks.to_string());

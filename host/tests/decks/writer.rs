@@ -1,10 +1,13 @@
-//! An independent writer's discs, given to the core: what it finds on them, and
-//! what keeps it from taking the writer's table for one of document 01's.
+//! An independent writer's discs, given to the core as they are: the tables that
+//! it finds on them, and what keeps it from taking another edition's for one.
+
+use std::fmt::Debug;
 
 use station::SECTOR;
+use station_model::table::recognise;
 
 use super::descriptors::{
-    entries, put, rows_not_kept, seal, seal_over, u16_at, without_attributes,
+    attributes, entries, put, rows_not_kept, seal, seal_over, u16_at, with_attributes, NONE,
 };
 use super::disc::Disc;
 use super::udftools::{written_by_mkudffs, Recipe};
@@ -15,12 +18,12 @@ use super::{
 
 /// Document 01: mount 7 if no table sector exists, and exactly then begin is
 /// done. So begin says of all sectors at once that none is a table sector.
-fn assert_no_table(disc: &mut Disc, recipe: Recipe) {
-    assert_eq!(outcome(disc.mount()), 7, "mount, {recipe:?}");
-    assert_eq!(outcome(disc.look_back(0)), 7, "look back, {recipe:?}");
-    assert_eq!(outcome(disc.begin()), 0, "begin, {recipe:?}");
-    assert_eq!(disc.map(), [], "map after begin, {recipe:?}");
-    assert_eq!(disc.last_vat(), None, "last table after begin, {recipe:?}");
+fn assert_no_table(disc: &mut Disc, case: impl Debug) {
+    assert_eq!(outcome(disc.mount()), 7, "mount, {case:?}");
+    assert_eq!(outcome(disc.look_back(0)), 7, "look back, {case:?}");
+    assert_eq!(outcome(disc.begin()), 0, "begin, {case:?}");
+    assert_eq!(disc.map(), [], "map after begin, {case:?}");
+    assert_eq!(disc.last_vat(), None, "last table after begin, {case:?}");
 }
 
 /// Identifiers of volume structures (ECMA-167 3/7.2.1) and file structures
@@ -49,15 +52,52 @@ fn sums_of_every_descriptor_are_the_writers() {
 
 /// mkudffs puts 220 bytes of extended attributes (`*UDF VAT LVExtension`: the
 /// volume's name, and how many files and directories it has) between file entry
-/// and table. Every other row of document 01 holds.
+/// and table. All rows hold, so its discs mount as they are, clean, and the core
+/// shows the writer's map, which the model finds too.
 #[test]
-fn a_150_disc_has_no_table_for_its_attributes_alone() {
+fn a_150_disc_mounts_as_it_is() {
     for recipe in EDITION_150.into_iter().chain(EDITION_150_FULL) {
         let mut disc = Disc::of_volume(&written_by_mkudffs(recipe));
         let vat = writers_vat(&disc);
-        let not_kept = rows_not_kept(disc.sector(vat), vat);
-        assert_eq!(not_kept, ["attribute length"], "{recipe:?}");
-        assert_no_table(&mut disc, recipe);
+        let icb = disc.sector(vat).to_vec();
+        assert_eq!(rows_not_kept(&icb, vat), NO_ROWS, "{recipe:?}");
+        assert_eq!(attributes(&icb).len(), 220, "{recipe:?}");
+        assert!(holds(attributes(&icb), b"*UDF VAT LVExtension"));
+        assert_eq!(outcome(disc.begin()), 6, "{recipe:?}");
+        assert_eq!(disc.mount(), Ok(true), "clean, {recipe:?}");
+        assert_eq!(disc.last_vat(), Some(vat), "{recipe:?}");
+        assert_writers_map(&disc, &icb, recipe);
+        // The writer recorded one table, and says so in its previous block.
+        assert_eq!(disc.look_back(0), Ok(vat), "{recipe:?}");
+        assert_writers_map(&disc, &icb, recipe);
+        assert_eq!(outcome(disc.look_back(1)), 9, "{recipe:?}");
+        let report = assert_both_find(&disc, vat);
+        report.expect_no_complaint();
+    }
+}
+
+const NO_ROWS: [&str; 0] = [];
+
+fn holds(bytes: &[u8], text: &[u8]) -> bool {
+    bytes.windows(text.len()).any(|part| part == text)
+}
+
+/// The ledger has the map of this table, the writer's only one, as the model
+/// does; and each number reads the sector that the map names.
+fn assert_writers_map(disc: &Disc, icb: &[u8], recipe: Recipe) {
+    let map = entries(icb);
+    assert_eq!(map.len(), 2, "file set and root directory, {recipe:?}");
+    assert_eq!(disc.map(), map, "{recipe:?}");
+    let icb: &[u8; SECTOR] = icb.try_into().expect("a sector");
+    let found = recognise(icb, writers_vat(disc) as u32).expect("a table to the model");
+    assert_eq!(
+        (found.map, found.previous),
+        (map.clone(), NONE),
+        "{recipe:?}"
+    );
+    for (v, block) in map.iter().enumerate() {
+        let shown = disc.read(v as u32).expect("a number in use");
+        assert!(shown == disc.sector(*block as usize), "{v}, {recipe:?}");
     }
 }
 
@@ -100,64 +140,111 @@ fn a_200_table_in_a_plain_file_entry_is_none() {
     }
 }
 
-/// The other direction: with its attributes taken out, the core finds the
-/// writer's table where the writer put it, with the writer's entries. So the
-/// recogniser and an independent writer agree in every other row.
+/// The writer's table without attributes, and behind others of every length up to
+/// the sector's end: it has the same map wherever it stands, and is no table where
+/// its own row says so, and that row alone.
 #[test]
-fn the_writers_table_without_attributes_is_found() {
-    for recipe in EDITION_150.into_iter().chain(EDITION_150_FULL) {
-        let mut disc = Disc::of_volume(&written_by_mkudffs(recipe));
-        let vat = writers_vat(&disc);
-        let map = entries(disc.sector(vat));
-        let plain = without_attributes(disc.sector(vat));
-        let kept: [&str; 0] = [];
-        assert_eq!(rows_not_kept(&plain, vat), kept, "{recipe:?}");
-        disc.set_sector(vat, &plain);
-        assert_eq!(outcome(disc.begin()), 6, "{recipe:?}");
-        assert_eq!(disc.mount(), Ok(true), "clean, {recipe:?}");
-        assert_eq!(disc.last_vat(), Some(vat), "{recipe:?}");
-        assert_eq!(disc.map(), map, "{recipe:?}");
-        for (v, block) in map.iter().enumerate() {
-            let shown = disc.read(v as u32).expect("a number in use");
-            assert!(shown == disc.sector(*block as usize), "{v}, {recipe:?}");
+fn the_writers_table_behind_attributes_of_every_length() {
+    let mut disc = Disc::of_volume(&written_by_mkudffs(EDITION_150[1]));
+    let vat = writers_vat(&disc);
+    let icb = disc.sector(vat).to_vec();
+    assert_eq!(entries(&icb).len(), 2, "a table of 44 bytes");
+    for length in 0..=SECTOR - 176 - 44 {
+        let other = with_attributes(&icb, &vec![length as u8; length]);
+        disc.set_sector(vat, &other);
+        if length % 4 == 0 && 176 + length + 44 < SECTOR {
+            assert_eq!(rows_not_kept(&other, vat), NO_ROWS, "{length}");
+            assert_eq!(disc.mount(), Ok(true), "{length}");
+            assert_eq!(disc.map(), entries(&icb), "{length}");
+        } else {
+            assert_eq!(rows_not_kept(&other, vat), ["attribute length"], "{length}");
+            assert_no_table(&mut disc, length);
         }
-        // The writer recorded one table, and says so in its previous block.
-        assert_eq!(disc.look_back(0), Ok(vat), "{recipe:?}");
-        assert_eq!(outcome(disc.look_back(1)), 9, "{recipe:?}");
-        assert_both_find(&disc, vat);
     }
 }
 
-/// A row of document 01 and bytes that break it, each with its place, in the
-/// table at block 2 of a disc whose map is 0, 1: descriptor length 44, CRC length
-/// 204, regid at byte 184, previous block at byte 216.
+/// Both readers find the writer's table without attributes, behind a few bytes of
+/// them, and at the sector's end.
+#[test]
+fn udfinfo_finds_the_writers_table_behind_other_attributes() {
+    for recipe in [EDITION_150[0], EDITION_150[1], EDITION_150_FULL[0]] {
+        let mut disc = Disc::of_volume(&written_by_mkudffs(recipe));
+        let vat = writers_vat(&disc);
+        let icb = disc.sector(vat).to_vec();
+        for length in [0, 4, 216, 224, 1824] {
+            disc.set_sector(vat, &with_attributes(&icb, &vec![0; length]));
+            assert_both_find(&disc, vat);
+        }
+    }
+}
+
+/// "15: the lent block would be a table sector at the block it is about to take":
+/// so would the writer's ICB, behind its attributes, once it is tagged for that
+/// block. As it is, tagged for its own, it is written like any other block.
+#[test]
+fn the_writers_table_is_refused_as_a_block() {
+    let volume = written_by_mkudffs(EDITION_150[1]);
+    let mut disc = Disc::of_volume(&volume).with_blank(40);
+    let vat = writers_vat(&disc);
+    let copy = disc.sector(vat).to_vec();
+    assert_eq!(disc.mount(), Ok(true));
+    let taken = disc.recorded() + 7;
+    let mut tagged = copy.clone();
+    put(&mut tagged, 12, &(taken as u32).to_le_bytes());
+    seal(&mut tagged);
+    let Disc {
+        image,
+        kinds,
+        ledger,
+        ..
+    } = &mut disc;
+    let refused = station::write(image, kinds, ledger, 2, &tagged);
+    assert_eq!(outcome(refused), 15);
+    assert_eq!(disc.write(2, &copy), taken);
+    assert_eq!(disc.mount(), Ok(false), "dirty, and no copy counts");
+    assert_eq!(disc.last_vat(), Some(vat));
+}
+
+/// A row and bytes that break it, each with its place, in the table at block 2 of
+/// a disc whose map is 0, 1: attribute length 220, descriptor length 44, CRC
+/// length 424 (hex 1A8), table at byte 396, regid at 404, previous block at 436.
 type Breach = (&'static str, &'static [(usize, u8)]);
 
 /// Broken before the sums are laid.
-const BREACHES: [Breach; 15] = [
+const BREACHES: [Breach; 17] = [
     ("tag identifier", &[(0, 10)]),
     ("descriptor version", &[(2, 3)]),
     ("zero byte 5", &[(5, 1)]),
-    ("CRC length", &[(10, 205)]),
+    ("CRC length", &[(10, 0xA9)]),
     ("tag location", &[(12, 1)]),
     ("strategy", &[(20, 0), (21, 16)]),
     ("file type", &[(27, 248)]),
     ("flags", &[(34, 1)]),
     ("link count", &[(48, 1)]),
     ("information length", &[(56, 40)]),
-    ("attribute length", &[(168, 4), (10, 208)]),
-    ("table length", &[(172, 45), (56, 45), (10, 205)]),
-    ("regid text", &[(184 + 22, b'L')]),
-    ("entries and previous", &[(180, 2)]),
+    ("attribute length", &[(168, 222), (10, 0xAA)]),
+    (
+        "attribute length",
+        &[(168, 0x24), (169, 7), (10, 0xF0), (11, 7)],
+    ),
+    ("table length", &[(172, 45), (56, 45), (10, 0xA9)]),
+    ("regid text", &[(168, 216), (10, 0xA4)]),
+    ("regid text", &[(404 + 22, b'L')]),
+    ("entries and previous", &[(400, 2)]),
     (
         "entries and previous",
-        &[(216, 2), (217, 0), (218, 0), (219, 0)],
+        &[(436, 2), (437, 0), (438, 0), (439, 0)],
     ),
 ];
 
-/// Broken sums: the CRC covers byte 40 (the group), the tag's sum byte 6 (the
-/// serial number). Both fields are in no row, so with right sums they may change.
-const WRONG_SUMS: [Breach; 2] = [("CRC", &[(40, 7)]), ("tag sum", &[(6, 7)])];
+/// Broken sums: the CRC covers byte 40 (the group) and byte 300 (an attribute),
+/// the tag's sum byte 6 (the serial number). These fields are in no row, so with
+/// right sums they may change.
+const WRONG_SUMS: [Breach; 3] = [
+    ("CRC", &[(40, 7)]),
+    ("CRC", &[(300, 7)]),
+    ("tag sum", &[(6, 7)]),
+];
 
 fn altered(icb: &[u8], breach: &Breach) -> Vec<u8> {
     let mut altered = icb.to_vec();
@@ -168,27 +255,27 @@ fn altered(icb: &[u8], breach: &Breach) -> Vec<u8> {
     altered
 }
 
-/// The writer's table, without attributes, is one; with any one row broken it is
-/// none. So each row counts by itself.
+/// The writer's table is one; with any one row broken it is none. So each row
+/// counts by itself.
 #[test]
 fn each_row_alone_unmakes_the_writers_table() {
     let mut disc = Disc::of_volume(&written_by_mkudffs(EDITION_150[1]));
     let vat = writers_vat(&disc);
-    let plain = without_attributes(disc.sector(vat));
-    assert_eq!((vat, entries(&plain)), (2, vec![0, 1]));
+    let whole = disc.sector(vat).to_vec();
+    assert_eq!((vat, entries(&whole)), (2, vec![0, 1]));
     for breach in BREACHES {
-        let mut icb = altered(&plain, &breach);
+        let mut icb = altered(&whole, &breach);
         seal(&mut icb);
         assert!(rows_not_kept(&icb, vat).contains(&breach.0), "{}", breach.0);
         disc.set_sector(vat, &icb);
         assert_eq!(outcome(disc.mount()), 7, "{}", breach.0);
         // Nor with a CRC that covers what it covered before.
-        seal_over(&mut icb, 204);
+        seal_over(&mut icb, 424);
         disc.set_sector(vat, &icb);
         assert_eq!(outcome(disc.mount()), 7, "{}", breach.0);
     }
     for breach in WRONG_SUMS {
-        let mut icb = altered(&plain, &breach);
+        let mut icb = altered(&whole, &breach);
         assert_eq!(rows_not_kept(&icb, vat), [breach.0]);
         disc.set_sector(vat, &icb);
         assert_eq!(outcome(disc.mount()), 7, "{}", breach.0);

@@ -1,26 +1,36 @@
--- `vectors::show_map` is safe and ends: the index stays below the count.
+-- `vectors::show_map` is safe and ends: the index stays below the count, and the table within the sector.
 -- Assumes nothing.
-use Prim.Native.Nat.{_-_, _≤_}
-use mathlib.Core.Path.{_≡_}
+use Prim.Native.Nat.{_-_, _≤_, _<_}
+use mathlib.Core.Path.{_≡_, sym, _∙_}
 use borrow.Author.Needs.{needs}
+use borrow.Author.Tests.{not-false}
 use lib.ListN.{length}
+use Rattle.vat.specs.Table.{sectorLength, entryCount, wholeLength}
+use Rattle.vat.proofs.Frame.{placed-below}
 use Rattle.vectors.proofs.show_map.Statement.{statement}
 use Rattle.vectors.proofs.show_map.Tie as tie
 
 abbrev Inv-loop : tie.InvT-loop
-Inv-loop s n i₀ t5 t6 t7 i = (i ≤ n) × (length t5 ≡ 1) × (length t6 ≡ 10) × (length t7 ≡ 1)
+Inv-loop s n i₀ t5 t6 t7 i = (i ≤ n) × (n ≡ entryCount s) × (wholeLength s < sectorLength) × (length t5 ≡ 1) × (length t6 ≡ 10) × (length t7 ≡ 1)
 
 abbrev μ-loop : tie.MeasureT-loop
 μ-loop s n i₀ t5 t6 t7 i = n - i
 
+below : (c : tie.Else2 Inv-loop μ-loop) → wholeLength (c .before .before .before .before .args .s .now) < sectorLength
+below c =
+    placed-below (c .before .before .before .before .args .s .now) (sym (c .before .placed .ensures) ∙ not-false (c .before .placed .result) (c .if2 .left))
+
 returns : tie.Need-returns Inv-loop μ-loop
 returns c = search needs
 
-entry-count-requires : tie.Need-entry-count-requires Inv-loop μ-loop
-entry-count-requires c κs = search needs
+placed-requires : tie.Need-placed-requires Inv-loop μ-loop
+placed-requires c κs = search needs
 
 returns-2 : tie.Need-returns-2 Inv-loop μ-loop
 returns-2 c = search needs
+
+entry-count-requires : tie.Need-entry-count-requires Inv-loop μ-loop
+entry-count-requires c κs = search needs
 
 slice-aggregate-say : tie.Need-slice-aggregate-say Inv-loop μ-loop
 slice-aggregate-say c = search needs
@@ -35,7 +45,7 @@ print-decimal-requires : tie.Need-print-decimal-requires Inv-loop μ-loop
 print-decimal-requires c κs = search needs
 
 loop-holds : tie.Need-loop-holds Inv-loop μ-loop
-loop-holds c = search needs
+loop-holds c = search (needs, below (c .before .before .before .before))
 
 slice-aggregate-say-2 : tie.Need-slice-aggregate-say-2 Inv-loop μ-loop
 slice-aggregate-say-2 c = search needs
@@ -92,8 +102,9 @@ show-map-spec =
     Inv-loop
     μ-loop
     returns
-    entry-count-requires
+    placed-requires
     returns-2
+    entry-count-requires
     slice-aggregate-say
     say-requires
     cast-print-decimal

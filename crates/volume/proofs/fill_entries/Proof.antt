@@ -7,19 +7,19 @@ use mathlib.Core.List.{List, _++_}
 use lib.ListN.{length, set, replicate, length-set}
 use Rattle.le.specs.Field.{words}
 use Rattle.le.proofs.Runs.{words-none}
-use Rattle.vat.specs.Table.{unused, tableStart}
+use Rattle.vat.specs.Table.{unused}
 use Rattle.volume.proofs.Fit.{fill-turn}
 use Rattle.volume.proofs.fill_entries.Statement.{statement}
 use Rattle.volume.proofs.fill_entries.Tie as tie
 
 abbrev Inv-loop : tie.InvT-loop
-Inv-loop s n entries₀ count i₀ entries i = (i ≤ n) × (length entries ≡ 458) × (entries ≡ words i s tableStart ++ replicate (458 - i) unused)
+Inv-loop s at n entries₀ count i₀ entries i = (i ≤ n) × (length entries ≡ 458) × (entries ≡ words i s at ++ replicate (458 - i) unused)
 
 abbrev μ-loop : tie.MeasureT-loop
-μ-loop s n entries₀ count i₀ entries i = n - i
+μ-loop s at n entries₀ count i₀ entries i = n - i
 
 loop-holds : tie.Need-loop-holds Inv-loop μ-loop
-loop-holds c = (omega arith, refl, sym (ap (λ (l : List ℕ). l ++ replicate 458 unused) (words-none (c .before .args .s .now) tableStart)))
+loop-holds c = (omega arith, refl, sym (ap (λ (l : List ℕ). l ++ replicate 458 unused) (words-none (c .before .args .s .now) (c .before .args .at))))
 
 mul-read32 : tie.Need-mul-read32 Inv-loop μ-loop
 mul-read32 c = omega arith
@@ -44,20 +44,20 @@ loop-less c = omega arith
 
 loop-again : tie.Need-loop-again Inv-loop μ-loop
 loop-again c =
-    let at = c .before .before in
-    let s : List ℕ = at .before .before .args .s .now in
-    let i : ℕ = at .loop .i in
-    let e : List ℕ = at .loop .entries in (
+    let turn = c .before .before in let start = turn .before .before in
+    let i : ℕ = turn .loop .i in
+    let e : List ℕ = turn .loop .entries in (
       omega arith,
-      length-set e i (c .read32 .result) ∙ at .loop .inv .1,
-      ap₂ (λ (l : List ℕ) (x : ℕ). set l i x) (at .loop .inv .2) (c .read32 .ensures) ∙ fill-turn s tableStart 458 i (omega (arith, at .before .before .pre .1)),
+      length-set e i (c .read32 .result) ∙ turn .loop .inv .1,
+      ap₂ (λ (l : List ℕ) (x : ℕ). set l i x) (turn .loop .inv .2) (c .read32 .ensures)
+          ∙ fill-turn (start .args .s .now) (start .args .at) 458 i (omega (arith, start .pre .1)),
     )
 
 returns : tie.Need-returns Inv-loop μ-loop
 returns c =
-    let at = c .before in
-    let all : at .loop .i ≡ at .before .before .args .n = omega arith in
-    at .loop .inv .2 ∙ ap (λ (k : ℕ). words k (at .before .before .args .s .now) tableStart ++ replicate (458 - k) unused) all
+    let turn = c .before in let a = turn .before .before .args in
+    let all : turn .loop .i ≡ a .n = omega arith in
+    turn .loop .inv .2 ∙ ap (λ (k : ℕ). words k (a .s .now) (a .at) ++ replicate (458 - k) unused) all
 
 pub fill-entries-spec : {M : Type 1} → statement M
 fill-entries-spec =

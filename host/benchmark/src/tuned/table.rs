@@ -1,5 +1,7 @@
 //! The table sector at block b: recognised, and made in its place on the disc.
 
+use std::ops::Range;
+
 use super::crc::crc;
 use super::fields::{put, u16_at, u32_at, u64_at};
 
@@ -19,7 +21,7 @@ const TAG: u32 = 261 | 2 << 16;
 /// Byte 16: where the CRC starts, behind the tag.
 const BODY: usize = 16;
 
-/// Byte 176: "the table", and before it the head.
+/// Bytes 0 to 175: the head. Behind it the attributes, if any, and the table.
 const HEAD: usize = 176;
 
 /// Behind the entries: "a 32-byte regid, the previous table's block (32 bits)".
@@ -59,13 +61,13 @@ fn recognise_tagged(sector: &Sector, b: u32) -> Option<Vat<'_>> {
     if !has_tag(sector, b) || !is_embedded_file(sector) {
         return None;
     }
-    let length = table_length(sector)?;
-    let (entries, tail) = sector[HEAD..HEAD + length].split_at(length - TAIL);
+    let table = table_place(sector)?;
+    let (entries, tail) = sector[table.clone()].split_at(table.len() - TAIL);
     let previous = u32_at(tail, 32);
     let holds = tail[1..24] == VAT_NAME
         && is_none_or_below(previous, b)
         && all_none_or_below(entries, b)
-        && u16_at(sector, 8) == crc(&sector[BODY..HEAD + length]);
+        && u16_at(sector, 8) == crc(&sector[BODY..table.end]);
     holds.then_some(Vat { entries, previous })
 }
 
@@ -89,17 +91,19 @@ fn is_embedded_file(sector: &Sector) -> bool {
         && u16_at(sector, 48) == 0
 }
 
-/// "The table length is 4 × N + 36 exactly", N at most 458, if the lengths of
-/// bytes 10, 56, 168 and 172 agree on it.
-fn table_length(sector: &Sector) -> Option<usize> {
-    let length = u32_at(sector, 172);
-    let most = (TAIL + 4 * LIMIT) as u32;
-    let agree = (TAIL as u32..=most).contains(&length)
-        && length.is_multiple_of(4)
-        && u64_at(sector, 56) == u64::from(length)
-        && u32_at(sector, 168) == 0
-        && u32::from(u16_at(sector, 10)) == 160 + length;
-    agree.then_some(length as usize)
+/// "176 + attribute length (a multiple of 4)" to the table's end, which must
+/// "stay below one sector", if the lengths of bytes 10, 56, 168 and 172 agree on
+/// it. "The table length is 4 × N + 36 exactly."
+fn table_place(sector: &Sector) -> Option<Range<usize>> {
+    let start = HEAD + u32_at(sector, 168) as usize;
+    let length = u32_at(sector, 172) as usize;
+    let end = start + length;
+    let agree = end < SECTOR
+        && length >= TAIL
+        && (start | length).is_multiple_of(4)
+        && u64_at(sector, 56) == length as u64
+        && usize::from(u16_at(sector, 10)) == end - BODY;
+    agree.then_some(start..end)
 }
 
 /// "is FFFFFFFF or less than b": one more, which makes the former 0, is at most b.

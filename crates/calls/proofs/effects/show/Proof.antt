@@ -1,12 +1,12 @@
 -- `calls::effects::show` meets its contract: the table that the plan names is unpacked and stored.
 -- Assumes nothing.
-use Prim.Native.Nat.{ℕ, _+_, _-_, _*_, _≤_}
+use Prim.Native.Nat.{ℕ, _+_, _-_, _*_, _<_}
 use native.Mathlib.Omega.{arith}
 use mathlib.Core.Path.{_≡_, sym, ap, _∙_, subst}
 use mathlib.Core.List.{List}
 use lib.ListN.{length, take, drop, length-drop}
 use lib.Seq.{length-take-le}
-use Rattle.vat.specs.Table.{sectorLength, limit, entryCount, entriesOf}
+use Rattle.vat.specs.Table.{sectorLength, wholeLength, entriesOf}
 use Rattle.volume.specs.Volume.{pack, filled}
 use borrow.Author.Needs.{needs}
 use Rattle.calls.proofs.effects.show.Statement.{statement}
@@ -45,7 +45,7 @@ filled-requires c κs =
     let image : List ℕ = s .args .image .now in
     let at : ℕ = sectorLength * s .args .plan .block in
     let same = part image at in
-    (ap length same ∙ length-take-le sectorLength (drop at image) (rw (length-drop at image) (omega (arith, s .pre .1))), subst (λ (l : List ℕ). entryCount l ≤ limit) (sym same) (s .pre .2))
+    (ap length same ∙ length-take-le sectorLength (drop at image) (rw (length-drop at image) (omega (arith, s .pre .1))), subst (λ (l : List ℕ). wholeLength l < sectorLength) (sym same) (s .pre .2))
 
 store-requires : tie.Need-store-requires
 store-requires c κs = search needs

@@ -2,7 +2,7 @@
 -- Assumes nothing.
 use Prim.Native.Nat.{ℕ, _+_, _-_, _*_, _≤_, _<_}
 use native.Mathlib.Omega.{arith}
-use mathlib.Core.Path.{_≡_, refl, sym, ap, _∙_}
+use mathlib.Core.Path.{_≡_, refl, sym, ap, ap₂, _∙_}
 use mathlib.Core.Bool.{Bool, true, false}
 use mathlib.Core.List.{List}
 use lib.ListN.{length, take, drop}
@@ -10,7 +10,7 @@ use borrow.Author.Tests.{not-true, not-false}
 use Rattle.le.specs.Bytes.{every}
 use Rattle.le.specs.Field.{readLe, words}
 use Rattle.tag.specs.Tag.{sealed}
-use Rattle.vat.specs.Table.{sectorLength, unusedOrBelow, entryCount, entriesOf, isTable, framed}
+use Rattle.vat.specs.Table.{sectorLength, tableStart, attributeLength, entryCount, entriesOf, unusedOrBelow, framed, isTable}
 use Rattle.vat.proofs.Frame.{Framed, framed-tells}
 use Rattle.disc.specs.Disc.{Disc, lent, kindAt}
 use Rattle.disc.specs.Tables.{tableAt, blockFound, newestBelow}
@@ -20,11 +20,11 @@ use Rattle.disc.proofs.tables.newest.Statement.{statement}
 use Rattle.disc.proofs.tables.newest.Tie as tie
 
 abbrev Inv-loop : tie.InvT-loop
-Inv-loop image kinds recorded b place at end s left₀ entry₀ left entry =
-    (entry + 4 * left ≤ sectorLength) × (every (unusedOrBelow b) (words left s entry) ≡ every (unusedOrBelow b) (entriesOf s))
+Inv-loop image kinds recorded b place at end s n i₀ i =
+    (i ≤ n) × (every (unusedOrBelow b) (words (n - i) s (tableStart (attributeLength s) + 4 * i)) ≡ every (unusedOrBelow b) (entriesOf s))
 
 abbrev μ-loop : tie.MeasureT-loop
-μ-loop image kinds recorded b place at end s left₀ entry₀ left entry = left
+μ-loop image kinds recorded b place at end s n i₀ i = n - i
 
 abbrev Inv-scan : tie.InvT-scan
 Inv-scan image kinds recorded b₀ b = (b ≤ recorded) × (newestBelow (tableAt (lent image kinds)) b ≡ newestBelow (tableAt (lent image kinds)) recorded)
@@ -79,23 +79,30 @@ on c e =
       scan-on (tableAt (D c)) (c .before .scan .b) (newestBelow (tableAt (D c)) (s .args .recorded)) (omega arith) (here c false e) (c .before .scan .inv .1),
     )
 
-frame : (c : tie.Else4 Inv-loop μ-loop Inv-scan μ-scan) → let e = framed-block c in framed (S e) (B e) (entryCount (S e)) ≡ true
+frame : (c : tie.Else4 Inv-loop μ-loop Inv-scan μ-scan) → let e = framed-block c in framed (S e) (B e) ≡ true
 frame c = sym (c .before .framed .ensures) ∙ not-false (c .before .framed .result) (c .if4 .left)
 
-told : (c : tie.Else4 Inv-loop μ-loop Inv-scan μ-scan) → let e = framed-block c in Framed (S e) (B e) (entryCount (S e))
-told c = let e = framed-block c in framed-tells (S e) (B e) (entryCount (S e)) (frame c)
+told : (c : tie.Else4 Inv-loop μ-loop Inv-scan μ-scan) → let e = framed-block c in Framed (S e) (B e)
+told c = let e = framed-block c in framed-tells (S e) (B e) (frame c)
+
+-- how many entries are left, and where the next one stands
+abbrev left : tie.At-loop Inv-loop μ-loop Inv-scan μ-scan → ℕ
+left p = p .before .entry-count .result - p .loop .i
+
+abbrev entry-at : tie.At-loop Inv-loop μ-loop Inv-scan μ-scan → ℕ
+entry-at p = tableStart (attributeLength (S (block-of p))) + 4 * p .loop .i
 
 -- the entry that was read
 named : (c : tie.After-may-name Inv-loop μ-loop Inv-scan μ-scan)
-    → let p = c .before .before .before in let e = block-of p in c .may-name .result ≡ unusedOrBelow (B e) (readLe 4 (S e) (p .loop .entry))
-named c = let e = block-of (c .before .before .before) in c .may-name .ensures ∙ ap (unusedOrBelow (B e)) (c .before .read32 .ensures)
+    → let p = c .before .before .before in let e = block-of p in c .may-name .result ≡ unusedOrBelow (B e) (readLe 4 (S e) (entry-at p))
+named c = let e = block-of (c .before .before .before) in c .may-name .ensures ∙ ap (unusedOrBelow (B e)) (c .before .entry .ensures)
 
 -- only the sums are left
 sums : (c : tie.After-loop Inv-loop μ-loop Inv-scan μ-scan) → let e = block-of (c .before) in isTable (kindAt (D e) (B e)) (S e) (B e) ≡ sealed (S e)
 sums c =
-    let p = c .before in let e = block-of p in let l = p .loop in
-    let passed : every (unusedOrBelow (B e)) (words (l .left) (S e) (l .entry)) ≡ true = words-passed (unusedOrBelow (B e)) (l .left) (S e) (l .entry) (omega arith) in
-    all-but-sums (kindAt (D e) (B e)) (S e) (B e) (after-tagged (frame-of p) .before .before .if2 .left) (whole e) (frame (frame-of p)) (sym (l .inv .1) ∙ passed)
+    let p = c .before in let e = block-of p in
+    let passed : every (unusedOrBelow (B e)) (words (left p) (S e) (entry-at p)) ≡ true = words-passed (unusedOrBelow (B e)) (left p) (S e) (entry-at p) (omega arith) in
+    all-but-sums (kindAt (D e) (B e)) (S e) (B e) (after-tagged (frame-of p) .before .before .if2 .left) (whole e) (frame (frame-of p)) (sym (p .loop .inv .1) ∙ passed)
 
 scan-holds : tie.Need-scan-holds Inv-loop μ-loop Inv-scan μ-scan
 scan-holds c = (omega arith, refl)
@@ -158,13 +165,13 @@ entry-count-requires c κs = whole (framed-block c)
 loop-holds : tie.Need-loop-holds Inv-loop μ-loop Inv-scan μ-scan
 unfolding entriesOf
 loop-holds c =
-    let e = framed-block (c .before) in (
-      omega (arith, c .entry-count .ensures, told (c .before) .few),
-      ap (λ (n : ℕ). every (unusedOrBelow (B e)) (words n (S e) 176)) (c .entry-count .ensures),
-    )
+    let e = framed-block (c .before) in
+    let all : c .entry-count .result - 0 ≡ entryCount (S e) = omega (arith, c .entry-count .ensures) in
+    let first : tableStart (attributeLength (S e)) + 4 * 0 ≡ tableStart (attributeLength (S e)) = omega arith in
+    (omega arith, ap₂ (λ (k at : ℕ). every (unusedOrBelow (B e)) (words k (S e) at)) all first)
 
-read32-requires : tie.Need-read32-requires Inv-loop μ-loop Inv-scan μ-scan
-read32-requires c κs = omega (arith, c .before .loop .inv .0, whole (block-of (c .before)))
+entry-requires : tie.Need-entry-requires Inv-loop μ-loop Inv-scan μ-scan
+entry-requires c κs = let p = c .before in (whole (block-of p), told (frame-of p) .below, omega (arith, p .before .entry-count .ensures))
 
 may-name-requires : tie.Need-may-name-requires Inv-loop μ-loop Inv-scan μ-scan
 may-name-requires c κs = tt
@@ -174,27 +181,29 @@ scan-less-4 c = omega arith
 
 scan-again-4 : tie.Need-scan-again-4 Inv-loop μ-loop Inv-scan μ-scan
 scan-again-4 c =
-    let p = c .before .before .before .before in let e = block-of p in let l = p .loop in
-    let wrong : unusedOrBelow (B e) (readLe 4 (S e) (l .entry)) ≡ false = sym (named (c .before)) ∙ not-true (c .before .may-name .result) (c .if5 .taken) in
-    on e (not-held (kindAt (D e) (B e)) (S e) (B e) (sym (l .inv .1) ∙ word-fails (unusedOrBelow (B e)) (l .left) (S e) (l .entry) (omega arith) wrong))
+    let p = c .before .before .before .before in let e = block-of p in
+    let wrong : unusedOrBelow (B e) (readLe 4 (S e) (entry-at p)) ≡ false = sym (named (c .before)) ∙ not-true (c .before .may-name .result) (c .if5 .taken) in
+    on e (not-held (kindAt (D e) (B e)) (S e) (B e) (sym (p .loop .inv .1) ∙ word-fails (unusedOrBelow (B e)) (left p) (S e) (entry-at p) (omega arith) wrong))
 
-add-entry : tie.Need-add-entry Inv-loop μ-loop Inv-scan μ-scan
-add-entry c = omega arith
-
-sub-left : tie.Need-sub-left Inv-loop μ-loop Inv-scan μ-scan
-sub-left c = omega arith
+add-i : tie.Need-add-i Inv-loop μ-loop Inv-scan μ-scan
+add-i c = omega arith
 
 loop-less : tie.Need-loop-less Inv-loop μ-loop Inv-scan μ-scan
 loop-less c = omega arith
 
 loop-again : tie.Need-loop-again Inv-loop μ-loop Inv-scan μ-scan
 loop-again c =
-    let p = c .before .before .before .before in let e = block-of p in let l = p .loop in
-    let right : unusedOrBelow (B e) (readLe 4 (S e) (l .entry)) ≡ true = sym (named (c .before)) ∙ not-false (c .before .may-name .result) (c .if5 .left) in
-    (omega (arith, l .inv .0), word-passes (unusedOrBelow (B e)) (l .left) (S e) (l .entry) (omega arith) right ∙ l .inv .1)
+    let p = c .before .before .before .before in let e = block-of p in
+    let f : ℕ → Bool = unusedOrBelow (B e) in
+    let right : f (readLe 4 (S e) (entry-at p)) ≡ true = sym (named (c .before)) ∙ not-false (c .before .may-name .result) (c .if5 .left) in
+    let fewer : p .before .entry-count .result - (p .loop .i + 1) ≡ left p - 1 = omega arith in
+    let further : tableStart (attributeLength (S e)) + 4 * (p .loop .i + 1) ≡ entry-at p + 4 = omega arith in (
+      omega arith,
+      ap₂ (λ (k at : ℕ). every f (words k (S e) at)) fewer further ∙ word-passes f (left p) (S e) (entry-at p) (omega arith) right ∙ p .loop .inv .1,
+    )
 
 sealed-requires : tie.Need-sealed-requires Inv-loop μ-loop Inv-scan μ-scan
-sealed-requires c κs = let e = frame-of (c .before) in omega (arith, whole (framed-block e), told e .few, told e .sized .summed)
+sealed-requires c κs = let e = frame-of (c .before) in omega (arith, whole (framed-block e), told e .below, told e .sized .summed)
 
 scan-less-5 : tie.Need-scan-less-5 Inv-loop μ-loop Inv-scan μ-scan
 scan-less-5 c = omega arith
@@ -242,12 +251,11 @@ newest-spec =
     scan-again-3
     entry-count-requires
     loop-holds
-    read32-requires
+    entry-requires
     may-name-requires
     scan-less-4
     scan-again-4
-    add-entry
-    sub-left
+    add-i
     loop-less
     loop-again
     sealed-requires

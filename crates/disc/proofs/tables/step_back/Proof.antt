@@ -7,7 +7,7 @@ use mathlib.Core.Bool.{true, false}
 use mathlib.Core.List.{List}
 use lib.ListN.{length}
 use borrow.Author.Tests.{not-true, not-false}
-use Rattle.vat.specs.Table.{limit, entryCount, previousOf}
+use Rattle.vat.specs.Table.{sectorLength, wholeLength, previousOf}
 use Rattle.vat.proofs.Theorems.{Recognised, recognised}
 use Rattle.disc.specs.declared.Walk.the-variants.{Reached}
 use Rattle.disc.specs.Disc.{Disc, lent, kindAt, sectorAt}
@@ -57,7 +57,7 @@ previous-requires : tie.Need-previous-requires
 previous-requires c κs =
     let s = c .before .before .before in
     let same = part-sector (D s) (s .args .b) in
-    (ap length same ∙ told s .whole, subst (λ (l : List ℕ). entryCount l ≤ limit) (sym same) (told s .frame .few))
+    (ap length same ∙ told s .whole, subst (λ (l : List ℕ). wholeLength l < sectorLength) (sym same) (told s .frame .below))
 
 returns : tie.Need-returns
 returns c =

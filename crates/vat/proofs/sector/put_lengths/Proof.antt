@@ -1,4 +1,4 @@
--- `vat::sector::put_lengths` meets its contract: the rows that the entry count settles, put one after another.
+-- `vat::sector::put_lengths` meets its contract: the rows that the two lengths settle, put one after another.
 -- Assumes nothing.
 use Rattle.le.specs.Field.{lay}
 use Rattle.vat.specs.Table.{lengthRows}
@@ -14,6 +14,9 @@ add-length c = search needs
 
 put32-requires : tie.Need-put32-requires
 put32-requires c κs = search needs
+
+put32-requires-2 : tie.Need-put32-requires-2
+put32-requires-2 c κs = search needs
 
 cast-put64 : tie.Need-cast-put64
 cast-put64 c = search needs
@@ -44,6 +47,7 @@ put-lengths-spec =
     mul-length
     add-length
     put32-requires
+    put32-requires-2
     cast-put64
     put64-requires
     add-put16

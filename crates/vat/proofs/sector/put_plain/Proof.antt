@@ -27,9 +27,6 @@ put8-requires-2 c κs = search needs
 put16-requires-4 : tie.Need-put16-requires-4
 put16-requires-4 c κs = search needs
 
-put32-requires-2 : tie.Need-put32-requires-2
-put32-requires-2 c κs = search needs
-
 same-length : tie.Need-same-length
 same-length c = search needs
 
@@ -48,6 +45,5 @@ put-plain-spec =
     put16-requires-3
     put8-requires-2
     put16-requires-4
-    put32-requires-2
     same-length
     returns)

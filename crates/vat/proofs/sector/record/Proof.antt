@@ -45,7 +45,7 @@ unfolding body stationName
 filled c =
     let s = start-of c in let a = s .args in
     let zeros = after-clear c .clear .ensures ∙ ap (λ (n : ℕ). replicate n 0) (s .pre .0) in
-    let table = after-table c .put-table .ensures ∙ ap (λ (l : List ℕ). sets l tableStart (tableBytes (a .map .now) (a .previous))) zeros in
+    let table = after-table c .put-table .ensures ∙ ap (λ (l : List ℕ). sets l (tableStart 0) (tableBytes (a .map .now) (a .previous))) zeros in
     after-station c .put-text .ensures ∙ ap (λ (l : List ℕ). sets l stationAt stationName) table
 
 -- what is sealed: the header laid over the body
@@ -55,7 +55,7 @@ laid c =
     let a = start-of c .args in
     let n : ℕ = length (a .map .now) in
     let plain = after-plain c .put-plain .ensures ∙ ap (λ (l : List ℕ). lay l (plainRows (a .b))) (filled c) in
-    let lengths = after-lengths c .put-lengths .ensures ∙ ap (λ (l : List ℕ). lay l (lengthRows n)) plain in
+    let lengths = after-lengths c .put-lengths .ensures ∙ ap (λ (l : List ℕ). lay l (lengthRows 0 n)) plain in
     after-own c .put-own .ensures ∙ ap (λ (l : List ℕ). lay l ownRows) lengths ∙ header-laid (a .b) n (body (a .map .now) (a .previous))
 
 clear-requires : tie.Need-clear-requires
@@ -87,7 +87,7 @@ seal-requires c κs =
     let p = start-of c in let a = p .args in
     let n : ℕ = length (a .map .now) in
     let s : List ℕ = body (a .map .now) (a .previous) in
-    let told : Lengths (lay s (header (a .b) n)) n = header-lengths (a .b) n s (p .fits .b .fits) (p .pre .1) (length-body (a .map .now) (a .previous)) in
+    let told : Lengths (lay s (header (a .b) n)) 0 n = header-lengths (a .b) n s (p .fits .b .fits) (p .pre .1) (length-body (a .map .now) (a .previous)) in
     rw (laid c) (omega (arith, told .summed, p .pre .1, length-lay (header (a .b) n) s, length-body (a .map .now) (a .previous)))
 
 same-length : tie.Need-same-length

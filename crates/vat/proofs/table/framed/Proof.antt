@@ -1,22 +1,40 @@
--- `vat::table::framed` meets its contract: the plain rows decide first, then the entry count, then the rest together.
+-- `vat::table::framed` meets its contract: the plain rows decide first, then the table's place, then the rest together.
 -- Assumes nothing.
-use Prim.Native.Nat.{ℕ}
+use Prim.Native.Nat.{ℕ, _<_}
 use native.Mathlib.Omega.{arith}
 use mathlib.Core.Path.{_≡_, sym, _∙_}
 use mathlib.Core.Bool.{true, false, and-false}
 use mathlib.Core.List.{List}
 use lib.Bits.{and-mask}
-use lib.Dec.{leb}
-use borrow.Author.Tests.{le-leb, lt-leb, not-true, not-false}
+use borrow.Author.Tests.{not-true, not-false}
 use Rattle.le.specs.Field.{holds}
-use Rattle.vat.specs.Table.{limit, plainRows, embedded, tableName, entryCount, framed}
+use Rattle.vat.specs.Table.{sectorLength, plainRows, embedded, tableName, wholeLength, placed, framed}
+use Rattle.vat.proofs.Frame.{placed-below}
 use borrow.Author.Needs.{needs}
 use Rattle.vat.proofs.table.framed.Statement.{statement}
 use Rattle.vat.proofs.table.framed.Tie as tie
 
--- the entry of the function
+-- the places of the function, each found from a later one
 abbrev start-of : tie.Else1 → tie.Start
 start-of c = c .before .before .before
+
+abbrev plain-of : tie.Else2 → tie.Else1
+plain-of c = c .before .before .before
+
+abbrev sized-of : tie.After-regid-at → tie.Else2
+sized-of c = c .before .before
+
+abbrev S : tie.Else1 → List ℕ
+S c = start-of c .args .s .now
+
+plain : (c : tie.Else1) → holds (S c) (plainRows (start-of c .args .b)) ≡ true
+plain c = sym (c .before .plain-held .ensures) ∙ not-false (c .before .plain-held .result) (c .if1 .left)
+
+put : (c : tie.Else2) → placed (S (plain-of c)) ≡ true
+put c = sym (c .before .placed .ensures) ∙ not-false (c .before .placed .result) (c .if2 .left)
+
+below : (c : tie.Else2) → wholeLength (S (plain-of c)) < sectorLength
+below c = placed-below (S (plain-of c)) (put c)
 
 plain-held-requires : tie.Need-plain-held-requires
 plain-held-requires c κs = search needs
@@ -31,41 +49,33 @@ returns c =
 read16-requires : tie.Need-read16-requires
 read16-requires c κs = search needs
 
-entry-count-requires : tie.Need-entry-count-requires
-entry-count-requires c κs = search needs
+placed-requires : tie.Need-placed-requires
+placed-requires c κs = search needs
 
 returns-2 : tie.Need-returns-2
 unfolding framed
 returns-2 c =
-    let at = c .before .before .before in let a = start-of at .args in
-    let s : List ℕ = a .s .now in
-    let plain : holds s (plainRows (a .b)) ≡ true = sym (at .before .plain-held .ensures) ∙ not-false (at .before .plain-held .result) (at .if1 .left) in
-    let many : leb (entryCount s) limit ≡ false = lt-leb (entryCount s) limit (omega (arith, c .before .entry-count .ensures)) in
-    rw (plain, many) (sym (and-false (embedded s)))
+    let at = c .before .before .before in
+    let wrong : placed (S at) ≡ false = sym (c .before .placed .ensures) ∙ not-true (c .before .placed .result) (c .if2 .taken) in
+    rw (plain at, wrong) (sym (and-false (embedded (S at))))
 
 lengths-held-requires : tie.Need-lengths-held-requires
-lengths-held-requires c κs = search needs
+lengths-held-requires c κs = (start-of (plain-of c) .pre, below c)
 
-cast-holds-text : tie.Need-cast-holds-text
-cast-holds-text c = search needs
-
-mul-holds-text : tie.Need-mul-holds-text
-mul-holds-text c = search needs
+regid-at-requires : tie.Need-regid-at-requires
+regid-at-requires c κs = let e = c .before in (start-of (plain-of e) .pre, below e)
 
 add-holds-text : tie.Need-add-holds-text
-add-holds-text c = search needs
-
-add-holds-text-2 : tie.Need-add-holds-text-2
-add-holds-text-2 c = search needs
+add-holds-text c = omega (arith, c .regid-at .ensures, below (sized-of c))
 
 slice-aggregate-holds-text : tie.Need-slice-aggregate-holds-text
 slice-aggregate-holds-text c = search needs
 
 holds-text-requires : tie.Need-holds-text-requires
-holds-text-requires c κs = search needs
+holds-text-requires c κs = let e = sized-of (c .before) in omega (arith, c .before .regid-at .ensures, below e, start-of (plain-of e) .pre)
 
 previous-requires : tie.Need-previous-requires
-previous-requires c κs = search needs
+previous-requires c κs = let e = sized-of (c .before .before) in (start-of (plain-of e) .pre, below e)
 
 may-name-requires : tie.Need-may-name-requires
 may-name-requires c κs = search needs
@@ -73,11 +83,8 @@ may-name-requires c κs = search needs
 returns-3 : tie.Need-returns-3
 unfolding framed tableName
 returns-3 c =
-    let counted = c .before .before .before .before .before .before in let at = counted .before .before in let a = start-of at .args in
-    let s : List ℕ = a .s .now in
-    let plain : holds s (plainRows (a .b)) ≡ true = sym (at .before .plain-held .ensures) ∙ not-false (at .before .plain-held .result) (at .if1 .left) in
-    let few : leb (entryCount s) limit ≡ true = le-leb (entryCount s) limit (omega (arith, counted .entry-count .ensures)) in
-    rw (plain, few) (cc (and-mask (counted .before .read16 .result) 3))
+    let e = sized-of (c .before .before .before .before) in let at = plain-of e in
+    rw (plain at, put e) (cc (and-mask (e .before .before .read16 .result) 3))
 
 pub framed-spec : {M : Type 1} → statement M
 framed-spec =
@@ -86,13 +93,11 @@ framed-spec =
     plain-held-requires
     returns
     read16-requires
-    entry-count-requires
+    placed-requires
     returns-2
     lengths-held-requires
-    cast-holds-text
-    mul-holds-text
+    regid-at-requires
     add-holds-text
-    add-holds-text-2
     slice-aggregate-holds-text
     holds-text-requires
     previous-requires

@@ -2,7 +2,7 @@
 -- Assumes nothing.
 use Prim.Native.Nat.{ℕ}
 use native.Mathlib.Omega.{arith}
-use mathlib.Core.Path.{_≡_, sym, ap, _∙_}
+use mathlib.Core.Path.{_≡_, sym, ap₂, _∙_}
 use mathlib.Core.Bool.{true, false}
 use mathlib.Core.List.{List}
 use lib.Dec.{eqb}
@@ -10,7 +10,7 @@ use lib.ListN.{length}
 use borrow.Author.Tests.{eq-eqb, ne-eqb, not-true, not-false}
 use Rattle.le.specs.Bytes.{every}
 use Rattle.le.specs.Field.{words}
-use Rattle.vat.specs.Table.{sectorLength, tableStart, unusedOrBelow, entryCount, entriesOf, framed, isTable}
+use Rattle.vat.specs.Table.{sectorLength, unusedOrBelow, entriesOf, framed, isTable}
 use Rattle.vat.proofs.Frame.{Framed, framed-tells}
 use borrow.Author.Needs.{needs}
 use Rattle.vat.proofs.table.is_table.Statement.{statement}
@@ -24,7 +24,7 @@ abbrev sector-of : tie.Else3 → tie.Else2
 sector-of c = c .before .before
 
 abbrev frame-of : tie.After-words-held → tie.Else3
-frame-of c = c .before .before
+frame-of c = c .before .before .before
 
 data-sector : (c : tie.Else1) → eqb (start-of c .args .kind) 1 ≡ true
 data-sector c = eq-eqb (start-of c .args .kind) 1 (c .if1 .left)
@@ -39,18 +39,19 @@ B c = start-of (c .before) .args .b
 whole : (c : tie.Else2) → eqb (length (S c)) sectorLength ≡ true
 whole c = eq-eqb (length (S c)) sectorLength (c .if2 .left)
 
-frame : (c : tie.Else3) → let e = sector-of c in framed (S e) (B e) (entryCount (S e)) ≡ true
+frame : (c : tie.Else3) → let e = sector-of c in framed (S e) (B e) ≡ true
 frame c = sym (c .before .framed .ensures) ∙ not-false (c .before .framed .result) (c .if3 .left)
 
-told : (c : tie.Else3) → let e = sector-of c in Framed (S e) (B e) (entryCount (S e))
-told c = let e = sector-of c in framed-tells (S e) (B e) (entryCount (S e)) (frame c)
+told : (c : tie.Else3) → let e = sector-of c in Framed (S e) (B e)
+told c = let e = sector-of c in framed-tells (S e) (B e) (frame c)
 
 listed : (c : tie.After-words-held)
     → let e = sector-of (frame-of c) in c .words-held .result ≡ every (unusedOrBelow (B e)) (entriesOf (S e))
 unfolding entriesOf
 listed c =
     let e = sector-of (frame-of c) in
-    c .words-held .ensures ∙ ap (λ (n : ℕ). every (unusedOrBelow (B e)) (words n (S e) tableStart)) (c .before .entry-count .ensures)
+    c .words-held .ensures
+    ∙ ap₂ (λ (at n : ℕ). every (unusedOrBelow (B e)) (words n (S e) at)) (c .before .before .table-start .ensures) (c .before .entry-count .ensures)
 
 returns : tie.Need-returns
 unfolding isTable
@@ -72,14 +73,19 @@ returns-3 : tie.Need-returns-3
 unfolding isTable
 returns-3 c =
     let e = c .before .before in
-    let wrong : framed (S e) (B e) (entryCount (S e)) ≡ false = sym (c .before .framed .ensures) ∙ not-true (c .before .framed .result) (c .if3 .taken) in
+    let wrong : framed (S e) (B e) ≡ false = sym (c .before .framed .ensures) ∙ not-true (c .before .framed .result) (c .if3 .taken) in
     rw (data-sector (e .before), whole e, wrong)
+
+table-start-requires : tie.Need-table-start-requires
+table-start-requires c κs = (sector-of c .if2 .left, told c .below)
 
 entry-count-requires : tie.Need-entry-count-requires
 entry-count-requires c κs = search needs
 
 words-held-requires : tie.Need-words-held-requires
-words-held-requires c κs = omega (arith, sector-of (c .before) .if2 .left, c .entry-count .ensures, told (c .before) .few)
+words-held-requires c κs =
+    let e = c .before .before in
+    omega (arith, sector-of e .if2 .left, c .before .table-start .ensures, c .entry-count .ensures, told e .below)
 
 returns-4 : tie.Need-returns-4
 unfolding isTable
@@ -92,7 +98,7 @@ returns-4 c =
 sealed-requires : tie.Need-sealed-requires
 sealed-requires c κs =
     let e = frame-of (c .before) in
-    omega (arith, sector-of e .if2 .left, told e .few, told e .sized .summed)
+    omega (arith, sector-of e .if2 .left, told e .below, told e .sized .summed)
 
 returns-5 : tie.Need-returns-5
 unfolding isTable
@@ -110,6 +116,7 @@ is-table-spec =
     returns-2
     framed-requires
     returns-3
+    table-start-requires
     entry-count-requires
     words-held-requires
     returns-4

@@ -52,18 +52,14 @@ read8-requires-2 c κs = inside (start-of (identified (c .before))) (lit≤ tt)
 read16-requires-4 : tie.Need-read16-requires-4
 read16-requires-4 c κs = inside (start-of (identified (c .before .before))) (lit≤ tt)
 
-read32-requires-2 : tie.Need-read32-requires-2
-read32-requires-2 c κs = inside (start-of (identified (c .before .before .before))) (lit≤ tt)
-
 returns-2 : tie.Need-returns-2
 unfolding holds plainRows
 returns-2 c =
-    let l = c .before in let f = l .before in let y = f .before in let b = y .before in let z = b .before in let v = z .before in let e = identified b in
+    let f = c .before in let y = f .before in let b = y .before in let z = b .before in let v = z .before in let e = identified b in
     let a = start-of e .args in
     let s : List ℕ = a .s .now in
     let right : eqb (readLe 2 s 0) 261 ≡ true = eq-eqb (readLe 2 s 0) 261 (sym (e .before .read16 .ensures) ∙ e .if1 .left) in
-    let attributes = ap (λ (x : ℕ). eqb x 0) (c .read322 .ensures) ∙ sym (and-true (eqb (readLe 4 s 168) 0)) in
-    let links = ap₂ _&&_ (ap (λ (x : ℕ). eqb x 0) (l .read164 .ensures)) attributes in
+    let links = ap (λ (x : ℕ). eqb x 0) (c .read164 .ensures) ∙ sym (and-true (eqb (readLe 2 s 48) 0)) in
     let file-type = ap₂ _&&_ (ap (λ (x : ℕ). eqb x 0) (f .read82 .ensures)) links in
     let strategy = ap₂ _&&_ (ap (λ (x : ℕ). eqb x 4) (y .read163 .ensures)) file-type in
     let location = ap₂ _&&_ (ap (λ (x : ℕ). eqb x (a .b)) (b .read32 .ensures)) strategy in
@@ -82,5 +78,4 @@ plain-held-spec =
     read16-requires-3
     read8-requires-2
     read16-requires-4
-    read32-requires-2
     returns-2)
