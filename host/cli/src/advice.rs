@@ -20,7 +20,9 @@ pub fn of(refusal: Refusal) -> &'static str {
         Refusal::LedgerUnfit => "Mount the disc first, or begin it if it has no save yet.",
         Refusal::ReadOnly => "Mount the disc to stop looking back, and then record.",
         Refusal::VatExists => "Mount the disc: it has a save already.",
-        Refusal::NoVat => "Begin the disc: it has no finished save.",
+        Refusal::NoVat => {
+            "Begin the disc, unless another deck recorded it: no finished save is found on it."
+        }
         Refusal::ChainBroken => {
             "Look back fewer steps: the saves before the broken one cannot be reached."
         }

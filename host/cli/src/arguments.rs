@@ -69,18 +69,16 @@ impl Arguments {
             .options
             .iter()
             .find(|(known, _)| name == *known);
-        let Some((known, takes_value)) = known else {
+        let Some((known, follows)) = known else {
             let name = name.to_string_lossy();
             return Err(self.wrong(format!("{} has no option {name}", self.command.name)));
         };
-        let value = match (takes_value, joined) {
-            (true, Some(value)) => Some(value),
-            (true, None) => words.next().map(OsString::as_os_str),
-            (false, None) => Some(OsStr::new("")),
-            (false, Some(_)) => return Err(self.wrong(format!("{known} takes no value"))),
-        };
-        let Some(value) = value else {
-            return Err(self.wrong(format!("{known} needs a name behind it")));
+        let missing = |what| self.wrong(format!("{known} needs {what} behind it"));
+        let value = match (follows, joined) {
+            (Some(_), Some(value)) => value,
+            (Some(what), None) => words.next().ok_or_else(|| missing(what))?,
+            (None, None) => OsStr::new(""),
+            (None, Some(_)) => return Err(self.wrong(format!("{known} takes no value"))),
         };
         if self.has(known) {
             return Err(self.wrong(format!("{known} is given twice")));
@@ -130,23 +128,48 @@ impl Arguments {
         self.operands[place].to_string_lossy()
     }
 
-    /// "The numbers v and k have 32 bits."
     pub fn number(&self, place: usize) -> Result<u32, Failure> {
-        let text = self.text(place);
+        self.number_in(self.command.operands[place], &self.operands[place])
+    }
+
+    /// Behind an option that may be missing.
+    fn option_number(&self, option: &str) -> Result<Option<u32>, Failure> {
+        let word = self.value(option);
+        word.map(|word| self.number_in(option, word)).transpose()
+    }
+
+    /// Behind an option without which the command means nothing.
+    pub fn needed_number(&self, option: &str) -> Result<u32, Failure> {
+        let missing = || self.wrong(format!("{} needs {option}", self.command.name));
+        self.option_number(option)?.ok_or_else(missing)
+    }
+
+    /// "The numbers v and k have 32 bits."
+    fn number_in(&self, name: &str, word: &OsStr) -> Result<u32, Failure> {
+        let text = word.to_string_lossy();
         let digits = text.bytes().all(|byte| byte.is_ascii_digit());
         let number = text.parse().ok().filter(|_| digits);
         number.ok_or_else(|| {
-            let name = self.command.operands[place];
-            self.wrong(format!(
-                "{name} is a number from 0 to {}, not '{text}'",
-                u32::MAX
-            ))
+            let most = u32::MAX;
+            self.wrong(format!("{name} is a number from 0 to {most}, not '{text}'"))
         })
     }
 
-    /// "It has 1 to 360,000 sectors."
     pub fn sectors(&self, place: usize) -> Result<usize, Failure> {
-        let sectors = self.number(place)? as usize;
+        self.sectors_of_a_disc(self.number(place)?)
+    }
+
+    /// Behind an option that may be missing.
+    pub fn option_sectors(&self, option: &str) -> Result<Option<usize>, Failure> {
+        let number = self.option_number(option)?;
+        number
+            .map(|number| self.sectors_of_a_disc(number))
+            .transpose()
+    }
+
+    /// "It has 1 to 360,000 sectors."
+    fn sectors_of_a_disc(&self, number: u32) -> Result<usize, Failure> {
+        let sectors = number as usize;
         if (1..=MOST_SECTORS).contains(&sectors) {
             return Ok(sectors);
         }

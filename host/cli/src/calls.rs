@@ -1,46 +1,24 @@
 //! A new disc, and the eight calls. Each answers only after its files are kept
 //! and free for the next command.
 
-use std::fs::{self, File};
-use std::io::ErrorKind;
 use std::path::Path;
 
 use station::SECTOR;
 
 use crate::arguments::Arguments;
-use crate::failure::{Done, Failure};
-use crate::files::{folder_of, ledger_beside, lock_folder, put, replace};
-use crate::form::store_blank;
+use crate::failure::Done;
+use crate::files::put;
+use crate::form::counted;
+use crate::making::make_disc;
 use crate::map::Map;
 use crate::session::{Lent, Session};
 use crate::surroundings::{say, Surroundings};
 use crate::writing::{is_stream, record_table, Writing};
 
 pub fn new(given: &Arguments, around: &mut Surroundings) -> Done {
-    let path = given.path(0);
     let sectors = given.sectors(1)?;
-    make_blank(path, sectors)?;
-    say(around, format!("blank disc, {sectors} sectors\n"))
-}
-
-fn make_blank(path: &Path, sectors: usize) -> Done {
-    let _lock = lock_folder(folder_of(path))?;
-    let ledger = ledger_beside(path);
-    // It would be lent to the new disc, and belongs to another.
-    if ledger.exists() {
-        return Err(Failure::unwritable(path, "its ledger is there already"));
-    }
-    // Takes the name first, so that no file is overwritten.
-    File::create_new(path).map_err(|error| match error.kind() {
-        ErrorKind::AlreadyExists => Failure::unwritable(path, "it is there already"),
-        _ => Failure::unwritable(path, error),
-    })?;
-    let made = replace(path, |file| store_blank(file, sectors));
-    if made.is_err() {
-        // The first error is the one to tell.
-        let _ = fs::remove_file(path);
-    }
-    made
+    make_disc(given.path(0), 0, sectors, |_| Ok(()))?;
+    say(around, format!("blank disc, {}\n", counted(sectors)))
 }
 
 pub fn begin(given: &Arguments, around: &mut Surroundings) -> Done {

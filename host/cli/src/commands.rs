@@ -8,6 +8,7 @@ use crate::cut::cut;
 use crate::demo;
 use crate::failure::{Done, Failure};
 use crate::help;
+use crate::images::{export, import};
 use crate::listing::list;
 use crate::nearly::nearest;
 use crate::surroundings::{say, Surroundings};
@@ -25,7 +26,7 @@ const fn command(
     Command { syntax, run }
 }
 
-static COMMANDS: [Command; 12] = [
+static COMMANDS: [Command; 14] = [
     command(&syntax::NEW, calls::new),
     command(&syntax::BEGIN, calls::begin),
     command(&syntax::MOUNT, calls::mount),
@@ -36,6 +37,8 @@ static COMMANDS: [Command; 12] = [
     command(&syntax::READ, calls::read),
     command(&syntax::LOOK_BACK, calls::look_back),
     command(&syntax::LIST, list),
+    command(&syntax::IMPORT, import),
+    command(&syntax::EXPORT, export),
     command(&syntax::CUT, cut),
     command(&syntax::DEMO, show_demo),
 ];

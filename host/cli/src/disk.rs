@@ -2,7 +2,6 @@
 //! or of the computer can leave there.
 
 use std::fs::{File, OpenOptions};
-use std::io::Write;
 use std::os::unix::fs::{FileExt, MetadataExt};
 
 use crate::failure::{Done, Failure};
@@ -89,7 +88,7 @@ impl Disk for Files {
     }
 
     fn write_ledger(&mut self, bytes: &[u8]) -> Done {
-        let part = Part::make(&self.place.ledger, |file| file.write_all(bytes))?;
+        let part = Part::make(&self.place.ledger, |part| part.write(bytes))?;
         self.ledger = Some(part);
         Ok(())
     }

@@ -18,6 +18,8 @@ pub enum Failure {
     Usage(String, &'static str),
     /// The file has not the form of a disc file, and why.
     NoDisc(PathBuf, String),
+    /// The file has not the form of a raw image, and why.
+    NoImage(PathBuf, String),
     /// A file cannot be read.
     Unreadable(PathBuf, io::Error),
     /// A file cannot be made or replaced, and why.
@@ -40,7 +42,7 @@ impl Failure {
     pub fn status(&self) -> u8 {
         match self {
             Failure::Usage(..) => 64,
-            Failure::NoDisc(..) => 65,
+            Failure::NoDisc(..) | Failure::NoImage(..) => 65,
             Failure::Unreadable(..) => 66,
             Failure::Unwritable(..) => 73,
             Failure::Output(_) => 74,
@@ -66,6 +68,10 @@ impl fmt::Display for Failure {
             }
             Failure::NoDisc(file, reason) => {
                 writeln!(out, "station: {} is no disc: {reason}", file.display())
+            }
+            Failure::NoImage(file, reason) => {
+                let file = file.display();
+                writeln!(out, "station: {file} is no raw image of a disc: {reason}")
             }
             Failure::Unreadable(file, error) => {
                 writeln!(out, "station: {}", unreadable(&file.display(), error))

@@ -1,14 +1,14 @@
-//! Files: where the ledger lies, one command at a time on a disc, and replacing
-//! a file in one step.
+//! Files: where the ledger lies, one command at a time on a disc, what may be
+//! opened, and replacing a file in one step.
 
 use std::ffi::OsString;
 use std::fs::{self, File, OpenOptions, Permissions};
 use std::io::{self, ErrorKind, Read, Write};
-use std::os::unix::fs::{OpenOptionsExt, PermissionsExt};
+use std::os::unix::fs::{FileExt, OpenOptionsExt, PermissionsExt};
 use std::path::{Path, PathBuf};
 use std::process;
 
-use crate::failure::Failure;
+use crate::failure::{Done, Failure};
 use crate::lock;
 
 /// A disc file and its ledger, by their real names: a link to a disc file stays
@@ -26,9 +26,14 @@ impl Place {
         Ok(Place { disc: real, ledger })
     }
 
-    /// Whether a file is one of the two, by whatever name.
+    /// Whether a file is one of the two, by whatever name, or would be if it were
+    /// there.
     pub fn has(&self, file: &Path) -> bool {
-        fs::canonicalize(file).is_ok_and(|real| real == self.disc || real == self.ledger)
+        let real = fs::canonicalize(file).or_else(|_| {
+            let folder = fs::canonicalize(folder_of(file));
+            folder.map(|folder| folder.join(file.file_name().unwrap_or_default()))
+        });
+        real.is_ok_and(|real| real == self.disc || real == self.ledger)
     }
 }
 
@@ -62,9 +67,24 @@ pub fn lock_folder(folder: &Path) -> Result<File, Failure> {
 }
 
 /// The same of an open file, which may have names in several folders.
-pub fn lock(file: &File, name: &Path) -> Result<(), Failure> {
+pub fn lock(file: &File, name: &Path) -> Done {
     let locked = lock::exclusive(file);
     locked.map_err(|error| Failure::unwritable(name, format!("no lock: {error}")))
+}
+
+/// Opens a file to be read; the name is for the message, and so is `no_file`, if it
+/// is none. What it is, is asked before: opening a pipe would wait for a writer.
+pub fn open(
+    path: &Path,
+    name: &Path,
+    no_file: fn(PathBuf, String) -> Failure,
+) -> Result<File, Failure> {
+    let unreadable = |error| Failure::unreadable(name, error);
+    let about = fs::metadata(path).map_err(unreadable)?;
+    if !about.is_file() {
+        return Err(no_file(name.to_path_buf(), "it is not a file".into()));
+    }
+    File::open(path).map_err(unreadable)
 }
 
 /// At most so many bytes of a file or of another source.
@@ -87,37 +107,57 @@ pub struct Part {
 impl Part {
     /// Makes the file that is to stand at the path, with the permissions of the
     /// one that is there.
-    pub fn make(
-        path: &Path,
-        fill: impl FnOnce(&mut File) -> io::Result<()>,
-    ) -> Result<Part, Failure> {
+    pub fn make(path: &Path, fill: impl FnOnce(&Part) -> Done) -> Result<Part, Failure> {
         let unwritable = |error: io::Error| Failure::unwritable(path, error);
         let kept = permissions(path).map_err(unwritable)?;
         let (part, file) = new_part(path, kept.as_ref()).map_err(unwritable)?;
-        let mut made = Part {
+        let made = Part {
             path: path.to_path_buf(),
             part,
             file,
             named: false,
         };
-        fill(&mut made.file)
-            .and_then(|()| kept.map_or(Ok(()), |kept| made.file.set_permissions(kept)))
-            .map_err(unwritable)?;
+        fill(&made)?;
+        if let Some(kept) = kept {
+            made.file.set_permissions(kept).map_err(unwritable)?;
+        }
         Ok(made)
     }
 
+    /// Bytes behind those that are there.
+    pub fn write(&self, bytes: &[u8]) -> Done {
+        self.told((&self.file).write_all(bytes))
+    }
+
+    /// All of it zeros, in a hole: it takes no space and no time.
+    pub fn set_length(&self, length: u64) -> Done {
+        self.told(self.file.set_len(length))
+    }
+
+    /// Bytes at their place in a file that has its length: zeros are there already.
+    pub fn write_at(&self, place: u64, bytes: &[u8]) -> Done {
+        // Without leaving at the first other byte: zeros are told much faster so.
+        match bytes.iter().fold(0, |all, byte| all | byte) {
+            0 => Ok(()),
+            _ => self.told(self.file.write_all_at(bytes, place)),
+        }
+    }
+
     /// All of it is on the disk, and it may have its name.
-    pub fn flush(&self) -> Result<(), Failure> {
-        let flushed = self.file.sync_all();
-        flushed.map_err(|error| Failure::unwritable(&self.path, error))
+    pub fn flush(&self) -> Done {
+        self.told(self.file.sync_all())
     }
 
     /// Gives the file its name, in place of the one that has it.
-    pub fn put_in_place(mut self) -> Result<(), Failure> {
-        let named = fs::rename(&self.part, &self.path);
-        named.map_err(|error| Failure::unwritable(&self.path, error))?;
+    pub fn put_in_place(mut self) -> Done {
+        self.told(fs::rename(&self.part, &self.path))?;
         self.named = true;
         Ok(())
+    }
+
+    /// An error by the name that the file is to have.
+    fn told(&self, done: io::Result<()>) -> Done {
+        done.map_err(|error| Failure::unwritable(&self.path, error))
     }
 }
 
@@ -131,7 +171,7 @@ impl Drop for Part {
 }
 
 /// Makes or replaces one file in one step.
-pub fn replace(path: &Path, fill: impl FnOnce(&mut File) -> io::Result<()>) -> Result<(), Failure> {
+pub fn replace(path: &Path, fill: impl FnOnce(&Part) -> Done) -> Done {
     let part = Part::make(path, fill)?;
     part.flush()?;
     part.put_in_place()?;
@@ -140,19 +180,19 @@ pub fn replace(path: &Path, fill: impl FnOnce(&mut File) -> io::Result<()>) -> R
 
 /// Puts bytes where an operator asked for them. A link stays a link, and what is
 /// no file, such as a pipe or a device, is written to and not replaced.
-pub fn put(path: &Path, bytes: &[u8]) -> Result<(), Failure> {
+pub fn put(path: &Path, bytes: &[u8]) -> Done {
     let unwritable = |error: io::Error| Failure::unwritable(path, error);
     match fs::metadata(path) {
         Ok(about) if about.is_file() => {
             let real = fs::canonicalize(path).map_err(unwritable)?;
-            replace(&real, |file| file.write_all(bytes))
+            replace(&real, |part| part.write(bytes))
         }
         Ok(_) => {
             let opened = OpenOptions::new().write(true).open(path);
             let written = opened.and_then(|mut file| file.write_all(bytes));
             written.map_err(unwritable)
         }
-        Err(_) => replace(path, |file| file.write_all(bytes)),
+        Err(_) => replace(path, |part| part.write(bytes)),
     }
 }
 
@@ -189,7 +229,7 @@ fn permissions(path: &Path) -> io::Result<Option<Permissions>> {
 }
 
 /// Removes a file that may be missing.
-pub fn remove(path: &Path) -> Result<(), Failure> {
+pub fn remove(path: &Path) -> Done {
     match fs::remove_file(path) {
         Err(error) if error.kind() == ErrorKind::NotFound => Ok(()),
         done => done.map_err(|error| Failure::unwritable(path, error)),
@@ -197,7 +237,7 @@ pub fn remove(path: &Path) -> Result<(), Failure> {
 }
 
 /// The names in a file's folder are on the disk too.
-pub fn flush_folder(path: &Path) -> Result<(), Failure> {
+pub fn flush_folder(path: &Path) -> Done {
     let flushed = File::open(folder_of(path)).and_then(|folder| folder.sync_all());
     flushed.map_err(|error| Failure::unwritable(path, error))
 }

@@ -2,8 +2,8 @@
 //! sectors. "The sector count, right-justified in 8 columns; newline; one digit
 //! 0 to 3 a sector; newline; the image", and nothing else.
 
-use std::fs::{self, File};
-use std::io::{self, ErrorKind, Write};
+use std::fs::File;
+use std::io::{self, ErrorKind};
 use std::os::unix::fs::FileExt;
 use std::path::Path;
 
@@ -62,27 +62,29 @@ impl Disc {
 
     /// Where in the file a sector's bytes stand.
     pub fn sector_place(&self, block: u32) -> u64 {
-        (image_place(self.kinds.len()) + block as usize * SECTOR) as u64
+        sector_place(self.kinds.len(), block as usize)
     }
 }
 
-/// Opens a file to be loaded. What it is, is asked before: opening a pipe would
-/// wait for a writer.
-pub fn open(path: &Path, name: &Path) -> Result<File, Failure> {
-    let unreadable = |error| Failure::unreadable(name, error);
-    let about = fs::metadata(path).map_err(unreadable)?;
-    if !about.is_file() {
-        let reason = "it is not a file".into();
-        return Err(Failure::NoDisc(name.to_path_buf(), reason));
-    }
-    File::open(path).map_err(unreadable)
+/// The two lines before the image, of a disc whose first sectors are data and
+/// the others blank.
+pub fn lines(data: usize, sectors: usize) -> String {
+    let (data, blank) = ("1".repeat(data), "0".repeat(sectors - data));
+    format!("{sectors:8}\n{data}{blank}\n")
 }
 
-/// Fills an empty file. The image is a hole, so it takes no space and no time.
-pub fn store_blank(file: &mut File, sectors: usize) -> io::Result<()> {
-    let digits = "0".repeat(sectors);
-    file.write_all(format!("{sectors:8}\n{digits}\n").as_bytes())?;
-    file.set_len(whole_length(sectors) as u64)
+/// Bytes of a whole disc file.
+pub fn whole_length(sectors: usize) -> u64 {
+    sector_place(sectors, sectors)
+}
+
+/// Where in a disc file of so many sectors the bytes of one stand.
+pub fn sector_place(sectors: usize, block: usize) -> u64 {
+    (image_place(sectors) + block * SECTOR) as u64
+}
+
+fn image_place(sectors: usize) -> usize {
+    HEAD + sectors + 1
 }
 
 /// The digit of a kind.
@@ -90,12 +92,12 @@ pub fn digit(kind: u8) -> u8 {
     kind + b'0'
 }
 
-fn image_place(sectors: usize) -> usize {
-    HEAD + sectors + 1
-}
-
-fn whole_length(sectors: usize) -> usize {
-    image_place(sectors) + sectors * SECTOR
+/// How many sectors, in words.
+pub fn counted(sectors: usize) -> String {
+    match sectors {
+        1 => "1 sector".into(),
+        _ => format!("{sectors} sectors"),
+    }
 }
 
 /// The disc, or why the file has another form.
@@ -111,11 +113,11 @@ fn read_form(file: &File, name: &Path) -> io::Result<Result<Disc, String>> {
         return Ok(Err(reason.into()));
     };
     let whole = whole_length(sectors);
-    if length != whole as u64 {
+    if length != whole {
         let reason = format!("it has {length} bytes, and with {sectors} sectors it has {whole}");
         return Ok(Err(reason));
     }
-    let file = mapping::copy_on_write(file, whole, name)?;
+    let file = mapping::copy_on_write(file, whole as usize, name)?;
     Ok(match kinds_of(&file[HEAD..image_place(sectors)]) {
         Some(kinds) => Ok(Disc {
             recorded: station::recorded(&kinds),

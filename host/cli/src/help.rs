@@ -15,6 +15,8 @@ Usage: station COMMAND DISC ...
   read DISC V           the block that number V names
   look-back DISC K      show the save K before the newest, looking only
   list DISC             every save, newest first
+  import IMAGE DISC     make a disc file of another deck's raw image
+  export DISC IMAGE     give the raw sectors back
   cut J COMMAND ...     what a power cut leaves of a write or commit
   demo                  a worked example
 
@@ -24,8 +26,8 @@ DISC is a file; its ledger is kept beside it in DISC.ledger. Until a commit,
 only the ledger knows where a written block lies.
 
 Exit status: 0 done; 1 to 15 the refusal's number; 64 wrong command line; 65
-the file is no disc; 66 a file cannot be read; 73 a file cannot be written; 74
-the answer cannot be told.
+the file is no disc, or no raw image; 66 a file cannot be read; 73 a file
+cannot be written; 74 the answer cannot be told.
 ";
 
 pub const NEW: &str = "\
@@ -107,6 +109,28 @@ Every save, newest first: steps back, the table's block, the size, and how many
 numbers are in use. The last line is clean, dirty, or broken if the saves
 before cannot be reached (exit status 8). If a mount is refused, only 'refused'
 and the number. Changes nothing.
+";
+
+pub const IMPORT: &str = "\
+Usage: station import IMAGE DISC --start N [--sectors M]
+
+Makes a disc file of a raw image of another deck's disc: 2048 bytes a sector,
+all of them recorded data. The disc's block 0 is the image's sector N; what
+stands before it, the volume's front, is left out. Overwrites nothing. The disc
+has no ledger: mount it.
+
+  --start N     the partition's first block, as udfinfo tells it
+  --sectors M   the disc's size in sectors, 360000 at most: those behind the
+                image's are blank. Without it there is no room to record
+";
+
+pub const EXPORT: &str = "\
+Usage: station export DISC IMAGE
+
+Gives the raw sectors back: every recorded one, 2048 bytes each, in order. The
+image ends with the last of them. Link and unreadable sectors have no data:
+zeros stand for their bytes. Overwrites nothing, and changes nothing of the
+disc.
 ";
 
 pub const CUT: &str = "\

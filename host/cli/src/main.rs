@@ -1,16 +1,17 @@
 //! `station`: a disc kept in a file, and on it the eight calls of the recording
-//! core, the listing, and a simulated power cut.
+//! core, the listing, a simulated power cut, and raw images for other decks.
 //!
 //! The program keeps no rule of the disc itself: it lends files to the core and
 //! tells what the core answers. Each room uses only those below it:
 //!
 //! - `commands`: the command line;
-//! - `calls`, `cut`, `demo`, `listing`: what the commands do;
+//! - `calls`, `cut`, `demo`, `images`, `listing`: what the commands do;
 //! - `writing`: the two calls that record, whole or to be cut;
 //! - `session`: disc and ledger of one command;
 //! - `keeping`: the order in which they are kept;
 //! - `surroundings`: the streams and the disk that a command is given;
 //! - `disk`: the steps of keeping, on files;
+//! - `making`: a file where there is none, a disc's or another;
 //! - `files`: names, locks, and replacing a file in one step;
 //! - `form`: the disc file's form; `map`: what the ledger says;
 //! - `arguments`, `syntax`, `help`, `nearly`: the words of a command line;
@@ -32,10 +33,12 @@ mod failure;
 mod files;
 mod form;
 mod help;
+mod images;
 mod keeping;
 mod listing;
 #[allow(unsafe_code)]
 mod lock;
+mod making;
 mod map;
 #[allow(unsafe_code)]
 mod mapping;

@@ -8,8 +8,8 @@ use station::LEDGER;
 
 use crate::disk::{Disk, Files};
 use crate::failure::{Done, Failure};
-use crate::files::{folder_of, lock, lock_folder, read_at_most, Place};
-use crate::form::{self, Disc};
+use crate::files::{folder_of, lock, lock_folder, open, read_at_most, Place};
+use crate::form::Disc;
 use crate::keeping::{self, Recording};
 use crate::surroundings::Surroundings;
 
@@ -37,7 +37,7 @@ impl Session {
     pub fn open(name: &Path, lent: Lent, around: &Surroundings) -> Result<Session, Failure> {
         let place = Place::of(name)?;
         let folder = lock_folder(folder_of(&place.disc))?;
-        let file = form::open(&place.disc, name)?;
+        let file = open(&place.disc, name, Failure::NoDisc)?;
         lock(&file, name)?;
         let disc = Disc::load(&file, name)?;
         let ledger = match lent {

@@ -5,14 +5,18 @@ use crate::help;
 pub struct Syntax {
     pub name: &'static str,
     pub operands: &'static [&'static str],
-    /// Each option, and whether a value follows it.
-    pub options: &'static [(&'static str, bool)],
+    /// Each option, and what follows it, if anything does.
+    pub options: &'static [(&'static str, Option<&'static str>)],
     /// Whether the words behind the operands belong to another command.
     pub takes_command: bool,
     pub help: &'static str,
 }
 
-/// A command of a disc and perhaps a number, without options.
+/// What may follow an option.
+const NAME: Option<&str> = Some("a name");
+const NUMBER: Option<&str> = Some("a number");
+
+/// A command without options.
 const fn plain(
     name: &'static str,
     operands: &'static [&'static str],
@@ -31,24 +35,29 @@ pub static NEW: Syntax = plain("new", &["DISC", "SECTORS"], help::NEW);
 pub static BEGIN: Syntax = plain("begin", &["DISC"], help::BEGIN);
 pub static MOUNT: Syntax = plain("mount", &["DISC"], help::MOUNT);
 pub static WRITE: Syntax = Syntax {
-    options: &[("--from", true), ("--pad", false)],
+    options: &[("--from", NAME), ("--pad", None)],
     ..plain("write", &["DISC", "V"], help::WRITE)
 };
 pub static RELEASE: Syntax = plain("release", &["DISC", "V"], help::RELEASE);
 pub static CLOSE: Syntax = plain("close", &["DISC"], help::CLOSE);
 pub static COMMIT: Syntax = plain("commit", &["DISC"], help::COMMIT);
 pub static READ: Syntax = Syntax {
-    options: &[("--to", true)],
+    options: &[("--to", NAME)],
     ..plain("read", &["DISC", "V"], help::READ)
 };
 pub static LOOK_BACK: Syntax = plain("look-back", &["DISC", "K"], help::LOOK_BACK);
 pub static LIST: Syntax = plain("list", &["DISC"], help::LIST);
+pub static IMPORT: Syntax = Syntax {
+    options: &[("--start", NUMBER), ("--sectors", NUMBER)],
+    ..plain("import", &["IMAGE", "DISC"], help::IMPORT)
+};
+pub static EXPORT: Syntax = plain("export", &["DISC", "IMAGE"], help::EXPORT);
 pub static CUT: Syntax = Syntax {
-    options: &[("--torn", false)],
+    options: &[("--torn", None)],
     takes_command: true,
     ..plain("cut", &["J", "COMMAND"], help::CUT)
 };
 pub static DEMO: Syntax = Syntax {
-    options: &[("--keep", true)],
+    options: &[("--keep", NAME)],
     ..plain("demo", &[], help::DEMO)
 };

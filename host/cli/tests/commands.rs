@@ -15,6 +15,7 @@ fn new_makes_a_blank_disc_and_no_ledger() {
     assert_eq!(folder.names(), ["run.disc"]);
     let blank = disc_file(&[0; 31], &[0; 31 * SECTOR]);
     assert!(folder.bytes("run.disc") == blank);
+    assert_eq!(folder.done("new one.disc 1"), "blank disc, 1 sector\n");
 }
 
 #[test]

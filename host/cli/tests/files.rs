@@ -10,7 +10,7 @@ use common::{disc_file, padded, Folder};
 use station::SECTOR;
 
 /// One line for each command that takes a disc.
-const LINES: [&str; 10] = [
+const LINES: [&str; 11] = [
     "begin run.disc",
     "mount run.disc",
     "write run.disc 0 --pad",
@@ -19,6 +19,7 @@ const LINES: [&str; 10] = [
     "commit run.disc",
     "read run.disc 0",
     "look-back run.disc 0",
+    "export run.disc run.img",
     "cut 0 commit run.disc",
     "cut 0 write run.disc 0 --pad",
 ];
@@ -104,9 +105,11 @@ fn files_that_may_not_be_read() {
     let folder = Folder::begun(31);
     let nobody = fs::Permissions::from_mode(0o000);
     fs::set_permissions(folder.path("run.disc"), nobody).expect("permissions");
-    let told = folder.run_without_privileges("mount run.disc");
-    assert_eq!(told.err, "station: run.disc may not be read\n");
-    assert_eq!((told.status, &told.out[..]), (66, &b""[..]));
+    for line in ["mount run.disc", "import run.disc deck.disc --start 0"] {
+        let told = folder.run_without_privileges(line);
+        assert_eq!(told.err, "station: run.disc may not be read\n");
+        assert_eq!((told.status, &told.out[..]), (66, &b""[..]));
+    }
 }
 
 /// Narrower and wider ones than a new file would get.

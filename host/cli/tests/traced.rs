@@ -291,20 +291,80 @@ fn killed_between_the_digits() {
     }
 }
 
-/// A blank disc is there whole, or its name stands for an empty file, which is no
-/// disc, or for none.
+/// The commands that make a file, on the example with a deck's image beside it.
+const MADE: [&str; 3] = [
+    "new made 31",
+    "import deck.img made --start 2 --sectors 31",
+    "export run.disc made",
+];
+
+fn example_and_deck() -> Folder {
+    let folder = Folder::example();
+    folder.put("deck.img", &[0xC3; 14 * SECTOR]);
+    folder
+}
+
+/// It is on the disk before it takes its name.
 #[test]
-fn a_new_disc_is_whole_or_none() {
-    for call in WRITING {
-        for nth in 1.. {
-            let folder = Folder::new();
-            let end = run_traced(&folder, "new run.disc 31", call, nth, KILLED);
-            let left = fs::read(folder.path("run.disc")).unwrap_or_default();
-            let blank = disc_file(&[0; 31], &[0; 31 * SECTOR]);
-            assert!(left.is_empty() || left == blank);
-            if end == End::Status(0) {
-                break;
+fn the_order_of_making() {
+    for line in MADE {
+        let calls = calls_of(&example_and_deck(), line);
+        let filled = calls.iter().filter(|call| *call == "pwrite64").count();
+        let filled = vec!["pwrite64"; filled.max(1)];
+        let named = ["fchmod", "fsync", "rename", "fsync", "write"];
+        let whole = [&["ftruncate"], &filled[..], &named].concat();
+        assert_eq!(calls, whole, "{line}");
+    }
+}
+
+/// A command that is killed leaves the file whole, or its name for an empty one,
+/// which is no disc, or none. On a full disk there is none, unless only the answer
+/// cannot be told (74).
+#[test]
+fn a_file_that_is_made_is_whole_or_none() {
+    let folder = example_and_deck();
+    let start = folder.files();
+    for line in MADE {
+        folder.done(line);
+        let (whole, made) = (folder.files(), folder.bytes("made"));
+        let mut stopped = 0;
+        for (call, fate) in WRITING
+            .map(|call| [(call, KILLED), (call, DISK_FULL)])
+            .concat()
+        {
+            for nth in 1.. {
+                restore(&folder, &start);
+                match run_traced(&folder, line, call, nth, fate) {
+                    End::Status(0) => break,
+                    End::Status(73) => assert!(folder.files() == start, "{line}"),
+                    End::Status(74) => assert!(folder.files() == whole, "{line}"),
+                    End::Status(status) => panic!("{line}: {status}"),
+                    End::Killed => {
+                        let left = fs::read(folder.path("made")).unwrap_or_default();
+                        assert!(left.is_empty() || left == made, "{line}");
+                    }
+                }
+                stopped += 1;
             }
         }
+        restore(&folder, &start);
+        assert!(stopped >= 14, "{line}: stopped {stopped} times");
+    }
+}
+
+/// An image that becomes shorter while it is copied, or whose disk fails, is told
+/// of by its own name, and nothing is made.
+#[test]
+fn an_image_that_cannot_be_read_to_its_end() {
+    let folder = example_and_deck();
+    let start = folder.files();
+    let image = fs::canonicalize(folder.path("deck.img")).expect("the image");
+    let image = image.to_str().expect("text");
+    for fate in ["retval=0", "error=EIO"] {
+        let fate = format!("inject=pread64:{fate}");
+        let options = ["-P", image, "-e", "trace=pread64", "-e", &fate];
+        let (end, traced) = run_strace(&folder, MADE[1], &options);
+        assert_eq!(end, End::Status(66), "{traced}");
+        assert!(folder.files() == start, "{fate}");
     }
 }

@@ -8,7 +8,7 @@ use std::process::Command;
 
 use common::{Folder, STATION};
 
-const COMMANDS: [&str; 12] = [
+const COMMANDS: [&str; 14] = [
     "new",
     "begin",
     "mount",
@@ -19,6 +19,8 @@ const COMMANDS: [&str; 12] = [
     "read",
     "look-back",
     "list",
+    "import",
+    "export",
     "cut",
     "demo",
 ];
@@ -72,6 +74,13 @@ mount | mount needs DISC | mount
 write run.disc | write needs V | write
 look-back run.disc | look-back needs K | look-back
 new run.disc | new needs SECTORS | new
+import deck.img | import needs DISC | import
+import deck.img deck.disc | import needs --start | import
+import deck.img deck.disc --start | --start needs a number behind it | import
+import deck.img deck.disc --start 0 --pad | import has no option --pad | import
+export run.disc | export needs IMAGE | export
+export run.disc run.img --start 0 | export has no option --start | export
+exprot run.disc run.img | there is no command exprot: did you mean export? |
 cut 1 commit | commit needs DISC | commit
 mount run.disc 3 | mount has no use for 3 | mount
 demo run.disc | demo has no use for run.disc | demo
@@ -106,12 +115,24 @@ fn numbers_are_checked() {
             let told = folder.fails(&format!("{line} run.disc {number}"), 64);
             assert!(told.contains("a number from 0 to 4294967295"), "{told}");
         }
+        for option in ["--start", "--start 0 --sectors"] {
+            let told = folder.fails(&format!("import deck.img x.disc {option} {number}"), 64);
+            let name = option.split(' ').next_back().expect("a word");
+            let start = format!("station: {name} is a number from 0 to 4294967295, not '");
+            assert!(told.starts_with(&start), "{told}");
+        }
         folder.fails(&format!("new other.disc {number}"), 64);
         folder.fails(&format!("cut {number} commit run.disc"), 64);
     }
     for sectors in ["0", "360001"] {
-        let told = folder.fails(&format!("new other.disc {sectors}"), 64);
-        assert!(told.contains("1 to 360000 sectors"), "{told}");
+        for line in [
+            "new other.disc",
+            "import deck.img x.disc --start 0 --sectors",
+        ] {
+            let told = folder.fails(&format!("{line} {sectors}"), 64);
+            let fault = format!("a disc has 1 to 360000 sectors, not {sectors}");
+            assert!(told.contains(&fault), "{told}");
+        }
     }
     let empty = Command::new(STATION)
         .args(["read", "run.disc", ""])

@@ -171,13 +171,14 @@ impl Folder {
         self.fails_with(line, b"", status)
     }
 
-    /// Runs a line as an operator types it; all that the terminal shows.
+    /// Runs a line as an operator types it; all that the terminal shows. Debian puts
+    /// mkudffs where tools of administrators are.
     pub fn shell(&self, line: &str) -> String {
         let program = Path::new(STATION).parent().expect("a folder");
         let path = env::var("PATH").unwrap_or_default();
         let mut command = Command::new("sh");
         command.arg("-c").arg(format!("exec 2>&1; {line}"));
-        command.env("PATH", format!("{}:{path}", program.display()));
+        command.env("PATH", format!("{}:{path}:/usr/sbin", program.display()));
         command.current_dir(&self.0);
         let told = finish(&mut command, b"");
         String::from_utf8(told.out).expect("text")

@@ -1,0 +1,156 @@
+//! Raw images: the sectors of a disc, 2048 bytes each, and nothing else, as other
+//! decks and readers have them.
+
+use std::fs::File;
+use std::io::{self, ErrorKind};
+use std::os::unix::fs::FileExt;
+use std::path::Path;
+
+use station::{MOST_SECTORS, SECTOR};
+
+use crate::arguments::Arguments;
+use crate::failure::{Done, Failure};
+use crate::files::{open, Part};
+use crate::form::{counted, sector_place};
+use crate::making::{make, make_disc};
+use crate::session::{Lent, Session};
+use crate::surroundings::{say, Surroundings};
+
+const BLANK: u8 = 0;
+const DATA: u8 = 1;
+
+/// Sectors that are copied at a time: a full disc is 737 MB, and is not held in
+/// memory.
+const PIECE: usize = 32;
+
+/// The partition of another deck's disc as a disc file. It has no ledger, as
+/// after a power cut.
+pub fn import(given: &Arguments, around: &mut Surroundings) -> Done {
+    let start = given.needed_number("--start")? as usize;
+    let wanted = given.option_sectors("--sectors")?;
+    let image = Image::open(given, start)?;
+    let data = image.sectors;
+    let sectors = wanted.unwrap_or(data);
+    if sectors < data {
+        let has = counted(data);
+        return Err(given.wrong(format!(
+            "--sectors {sectors} is too few: the image has {has} from block {start} on"
+        )));
+    }
+    make_disc(given.path(1), data, sectors, |part| {
+        let place = sector_place(sectors, 0);
+        copy(part, place, data, |block, bytes| image.read(block, bytes))
+    })?;
+    let blank = sectors - data;
+    say(
+        around,
+        format!("{} imported, {blank} blank\n", counted(data)),
+    )
+}
+
+/// What an image has from its partition's first sector on.
+struct Image<'a> {
+    name: &'a Path,
+    file: File,
+    start: usize,
+    sectors: usize,
+}
+
+impl Image<'_> {
+    fn open(given: &Arguments, start: usize) -> Result<Image<'_>, Failure> {
+        let name = given.path(0);
+        let file = open(name, name, Failure::NoImage)?;
+        let about = file.metadata();
+        let bytes = about
+            .map_err(|error| Failure::unreadable(name, error))?
+            .len() as usize;
+        let no_image = |reason| Err(Failure::NoImage(name.to_path_buf(), reason));
+        if bytes == 0 {
+            return no_image("it is empty".into());
+        }
+        if bytes % SECTOR != 0 {
+            return no_image(format!("it has {bytes} bytes, and a sector has {SECTOR}"));
+        }
+        let all = bytes / SECTOR;
+        if start >= all {
+            let has = counted(all);
+            return Err(given.wrong(format!("--start {start} is too high: the image has {has}")));
+        }
+        let sectors = all - start;
+        if sectors > MOST_SECTORS {
+            return no_image(format!(
+                "it has {sectors} sectors from block {start} on, and a disc has {MOST_SECTORS} at most"
+            ));
+        }
+        Ok(Image {
+            name,
+            file,
+            start,
+            sectors,
+        })
+    }
+
+    /// The bytes from a block of the partition on.
+    fn read(&self, block: usize, bytes: &mut [u8]) -> Done {
+        let place = (self.start + block) * SECTOR;
+        let read = self.file.read_exact_at(bytes, place as u64);
+        read.map_err(|error| match error.kind() {
+            ErrorKind::UnexpectedEof => io::Error::other("it became shorter meanwhile"),
+            _ => error,
+        })
+        .map_err(|error| Failure::unreadable(self.name, error))
+    }
+}
+
+/// The sectors of a disc file as a raw image. Other readers look for the table at
+/// an image's end, so it ends with the last recorded sector. Where that one stands
+/// after a blank one, which no recorder leaves (refusal 3), it is given all the
+/// same: nothing recorded is lost, and every sector keeps its block number.
+pub fn export(given: &Arguments, around: &mut Surroundings) -> Done {
+    let path = given.path(1);
+    let session = Session::open(given.path(0), Lent::New, around)?;
+    if session.place.has(path) {
+        return Err(given.wrong("IMAGE names the disc or its ledger".into()));
+    }
+    let (image, kinds) = session.disc.lent();
+    let last = kinds.iter().rposition(|kind| *kind != BLANK);
+    let sectors = last.map_or(0, |last| last + 1);
+    // The image's folder is not locked: its name is taken in one step, and two
+    // exports, each into the other's folder, would wait for each other.
+    make(path, (sectors * SECTOR) as u64, |part| {
+        copy(part, 0, sectors, |block, bytes| {
+            read_data(image, kinds, block, bytes);
+            Ok(())
+        })
+    })?;
+    let without = kinds[..sectors].iter().filter(|kind| **kind != DATA);
+    let zeros = match without.count() {
+        0 => String::new(),
+        without => format!(", {without} without data, as zeros"),
+    };
+    drop(session);
+    say(around, format!("{} exported{zeros}\n", counted(sectors)))
+}
+
+/// The bytes of the sectors from a block on. "Bytes of a sector whose kind is not
+/// 1 mean nothing": zeros stand for them.
+fn read_data(image: &[u8], kinds: &[u8], first: usize, bytes: &mut [u8]) {
+    for (block, sector) in (first..).zip(bytes.chunks_exact_mut(SECTOR)) {
+        match kinds[block] {
+            DATA => sector.copy_from_slice(&image[block * SECTOR..][..SECTOR]),
+            _ => sector.fill(0),
+        }
+    }
+}
+
+/// Copies so many sectors into a file, from a place on, piece by piece; `read` is
+/// given the block of a piece's first sector.
+fn copy(part: &Part, place: u64, sectors: usize, read: impl Fn(usize, &mut [u8]) -> Done) -> Done {
+    let mut piece = vec![0; PIECE * SECTOR];
+    for block in (0..sectors).step_by(PIECE) {
+        let bytes = &mut piece[..PIECE.min(sectors - block) * SECTOR];
+        read(block, bytes)?;
+        part.write_at(place + (block * SECTOR) as u64, bytes)?;
+    }
+    Ok(())
+}
