@@ -66,6 +66,8 @@ pub data Example : Type 0 where
   crc-of : List ℕ → ℕ → Example
   -- a bytes of attributes and n entries: the table length and the CRC length that stand in the sector
   lengths-of : ℕ → ℕ → ℕ → ℕ → Example
+  -- the sector of n entries: not a table sector
+  no-table : ℕ → Example
   -- n entries behind a bytes of attributes: all but the sums of a table sector, or not, and then no table sector whatever the sums
   framed-behind : ℕ → ℕ → Bool → Example
   -- calls on a disc, with the ledger lent to the first of them: their answers
@@ -74,6 +76,7 @@ pub data Example : Type 0 where
 unfoldable pub right : Example → Bool
 right (crc-of bytes value) = eqb (crcOf bytes) value
 right (lengths-of a n table crc) = let s : List ℕ = lay (block 0) (lengthRows a n) in eqb (readLe 4 s 172) table && eqb (crcLength s) crc
+right (no-table n) = not (isTable 1 (sector (replicate n unused) unused 0) 0)
 right (framed-behind a n true) = framed (behind a n 0) 0
 right (framed-behind a n false) = not (framed (behind a n 0) 0)
 right (calls-on d l cs expected) = same (answers d l cs) expected
@@ -88,7 +91,7 @@ starred =
     ∷ lengths-of 0 0 36 196
     ∷ lengths-of 0 458 1868 2028
     ∷ lengths-of 220 2 44 424
-    ∷ framed-behind 0 459 false
+    ∷ no-table 459
     ∷ framed-behind 1832 0 true
     ∷ framed-behind 1836 0 false
     ∷ framed-behind 1824 2 true
