@@ -19,12 +19,18 @@ CALLS = "crates/recorder/specs/Calls.antt"
 STATION = "crates/station/src/"
 CLIENT = "crates/client/src/"
 DISC_AND_LEDGER = ["image", "kinds", "ledger"]
+BUFFERS = ["block", "stamp", "answer"]
 SLICES = {"&[u8]": "const uint8_t", "&mut [u8]": "uint8_t"}
+
+# A call that has two forms: its constructor takes an option, and the one form lends a buffer where the other lends none.
+FORMS = {"commit": ("commit", []), "commitAt": ("commit", ["stamp"])}
 
 # Where the symbols of a contract are defined. The calls' names are added from the contracts themselves.
 HOMES = {
     "_≡_": "mathlib.Core.Path",
     "[]": "mathlib.Core.List",
+    "none": "mathlib.Core.Option",
+    "some": "mathlib.Core.Option",
     "lent": "Rattle.disc.specs.Disc",
     "left": "Rattle.recorder.specs.Effects",
     "after": "Rattle.recorder.specs.Effects",
@@ -79,10 +85,20 @@ class Exported:
         if not re.compile(r"\s*\{").match(text, at):
             fail(self.where, "something else than `requires {..}` and `ensures {..}` stands between its result and its body")
 
-    def call(self):
-        """Its call's constructor: station_close_packet is closePacket."""
+    def form(self):
+        """Its call, by its name: station_close_packet is closePacket."""
         first, *others = self.name.removeprefix("station_").split("_")
         return first + "".join(map(str.capitalize, others))
+
+    def call(self):
+        """Its call's constructor."""
+        return FORMS[self.form()][0] if self.form() in FORMS else self.form()
+
+    def takes(self):
+        """The types that its constructor takes."""
+        if self.form() in FORMS:
+            return ["Option (List ℕ)"]
+        return ["List ℕ" if kind in SLICES else "ℕ" for _, kind in self.parameters[3:]]
 
     def declared(self):
         """What the header must say of it: each slice is a pointer and then a length."""
@@ -103,9 +119,11 @@ class Exported:
 
         # In a contract a name with an underscore stands between these marks.
         own = [now(n, "entry") if k in SLICES else f"«{n}»" if "_" in n else n for n, k in self.parameters[3:]]
+        if self.form() in FORMS:
+            own = [f"(some {own[0]})" if own else "none"]
         call = f"({' '.join([self.call(), *own])})" if own else self.call()
-        block = at_end("block") if "block" in kinds else "[]"
-        left = " ".join(["left r", *map(at_end, DISC_AND_LEDGER), block])
+        buffers = [at_end(name) for name in BUFFERS if name in kinds]
+        left = " ".join(["left r", *map(at_end, DISC_AND_LEDGER), *(buffers or ["[]"])])
         disc = f"(lent {now('image', 'entry')} {now('kinds', 'entry')})"
         return f"λ r. ⌜ {left} ≡ after {disc} {now('ledger', 'entry')} {call} ⌝"
 
@@ -146,14 +164,15 @@ def check_signature(function, calls):
     if names[:3] != DISC_AND_LEDGER:
         fail(function.where, "its parameters do not begin with image, kinds, ledger")
     for name, kind in function.parameters:
-        slice_of_bytes = name in [*DISC_AND_LEDGER, "block"]
+        slice_of_bytes = name in [*DISC_AND_LEDGER, *BUFFERS]
         if kind not in (SLICES if slice_of_bytes else ["u32"]):
             fail(function.where, f"its parameter {name} is of type {kind}, not {' or '.join(SLICES) if slice_of_bytes else 'u32'}")
         if name in [*HOMES, *calls, "r", "now"]:
             fail(function.where, f"its parameter {name} hides a symbol of the contract")
-    own = ["List ℕ" if kind in SLICES else "ℕ" for _, kind in function.parameters[3:]]
-    if calls.get(function.call()) != [*own, "Call"]:
-        fail(function.where, f"{CALLS} has no constructor {function.call()} : {' → '.join([*own, 'Call'])}")
+    if calls.get(function.call()) != [*function.takes(), "Call"]:
+        fail(function.where, f"{CALLS} has no constructor {function.call()} : {' → '.join([*function.takes(), 'Call'])}")
+    if function.form() in FORMS and names[3:] != FORMS[function.form()][1]:
+        fail(function.where, f"its parameters behind the ledger are {names[3:]}, not {FORMS[function.form()][1]}")
     return len(failures) == before
 
 

@@ -47,6 +47,12 @@ SOURCES = {
     "a_client_asks_for_31_sectors": ("crates/client/src/lib.rt", "pub fn begin_and_mount(image: &[u8], kinds: &[u8], ledger: &mut [u8]) -> u64\n",
         "pub fn begin_and_mount(image: &[u8], kinds: &[u8], ledger: &mut [u8]) -> u64\n    requires { ⌜ length (now kinds) ≡ 31 ⌝ }\n",
         "crates/client/src/lib.rt: has a requires"),
+    "commit_at_is_the_other_form": (CODE, "(commit (some (now (stamp .entry))))", "(commit none)",
+        "lib.rt: station_commit_at: its ensures is not"),
+    "commit_is_some_form": (CODE, "(now (ledger .entry)) (commit none) ⌝", "(now (ledger .entry)) (commit (some [])) ⌝",
+        "lib.rt: station_commit: its ensures is not"),
+    "time_of_compares_the_answer_lent": (CODE, "(now (answer .exit))", "(now (answer .entry))",
+        "lib.rt: station_time_of: its ensures is not"),
     # a signature
     "release_number_of_64_bits": (CODE, RELEASE, RELEASE.replace("v: u32", "v: u64"),
         "lib.rt: station_release: its parameter v is of type u64, not u32"),
@@ -60,6 +66,11 @@ SOURCES = {
         "lib.rt: station_release: its parameter v is of type &[u8], not u32"),
     "release_takes_two_numbers": (CALLS, "  release : ℕ → Call\n", "  release : ℕ → ℕ → Call\n",
         "lib.rt: station_release: crates/recorder/specs/Calls.antt has no constructor release : ℕ → Call"),
+    "commit_at_lends_no_stamp": (CODE, "    stamp: &[u8],\n", "", "lib.rt: station_commit_at: its parameters behind the ledger are [], not ['stamp']"),
+    "commit_at_takes_a_number": (CODE, "    stamp: &[u8],\n", "    stamp: &[u8],\n    k: u32,\n",
+        "lib.rt: station_commit_at: its parameters behind the ledger are ['stamp', 'k'], not ['stamp']"),
+    "commit_always_takes_a_stamp": (CALLS, "  commit : Option (List ℕ) → Call", "  commit : List ℕ → Call",
+        "lib.rt: station_commit: crates/recorder/specs/Calls.antt has no constructor commit : Option (List ℕ) → Call"),
     # what is exported
     "exported_from_another_crate": ("crates/listing/src/lib.rt", "pub mod text;\n", "pub mod text;\n\n" + EXPORT.format("station_list"),
         "crates/listing/src/lib.rt: station_list: exported from another crate than station"),
@@ -101,7 +112,7 @@ SOURCES = {
     "now_from_another_module": (CODE, "ghost use Prim.Native.Nat.{_*_};", "ghost use Prim.Native.Nat.{_*_};\nghost use Rattle.recorder.specs.Weaker.{now};",
         "lib.rt: now from Rattle.recorder.specs.Weaker stands in for now from the logic"),
     "a_call_renamed": (CODE, "closePacket, commit, read", "closePacket, closePacket as commit, read",
-        "lib.rt: `ghost use Rattle.recorder.specs.Calls.{begin, mount, write, release, closePacket, closePacket as commit, read, lookBack}` is not of the form"),
+        "lib.rt: `ghost use Rattle.recorder.specs.Calls.{begin, mount, write, release, closePacket, closePacket as commit, read, lookBack, timeOf}` is not of the form"),
     "a_call_not_imported": (CODE, "closePacket, commit, read", "closePacket, read",
         "lib.rt: no ghost use brings commit from Rattle.recorder.specs.Calls"),
     "a_module_taken_whole": (CODE, "ghost use Prim.Native.Nat.{_*_};", "ghost use Prim.Native.Nat.{_*_};\nghost use Rattle.recorder.specs.Weaker;",
@@ -110,7 +121,7 @@ SOURCES = {
 
 # One more number: the same rule calls for it in the signature, in the call, in the contract and in the header, in the same order.
 ANOTHER_NUMBER = [
-    (CODE, "k: u32", "k: u32, from_block: u32"),
+    (CODE, "k: u32) ->", "k: u32, from_block: u32) ->"),
     (CODE, "(lookBack k)", "(lookBack k «from_block»)"),
     (CALLS, "  lookBack : ℕ → Call\n", "  lookBack : ℕ → ℕ → Call\n"),
     (HEADER, "uint32_t k)", "uint32_t k, uint32_t from_block)"),

@@ -1,23 +1,24 @@
 #!/usr/bin/env python3
-"""What the program `vectors` must print, worked out from documents 01 and 02 with Python's own CRC-16 (polynomial 1021, start 0).
+"""What the program `vectors` must print, worked out from documents 01 and 02 with Python's own CRC-16 (polynomial 1021, start 0) and calendar.
 
     python3 tests/vectors.py > crates/vectors/stdout
 """
 from binascii import crc_hqx
+from datetime import datetime, timedelta
 from struct import pack
 
 UNUSED = 0xFFFFFFFF
 
 
-def table_sector(entries, previous, block, attributes=b""):
-    """The 2048 bytes that commit records (document 01, 'The table sector at block b'), or the same with attributes before the table."""
+def table_sector(entries, previous, block, attributes=b"", stamp=bytes(12)):
+    """The 2048 bytes that commit records (document 01, 'The table sector at block b', and document 02, R-3), or the same with attributes before the table."""
     table = b"".join(pack("<I", e) for e in entries)
     table += b"\0" + b"*UDF Virtual Alloc Tbl\0" + bytes([0x50, 0x01]) + bytes(6) + pack("<I", previous)
     icb_tag = pack("<IHHHBB6xH", 0, 4, 0, 1, 0, 0, 3)
     head = icb_tag
     head += pack("<IIIHBBI", UNUSED, UNUSED, 0, 0, 0, 0, 0)
     head += pack("<QQ", len(table), 0)
-    head += bytes(36)
+    head += 3 * stamp
     head += pack("<I", 1)
     head += bytes(16)
     head += b"\0" + b"*Bench Station".ljust(31, b"\0")
@@ -36,6 +37,19 @@ def show_rows(sector):
 
 def show_map(entries, previous):
     print("count", len(entries), *("%08x" % e for e in entries), "previous", "%08x" % previous)
+
+
+def timestamp(when, zone=None):
+    """ECMA-167 1/7.3: type 1, the zone in minutes or none, and a local time."""
+    micros = when.microsecond
+    fields = (when.month, when.day, when.hour, when.minute, when.second, micros // 10000, micros // 100 % 100, micros % 100)
+    return pack("<HH8B", 1 << 12 | (-2047 if zone is None else zone) & 0xFFF, when.year, *fields)
+
+
+def show_time(when, zone=None):
+    """Minutes from 1 January 1970 UTC as 32 bits, seconds dropped first, then 1 if the zone is not given."""
+    minutes = (when - timedelta(minutes=zone or 0)).replace(second=0, microsecond=0) - datetime(1970, 1, 1)
+    print("stamp:", "%08x" % (minutes // timedelta(minutes=1) % 2**32), "%08x" % (zone is None))
 
 
 def main():
@@ -66,6 +80,22 @@ def main():
     show_map(small, 123456)
     print("kind 1 at 300000: none")
     print("kind 1 at 300000: none")
+
+    noted = datetime(2026, 11, 15, 14, 5, 9, 123456)
+    show_rows(table_sector(small, 123456, 300000, stamp=timestamp(noted, 60)))
+    print("kind 1 at 300000: table")
+    print("kind 1 at 300001: none")
+    print("kind 2 at 300000: none")
+    print("kind 1 at 300000: none")
+    show_map(small, 123456)
+    show_time(noted, 60)
+
+    show_time(datetime(1970, 1, 1, 0, 30), 60)
+    show_time(datetime(1970, 1, 1, 0, 30))
+    show_time(datetime(2099, 12, 31, 23, 59, 59), 1440)
+    show_time(datetime(2099, 12, 31, 23, 59, 59), -1440)
+    show_time(datetime(2000, 2, 29, 12, 0), 0)
+    print("stamp: wrong")
 
 
 main()

@@ -19,6 +19,17 @@
  *           from size on, and a missing last table are hex FFFFFFFF. Mode is
  *           0 (no packet open), 1 (packet open) or 2 (looking only).
  *   block   2048 bytes.
+ *   stamp   12 bytes, a timestamp of ECMA-167 1/7.3, little-endian: 16 bits with
+ *           the type in the high 4 and the zone in the low 12; the year (16
+ *           bits); month, day, hour, minute, second, centiseconds, hundreds of
+ *           microseconds and microseconds (8 bits each). Its limits: type 1;
+ *           year 1970 to 2099; a real date; hours at most 23, minutes and
+ *           seconds 59, the three fractions 99; the zone, a signed number of
+ *           minutes that the clock is ahead of UTC, -1440 to 1440, or -2047 for
+ *           not given.
+ *   answer  8 bytes, little-endian: whole minutes from 1 January 1970 UTC, a
+ *           signed number of 32 bits, and then 1 if the zone was not given, or
+ *           else 0 (32 bits).
  *
  * Each call answers an outcome (0 done, else a refusal) and a second number, as
  * one number: outcome * 4294967296 + second number. A refusal's second number
@@ -26,8 +37,8 @@
  * the order in which it tests for them, and the first that applies is given.
  * What a call may not change is lent as const.
  *
- * In mode 0 with recorded above 0, write and commit first record seven link
- * sectors; of a link sector only its kind changes, to 2.
+ * In mode 0 with recorded above 0, write and both forms of commit first record
+ * seven link sectors; of a link sector only its kind changes, to 2.
  *
  * What the buffers hold at the end of a call is proved. The order of a call's
  * stores is not: the compiler merges and reorders them, and a program that stops
@@ -51,6 +62,8 @@ extern "C" {
 
 #define STATION_SECTOR 2048         /* bytes of a sector, and of a block */
 #define STATION_LEDGER 1848         /* bytes of the ledger */
+#define STATION_STAMP 12            /* bytes of a timestamp */
+#define STATION_TIME 8              /* bytes of the answer to time of */
 #define STATION_MOST_SECTORS 360000 /* the most sectors of a disc */
 #define STATION_LIMIT 458           /* the most virtual numbers */
 #define STATION_UNUSED 0xFFFFFFFFu  /* an unused entry, a missing last table */
@@ -61,7 +74,8 @@ enum station_outcome {
     /* no sectors, more than 360,000, or image length is not 2048 x kinds
        length */
     STATION_DISC_SIZE = 1,
-    /* a lent block is not 2048 bytes, or a lent ledger is not 1,848 */
+    /* a lent block is not 2048 bytes, a lent ledger not 1,848, a lent stamp not
+       12, or a lent answer not 8 */
     STATION_LENT_LENGTH = 2,
     /* a kind above 3, or a recorded sector after a blank one */
     STATION_DISC_UNSOUND = 3,
@@ -71,15 +85,15 @@ enum station_outcome {
        mode above 2; mode 1 where the last recorded sector is missing or not
        kind 1 */
     STATION_LEDGER_UNFIT = 4,
-    /* write, release, close packet or commit with mode 2 */
+    /* write, release, close packet or either form of commit with mode 2 */
     STATION_READ_ONLY = 5,
     /* begin, and a table sector exists */
     STATION_VAT_EXISTS = 6,
-    /* mount or look back, and none exists */
+    /* mount, look back or asking for a time, and no table sector exists */
     STATION_NO_VAT = 7,
-    /* a step of look back names a sector that is not a table sector */
+    /* a step back names a sector that is not a table sector */
     STATION_CHAIN_BROKEN = 8,
-    /* look back meets FFFFFFFF before k steps */
+    /* going back meets FFFFFFFF before k steps */
     STATION_CHAIN_ENDED = 9,
     /* read or release of v not below size, or of an unused entry */
     STATION_NOT_IN_USE = 10,
@@ -89,10 +103,13 @@ enum station_outcome {
     STATION_ABOVE_SIZE = 12,
     /* write of v at or above 458 */
     STATION_ABOVE_LIMIT = 13,
-    /* no room: write needs links + 1 + 8 blank sectors, commit links + 1 */
+    /* no room: write needs links + 1 + 8 blank sectors, either form of commit
+       links + 1 */
     STATION_NO_ROOM = 14,
     /* the lent block would be a table sector at the block it is about to take */
-    STATION_WOULD_BE_VAT = 15
+    STATION_WOULD_BE_VAT = 15,
+    /* a timestamp given or found breaks the limits */
+    STATION_BAD_TIMESTAMP = 16
 };
 
 /* The outcome of an answer: 0 done, else a refusal. */
@@ -158,6 +175,16 @@ uint64_t station_commit(uint8_t *image, size_t image_length, uint8_t *kinds,
                         size_t ledger_length);
 
 /*
+ * Commit at: a commit whose table sector has the lent stamp as access,
+ * modification and attribute time; the plain commit records zeros there. Second
+ * number: the block recorded. Refusals 1, 2, 3, 4, 5, 16, 14.
+ */
+uint64_t station_commit_at(uint8_t *image, size_t image_length, uint8_t *kinds,
+                           size_t kinds_length, uint8_t *ledger,
+                           size_t ledger_length, const uint8_t *stamp,
+                           size_t stamp_length);
+
+/*
  * Read v: copies the 2048 bytes to the lent block; allowed with mode 2. Second
  * number 0. Refusals 1, 2, 3, 4, 10, 11.
  */
@@ -176,6 +203,18 @@ uint64_t station_read(const uint8_t *image, size_t image_length,
 uint64_t station_look_back(const uint8_t *image, size_t image_length,
                            const uint8_t *kinds, size_t kinds_length,
                            uint8_t *ledger, size_t ledger_length, uint32_t k);
+
+/*
+ * Time of k: goes back as look back k does and tells the modification time of
+ * the table there, in the lent answer; seconds are dropped first, and a zone not
+ * given counts as 0. Second number 0. Refusals 1, 2, 3, 7, then 8 or 9 at the
+ * first failing step, then 16 if that time breaks the limits, as the zeros of a
+ * plain commit do. The ledger's length is tested, and its content is not read.
+ */
+uint64_t station_time_of(const uint8_t *image, size_t image_length,
+                         const uint8_t *kinds, size_t kinds_length,
+                         const uint8_t *ledger, size_t ledger_length,
+                         uint32_t k, uint8_t *answer, size_t answer_length);
 
 #ifdef __cplusplus
 }

@@ -60,6 +60,16 @@ mod archive {
             ledger: *mut u8,
             ledger_length: usize,
         ) -> u64;
+        pub fn station_commit_at(
+            image: *mut u8,
+            image_length: usize,
+            kinds: *mut u8,
+            kinds_length: usize,
+            ledger: *mut u8,
+            ledger_length: usize,
+            stamp: *const u8,
+            stamp_length: usize,
+        ) -> u64;
         pub fn station_read(
             image: *const u8,
             image_length: usize,
@@ -79,6 +89,17 @@ mod archive {
             ledger: *mut u8,
             ledger_length: usize,
             k: u32,
+        ) -> u64;
+        pub fn station_time_of(
+            image: *const u8,
+            image_length: usize,
+            kinds: *const u8,
+            kinds_length: usize,
+            ledger: *const u8,
+            ledger_length: usize,
+            k: u32,
+            answer: *mut u8,
+            answer_length: usize,
         ) -> u64;
     }
 }
@@ -180,6 +201,24 @@ pub fn commit(image: &mut [u8], kinds: &mut [u8], ledger: &mut [u8]) -> u64 {
     }
 }
 
+/// `station_commit_at`: the answer of [`crate::commit_at`] as one number; the
+/// second is the block recorded.
+pub fn commit_at(image: &mut [u8], kinds: &mut [u8], ledger: &mut [u8], stamp: &[u8]) -> u64 {
+    // SAFETY: each pointer and length is one live slice, and no two overlap.
+    unsafe {
+        archive::station_commit_at(
+            image.as_mut_ptr(),
+            image.len(),
+            kinds.as_mut_ptr(),
+            kinds.len(),
+            ledger.as_mut_ptr(),
+            ledger.len(),
+            stamp.as_ptr(),
+            stamp.len(),
+        )
+    }
+}
+
 /// `station_read`: the answer of [`crate::read`] as one number.
 pub fn read(image: &[u8], kinds: &[u8], ledger: &[u8], v: u32, block: &mut [u8]) -> u64 {
     // SAFETY: each pointer and length is one live slice.
@@ -211,6 +250,27 @@ pub fn look_back(image: &[u8], kinds: &[u8], ledger: &mut [u8], k: u32) -> u64 {
             ledger.as_mut_ptr(),
             ledger.len(),
             k,
+        )
+    }
+}
+
+/// `station_time_of`: the answer of [`crate::time_of`] as one number, whose
+/// second is 0, and in the lent bytes, of which there are to be
+/// [`TIME`](crate::TIME): the minutes, then 1 if the zone was not given or else
+/// 0, 32 bits each.
+pub fn time_of(image: &[u8], kinds: &[u8], ledger: &[u8], k: u32, answer: &mut [u8]) -> u64 {
+    // SAFETY: each pointer and length is one live slice.
+    unsafe {
+        archive::station_time_of(
+            image.as_ptr(),
+            image.len(),
+            kinds.as_ptr(),
+            kinds.len(),
+            ledger.as_ptr(),
+            ledger.len(),
+            k,
+            answer.as_mut_ptr(),
+            answer.len(),
         )
     }
 }

@@ -15,12 +15,12 @@
 //! A [`Refusal`] alters no lent byte. Any lengths and contents may be lent: the
 //! core tests them itself. It allocates nothing.
 //!
-//! In mode 0 with recorded above 0, write and commit first record seven link
-//! sectors; of a link sector only its kind changes. A power cut loses what is
-//! not committed, and [`mount`] then finds the last finished save.
+//! In mode 0 with recorded above 0, write and both forms of commit first record
+//! seven link sectors; of a link sector only its kind changes. A power cut loses
+//! what is not committed, and [`mount`] then finds the last finished save.
 //!
 //! ```
-//! use station::{Refusal, LEDGER, SECTOR};
+//! use station::{Refusal, SaveTime, Timestamp, LEDGER, SECTOR};
 //!
 //! let sectors = 40;
 //! let mut image = vec![0; sectors * SECTOR];
@@ -44,6 +44,18 @@
 //!
 //! let missing = station::read(&image, &kinds, &ledger, 1, &mut shown);
 //! assert_eq!(missing, Err(Refusal::NotInUse));
+//!
+//! // A save that tells when it was made: half past midnight on 1 January 1970, by
+//! // a clock one hour ahead of UTC.
+//! let midnight = Timestamp::midnight(1970, 1, 1);
+//! let stamp = Timestamp { minute: 30, zone: Some(60), ..midnight };
+//! station::commit_at(&mut image, &mut kinds, &mut ledger, &stamp.to_bytes())?;
+//! let told = station::time_of(&image, &kinds, &ledger, 0)?;
+//! assert_eq!(told, SaveTime { minutes: -30, zone_given: true });
+//!
+//! // The save before was made without a timestamp.
+//! let untold = station::time_of(&image, &kinds, &ledger, 1);
+//! assert_eq!(untold, Err(Refusal::BadTimestamp));
 //! # Ok::<(), Refusal>(())
 //! ```
 //!
@@ -65,15 +77,19 @@
 mod ffi;
 mod recorded;
 mod refusal;
+mod timestamp;
 
 pub use recorded::{recorded, recorded_since, Sector};
 pub use refusal::Refusal;
+pub use timestamp::{SaveTime, Timestamp};
 
-/// The eight calls with the two numbers as the core answers them: outcome ×
+/// The ten calls with the two numbers as the core answers them: outcome ×
 /// 4,294,967,296 + second number. Outcome 0 is done, else it is the number of a
 /// [`Refusal`], and the second number is 0.
 pub mod raw {
-    pub use crate::ffi::{begin, close_packet, commit, look_back, mount, read, release, write};
+    pub use crate::ffi::{
+        begin, close_packet, commit, commit_at, look_back, mount, read, release, time_of, write,
+    };
 }
 
 /// Bytes of a sector, and of a lent block.
@@ -81,6 +97,12 @@ pub const SECTOR: usize = 2048;
 
 /// Bytes of the ledger.
 pub const LEDGER: usize = 1848;
+
+/// Bytes of a timestamp.
+pub const STAMP: usize = 12;
+
+/// Bytes of the answer that [`raw::time_of`] is lent.
+pub const TIME: usize = 8;
 
 /// The most sectors that a disc has.
 pub const MOST_SECTORS: usize = 360_000;
@@ -162,6 +184,22 @@ pub fn commit(image: &mut [u8], kinds: &mut [u8], ledger: &mut [u8]) -> Result<u
     second(raw::commit(image, kinds, ledger))
 }
 
+/// Commit at: a commit whose table sector has the lent timestamp as access,
+/// modification and attribute time; [`commit`] records zeros there.
+/// [`Timestamp::to_bytes`] makes one. The answer is the block recorded.
+///
+/// # Errors
+///
+/// 1, 2, 3, 4, 5, 16 and 14.
+pub fn commit_at(
+    image: &mut [u8],
+    kinds: &mut [u8],
+    ledger: &mut [u8],
+    stamp: &[u8],
+) -> Result<u32, Refusal> {
+    second(raw::commit_at(image, kinds, ledger, stamp))
+}
+
 /// Read v: copies the 2048 bytes to the lent block; allowed with mode 2.
 ///
 /// # Errors
@@ -187,6 +225,20 @@ pub fn read(
 /// tested, and its content is not read.
 pub fn look_back(image: &[u8], kinds: &[u8], ledger: &mut [u8], k: u32) -> Result<u32, Refusal> {
     second(raw::look_back(image, kinds, ledger, k))
+}
+
+/// Time of k: goes back as [`look_back`] k does and tells the modification time
+/// of the table there.
+///
+/// # Errors
+///
+/// 1, 2, 3, 7, then 8 or 9 at the first failing step, then 16 if that time breaks
+/// the limits, as the zeros of a plain [`commit`] do. The ledger's length is
+/// tested, and its content is not read.
+pub fn time_of(image: &[u8], kinds: &[u8], ledger: &[u8], k: u32) -> Result<SaveTime, Refusal> {
+    let mut answer = [0; TIME];
+    done(raw::time_of(image, kinds, ledger, k, &mut answer))?;
+    Ok(SaveTime::told_in(answer))
 }
 
 /// The second number of a call that is done, else the refusal.

@@ -3,8 +3,8 @@
 use std::error::Error;
 use std::fmt;
 
-/// A refusal, with document 01's number. It "alters no lent byte". Each call
-/// names its refusals in the order in which it tests for them, and the first
+/// A refusal, with its number in the documents. It "alters no lent byte". Each
+/// call names its refusals in the order in which it tests for them, and the first
 /// that applies is given.
 #[repr(u32)]
 #[derive(Clone, Copy, Debug, PartialEq, Eq, Hash, PartialOrd, Ord)]
@@ -12,8 +12,8 @@ pub enum Refusal {
     /// 1, the host program: no sectors, more than 360,000, or image length is
     /// not 2048 × kinds length.
     DiscSize = 1,
-    /// 2, the host program: a lent block is not 2048 bytes, or a lent ledger is
-    /// not 1,848.
+    /// 2, the host program: a lent block is not 2048 bytes, a lent ledger not
+    /// 1,848, a lent timestamp not 12, or a lent answer not 8.
     LentLength = 2,
     /// 3, the disc: a kind above 3, or a recorded sector after a blank one.
     DiscUnsound = 3,
@@ -23,16 +23,17 @@ pub enum Refusal {
     /// neither FFFFFFFF nor a table sector; mode is above 2; or mode is 1 where
     /// the last recorded sector is missing or not kind 1.
     LedgerUnfit = 4,
-    /// 5, the operator: write, release, close packet or commit with mode 2.
+    /// 5, the operator: write, release, close packet or either form of commit
+    /// with mode 2.
     ReadOnly = 5,
     /// 6, the disc: begin, and a table sector exists.
     VatExists = 6,
-    /// 7, the disc: mount or look back, and no table sector exists.
+    /// 7, the disc: mount, look back or asking for a time, and no table sector
+    /// exists.
     NoVat = 7,
-    /// 8, the disc: a step of look back names a sector that is not a table
-    /// sector.
+    /// 8, the disc: a step back names a sector that is not a table sector.
     ChainBroken = 8,
-    /// 9, the operator: look back meets FFFFFFFF before k steps.
+    /// 9, the operator: going back meets FFFFFFFF before k steps.
     ChainEnded = 9,
     /// 10, the operator: read or release of v not below size, or of an unused
     /// entry.
@@ -44,15 +45,18 @@ pub enum Refusal {
     /// 13, the operator: write of v at or above 458.
     AboveLimit = 13,
     /// 14, the recording: no room. Write needs links + 1 + 8 blank sectors,
-    /// commit links + 1.
+    /// either form of commit links + 1.
     NoRoom = 14,
     /// 15, the recording: the lent block would be a table sector at the block
     /// it is about to take.
     WouldBeVat = 15,
+    /// 16, the operator on a commit, the disc when asking: a timestamp given or
+    /// found breaks the limits that [`Timestamp`](crate::Timestamp) names.
+    BadTimestamp = 16,
 }
 
 /// Each refusal at the place of its number less one.
-const ALL: [Refusal; 15] = [
+const ALL: [Refusal; 16] = [
     Refusal::DiscSize,
     Refusal::LentLength,
     Refusal::DiscUnsound,
@@ -68,10 +72,11 @@ const ALL: [Refusal; 15] = [
     Refusal::AboveLimit,
     Refusal::NoRoom,
     Refusal::WouldBeVat,
+    Refusal::BadTimestamp,
 ];
 
 impl Refusal {
-    /// Document 01's number, 1 to 15.
+    /// Its number in documents 01 and 02, 1 to 16.
     pub const fn number(self) -> u32 {
         self as u32
     }
@@ -81,24 +86,29 @@ impl Refusal {
         let place = (outcome as usize).wrapping_sub(1);
         match ALL.get(place) {
             Some(refusal) => *refusal,
-            None => panic!("the core answered outcome {outcome}, which document 01 does not have"),
+            None => panic!("the core answered outcome {outcome}, which the documents do not have"),
         }
     }
 
-    /// The condition in document 01's words.
+    /// The condition in the documents' words.
     fn condition(self) -> &'static str {
         match self {
             Refusal::DiscSize => {
                 "no sectors, more than 360,000, or image length is not 2048 × kinds length"
             }
-            Refusal::LentLength => "a lent block is not 2048 bytes, or a lent ledger is not 1,848",
+            Refusal::LentLength => {
+                "a lent block is not 2048 bytes, a lent ledger not 1,848, \
+                 a lent timestamp not 12, or a lent answer not 8"
+            }
             Refusal::DiscUnsound => "a kind above 3, or a recorded sector after a blank one",
             Refusal::LedgerUnfit => "the ledger does not fit",
-            Refusal::ReadOnly => "write, release, close packet or commit with mode 2",
+            Refusal::ReadOnly => {
+                "write, release, close packet or either form of commit with mode 2"
+            }
             Refusal::VatExists => "begin, and a table sector exists",
-            Refusal::NoVat => "mount or look back, and no table sector exists",
-            Refusal::ChainBroken => "a step of look back names a sector that is not a table sector",
-            Refusal::ChainEnded => "look back meets FFFFFFFF before k steps",
+            Refusal::NoVat => "mount, look back or asking for a time, and no table sector exists",
+            Refusal::ChainBroken => "a step back names a sector that is not a table sector",
+            Refusal::ChainEnded => "going back meets FFFFFFFF before k steps",
             Refusal::NotInUse => "read or release of v not below size, or of an unused entry",
             Refusal::Unreadable => "read, and the entry's sector is not kind 1",
             Refusal::AboveSize => "write of v above size",
@@ -107,6 +117,7 @@ impl Refusal {
             Refusal::WouldBeVat => {
                 "the lent block would be a table sector at the block it is about to take"
             }
+            Refusal::BadTimestamp => "a timestamp given or found breaks the limits",
         }
     }
 }
@@ -125,7 +136,7 @@ mod tests {
 
     #[test]
     fn each_number_is_its_own_refusal() {
-        for number in 1..=15 {
+        for number in 1..=16 {
             let refusal = Refusal::of(number);
             assert_eq!(refusal.number(), number);
             assert!(refusal
@@ -135,8 +146,8 @@ mod tests {
     }
 
     #[test]
-    #[should_panic(expected = "outcome 16")]
-    fn no_refusal_beyond_15() {
-        Refusal::of(16);
+    #[should_panic(expected = "outcome 17")]
+    fn no_refusal_beyond_16() {
+        Refusal::of(17);
     }
 }

@@ -11,19 +11,28 @@ use station::Refusal;
 use station_model::calls::Call;
 use station_model::table::SECTOR;
 
-/// The typed call; what it gives as a number, as document 01 has it.
-fn typed(core: &mut Core, call: Call, block: &mut [u8]) -> Result<u32, Refusal> {
+/// The typed call; what it gives as a number, as document 01 has it, and a time
+/// as the 8 bytes of document 02.
+fn typed(core: &mut Core, call: Call, buffer: &mut [u8]) -> Result<u32, Refusal> {
     let (image, kinds) = (&mut core.image, &mut core.kinds);
     let ledger = &mut core.ledger;
     match call {
         Call::Begin => station::begin(image, kinds, ledger).map(|()| 0),
         Call::Mount => station::mount(image, kinds, ledger).map(u32::from),
-        Call::Write(v) => station::write(image, kinds, ledger, v, block),
+        Call::Write(v) => station::write(image, kinds, ledger, v, buffer),
         Call::Release(v) => station::release(image, kinds, ledger, v).map(|()| 0),
         Call::ClosePacket => station::close_packet(image, kinds, ledger).map(|()| 0),
         Call::Commit => station::commit(image, kinds, ledger),
-        Call::Read(v) => station::read(image, kinds, ledger, v, block).map(|()| 0),
+        Call::CommitAt => station::commit_at(image, kinds, ledger, buffer),
+        Call::Read(v) => station::read(image, kinds, ledger, v, buffer).map(|()| 0),
         Call::LookBack(k) => station::look_back(image, kinds, ledger, k),
+        Call::TimeOf(k) => {
+            let told = station::time_of(image, kinds, ledger, k)?;
+            let marked = u32::from(!told.zone_given);
+            let answer = [told.minutes.to_le_bytes(), marked.to_le_bytes()];
+            buffer.copy_from_slice(&answer.concat());
+            Ok(0)
+        }
     }
 }
 
@@ -57,21 +66,21 @@ fn any_station(random: &mut Random) -> Station {
 
 #[test]
 fn typed_answers_are_the_raw_ones() {
-    let mut met = [false; 16];
+    let mut met = [false; 17];
     let all = cases(40_000);
     let whole = all.len() > 1;
     for case in all {
         let mut random = Random::of_case(case);
         let station = any_station(&mut random);
         let recorded = station.kinds.iter().filter(|kind| **kind != 0).count();
-        let block = forge::block(&mut random, &station.image, recorded as u32);
         let call = forge::call(&mut random, forge::size_in(&station.ledger), 2);
+        let buffer = forge::buffer(&mut random, call, &station.image, recorded as u32);
         let (mut one, mut two) = (Core::holding(&station, 0), Core::holding(&station, 0));
-        let (mut one_block, mut two_block) = (block.clone(), block);
-        let raw = one.perform(call, &mut one_block);
-        let answer = typed(&mut two, call, &mut two_block);
+        let (mut one_buffer, mut two_buffer) = (buffer.clone(), buffer);
+        let raw = one.perform(call, &mut one_buffer);
+        let answer = typed(&mut two, call, &mut two_buffer);
         assert_eq!(packed(answer), raw, "case {case}, {call:?}");
-        assert!(one.same_bytes(&two) && one_block == two_block);
+        assert!(one.same_bytes(&two) && one_buffer == two_buffer);
         met[(raw >> 32) as usize] = true;
     }
     assert!(!whole || met.iter().all(|met| *met), "{met:?}");
@@ -91,6 +100,6 @@ fn refusals_as_errors() {
     let refused = station::mount(&[0; SECTOR], &[0], &mut ledger).expect_err("a blank disc");
     assert_eq!(
         refused.to_string(),
-        "refusal 7: mount or look back, and no table sector exists"
+        "refusal 7: mount, look back or asking for a time, and no table sector exists"
     );
 }

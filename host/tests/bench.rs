@@ -4,15 +4,18 @@
 
 mod common;
 
-use common::built::BLOCK;
+use common::built::{fourth, BLOCK};
 use common::forge::vat_behind;
 use common::pair::tell_compared;
+use common::stamps::{Told, HALF_PAST};
 use common::station::{done, refused, Station};
 use station_model::answer::Answer;
 use station_model::calls::Call;
 use station_model::disc::{DATA, LINK};
 use station_model::fields::{u16_at, u32_at};
-use station_model::table::{crc, recognise, seal, table_length, vat_sector, LIMIT, NONE, SECTOR};
+use station_model::table::{
+    crc, recognise, seal, stamped_vat_sector, table_length, vat_sector, LIMIT, NONE, SECTOR,
+};
 
 /// Begin, one write, and close packet.
 fn written_and_closed(sectors: usize) -> Station {
@@ -196,6 +199,21 @@ fn write_above_size_and_limit() {
     tell_compared("write_above_size_and_limit");
 }
 
+/// "00:30 on that day with zone 60 is -30. Zone -2047 counts as 0 and is marked"
+/// (document 02).
+#[test]
+fn minutes_before_1970() {
+    let mut station = of_size(30, 1);
+    assert_eq!(station.commit_at(&HALF_PAST), done(1));
+    assert_eq!(station.time_of(0), Ok((-30, 0)));
+    let mut marked = HALF_PAST;
+    marked[..2].copy_from_slice(&[0x01, 0x18]);
+    assert_eq!(station.commit_at(&marked), done(2));
+    assert_eq!(station.time_of(0), Ok((30, 1)));
+    assert_eq!(station.time_of(1), Ok((-30, 0)));
+    tell_compared("minutes_before_1970");
+}
+
 /// A disc of 30 whose block 0 is data and block 1 a table sector; the next
 /// write takes block 2.
 fn with_table_at_1() -> Station {
@@ -237,21 +255,35 @@ fn table_sector_behind_attributes() {
     tell_compared("table_sector_behind_attributes");
 }
 
+/// The map that mount shows after the call was cut, and the time of that save.
+fn shown_after_cut(
+    saved: &Station,
+    call: Call,
+    j: usize,
+    torn: Option<&[u8; SECTOR]>,
+) -> (Vec<u32>, Told) {
+    let mut station = saved.clone();
+    station.cut(call, &HALF_PAST, j, torn);
+    assert_eq!(station.call(Call::Mount).outcome, 0);
+    (station.volume().entries().to_vec(), station.time_of(0))
+}
+
 /// "Commit after close packet, cut after j of 8 sectors: 0 to 7 show the old
-/// save, 8 the new."
+/// save, 8 the new"; and so with a timestamp, whose time is then told.
 #[test]
 fn commit_cut_after_each_sector() {
     let mut saved = with_table_at_1();
     assert_eq!(saved.write(1, &BLOCK), done(2));
     assert_eq!(saved.call(Call::ClosePacket), done(0));
-    let table = vat_sector(10, &[0, 2], 1);
-    for torn in [None, Some(&table)] {
-        for j in 0..=8 {
-            let mut station = saved.clone();
-            station.cut(Call::Commit, &[], j, torn);
-            let kept = if j == 8 { [0, 2].as_slice() } else { &[0] };
-            assert_eq!(station.call(Call::Mount).outcome, 0);
-            assert_eq!(station.volume().entries(), kept);
+    let table = stamped_vat_sector(10, &[0, 2], 1, &HALF_PAST);
+    for (call, time) in [(Call::Commit, Err(16)), (Call::CommitAt, Ok((-30, 0)))] {
+        for torn in [None, Some(&table)] {
+            for j in 0..8 {
+                let shown = shown_after_cut(&saved, call, j, torn);
+                assert_eq!(shown, (vec![0], Err(16)));
+            }
+            let shown = shown_after_cut(&saved, call, 8, torn);
+            assert_eq!(shown, (vec![0, 2], time));
         }
     }
     tell_compared("commit_cut_after_each_sector");
@@ -261,10 +293,11 @@ fn commit_cut_after_each_sector() {
 #[test]
 fn cut_before_the_first_table() {
     let written = of_size(30, 2);
-    for (call, j) in [(Call::Write(2), 1), (Call::Commit, 0)] {
+    for (call, j) in [(Call::Write(2), 1), (Call::Commit, 0), (Call::CommitAt, 0)] {
         for torn in [None, Some(&vat_sector(2, &[0, 1], NONE))] {
             let mut station = written.clone();
-            station.cut(call, &BLOCK, j, torn);
+            station.cut(call, fourth(call), j, torn);
+            assert_eq!(station.time_of(0), Err(7));
             assert_eq!(station.call(Call::Mount), refused(7));
             assert_eq!(station.call(Call::Begin), done(0));
         }

@@ -7,6 +7,7 @@ use common::built::{every_call, saved, BLOCK};
 use common::forge::{self, vat_behind};
 use common::pair::{tell_compared, Pair};
 use common::random::{cases, Random};
+use common::stamps::{put_modified, ANSWER, HALF_PAST};
 use common::station::{done, refused, Station};
 use station_model::calls::Call;
 use station_model::disc::{BLANK, DATA, LINK, UNREADABLE};
@@ -14,13 +15,17 @@ use station_model::ledger::Volume;
 use station_model::table::{LIMIT, NONE, SECTOR};
 
 /// A table sector in each block, naming the one before, every other one behind
-/// attributes, and a ledger for the recorded ones.
+/// attributes, every third one without a timestamp, and a ledger for the recorded
+/// ones.
 fn all_tables(kinds: &[u8]) -> Station {
     let mut station = Station::blank(kinds.len());
     for (block, kind) in (0..).zip(kinds) {
         let previous = u32::checked_sub(block, 1).unwrap_or(NONE);
         let attributes = vec![0xA7; 8 * (block as usize % 2)];
-        let table = vat_behind(&attributes, block, &[previous], previous);
+        let mut table = vat_behind(&attributes, block, &[previous], previous);
+        if block % 3 != 2 {
+            put_modified(&mut table, block, &HALF_PAST);
+        }
         station.put_sector(block, *kind, &table);
     }
     let volume = Volume::begun(&station.disc());
@@ -101,7 +106,7 @@ fn with_four_entries() -> Station {
         assert_eq!(station.write(v, &BLOCK), done(v + 1));
     }
     assert_eq!(station.call(Call::Release(2)), done(0));
-    assert_eq!(station.call(Call::Commit), done(5));
+    assert_eq!(station.commit_at(&HALF_PAST), done(5));
     station
 }
 
@@ -166,7 +171,7 @@ fn each_entry_of_a_ledger() {
 }
 
 /// Discs of 1 to 26 sectors, recorded up to each place: "Write needs links + 1
-/// + 8 blank sectors, commit links + 1".
+/// + 8 blank sectors, commit links + 1", in either form.
 #[test]
 fn each_amount_of_room() {
     for sectors in 1..=26 {
@@ -195,12 +200,15 @@ fn disc_of_one_sector() {
     let mut station = Station::begun(1);
     every_call(&station);
     assert_eq!(station.write(0, &BLOCK), refused(14));
-    assert_eq!(station.call(Call::Commit), done(0));
+    assert_eq!(station.commit_at(&HALF_PAST), done(0));
     assert_eq!(station.call(Call::Mount), done(1));
     assert_eq!(station.call(Call::LookBack(0)), done(0));
     assert_eq!(station.call(Call::LookBack(1)), refused(9));
+    assert_eq!(station.time_of(0), Ok((-30, 0)));
+    assert_eq!(station.time_of(1), Err(9));
     assert_eq!(station.call(Call::Mount), done(1));
     assert_eq!(station.call(Call::Commit), refused(14));
+    assert_eq!(station.commit_at(&HALF_PAST), refused(14));
     every_call(&station);
     tell_compared("disc_of_one_sector");
 }
@@ -322,6 +330,7 @@ fn chains() {
         let mut pair = Pair::of_case(&station, case);
         for k in (0..18).chain([1 << 31, NONE - 1, NONE]) {
             pair.call(Call::LookBack(k), &[]);
+            pair.call(Call::TimeOf(k), &ANSWER);
         }
         pair.call(Call::Mount, &[]);
         pair.call(Call::Commit, &[]);
@@ -339,11 +348,12 @@ fn map_filled_to_the_limit() {
     assert_eq!(pair.call(Call::Begin, &[]), done(0));
     for v in 0..LIMIT as u32 {
         assert!(pair.call(Call::Write(v), &random.bytes(SECTOR)).is_done());
-        match random.below(12) {
+        match random.below(13) {
             0 => pair.call(Call::Commit, &[]),
-            1 => pair.call(Call::ClosePacket, &[]),
-            2 => pair.call(Call::Release(random.below(v as usize + 1) as u32), &[]),
-            3 => {
+            1 => pair.call(Call::CommitAt, &HALF_PAST),
+            2 => pair.call(Call::ClosePacket, &[]),
+            3 => pair.call(Call::Release(random.below(v as usize + 1) as u32), &[]),
+            4 => {
                 let again = random.below(v as usize + 1) as u32;
                 pair.call(Call::Write(again), &random.bytes(SECTOR))
             }
@@ -351,8 +361,9 @@ fn map_filled_to_the_limit() {
         };
     }
     assert_eq!(pair.call(Call::Write(458), &BLOCK), refused(13));
-    assert!(pair.call(Call::Commit, &[]).is_done());
+    assert!(pair.call(Call::CommitAt, &HALF_PAST).is_done());
     assert_eq!(pair.call(Call::Mount, &[]), done(1));
+    assert_eq!(pair.call(Call::TimeOf(0), &ANSWER), done(0));
     for v in 0..=LIMIT as u32 {
         pair.call(Call::Read(v), &BLOCK);
     }

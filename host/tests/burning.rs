@@ -4,16 +4,16 @@
 
 mod common;
 
+use common::built::{fourth, BLOCK};
 use common::core::Core;
 use common::forge;
 use common::random::{cases, Random};
+use common::stamps::HALF_PAST;
 use common::station::{done, Station};
 use station::{recorded, recorded_since, Sector};
 use station_model::calls::Call;
 use station_model::disc::{BLANK, DATA, LINK, UNREADABLE};
 use station_model::table::SECTOR;
-
-const BLOCK: [u8; SECTOR] = [0x5A; SECTOR];
 
 /// The sectors of the station from so many recorded on.
 fn since(station: &Station, before: usize) -> Vec<Sector<'_>> {
@@ -48,12 +48,14 @@ fn calls_that_record_nothing() {
         Call::Mount,
         Call::LookBack(0),
         Call::Commit,
+        Call::CommitAt,
+        Call::TimeOf(0),
         Call::Mount,
         Call::Release(0),
         Call::ClosePacket,
         Call::Begin,
     ] {
-        station.call(call);
+        station.call_lent(call, &mut fourth(call).to_vec());
         assert_eq!(since(&station, 2), [], "{call:?}");
     }
 }
@@ -75,6 +77,8 @@ fn a_write_and_a_commit_behind_links() {
         since(&station, 0),
         [&ends[..1], &links, &ends[1..]].concat()
     );
+    assert_eq!(station.commit_at(&HALF_PAST), done(10));
+    assert_eq!(since(&station, 10), [data(&station, 10)]);
 }
 
 /// Lengths that do not match, a count beyond what is recorded, a full disc, and
@@ -141,7 +145,9 @@ fn what_is_burned_is_what_was_recorded() {
         working.call(Call::Begin);
         for _ in 0..40 {
             let call = forge::call(&mut random, forge::size_in(&working.ledger), 3);
-            working.call_lent(call, &mut random.bytes(SECTOR));
+            let recorded = recorded(&working.kinds) as u32;
+            let mut buffer = forge::buffer(&mut random, call, &working.image, recorded);
+            working.call_lent(call, &mut buffer);
             match burn(&mut medium, &working) {
                 0 => {}
                 1 => alone += 1,

@@ -20,22 +20,28 @@ use station_model::book::{Ending, Fed, History, Snapshot};
 use station_model::calls::Call;
 use station_model::disc::DATA;
 use station_model::table::SECTOR;
+use station_model::time::STAMP;
 
 /// Events of lists to compare, without the cuts tried beside them.
 const EVENTS: usize = 25_000;
 
-/// A call about to be made, with its block buffer; the host lends some calls
-/// too little, or a block of another length.
+/// A call about to be made, with the block, timestamp or answer that it is lent;
+/// the host lends some calls too little, or such a buffer of another length.
 struct Attempt {
     call: Call,
-    block: Vec<u8>,
+    buffer: Vec<u8>,
     short: Short,
 }
 
 impl Attempt {
-    /// "a write's lent block"
+    /// "a write's lent block", or a commit's timestamp.
     fn written(&self) -> Option<&[u8]> {
-        matches!(self.call, Call::Write(_)).then_some(&self.block)
+        matches!(self.call, Call::Write(_) | Call::CommitAt).then_some(&self.buffer)
+    }
+
+    /// Both forms of commit record a table sector, as their last.
+    fn records_vat(&self) -> bool {
+        matches!(self.call, Call::Commit | Call::CommitAt)
     }
 
     /// "until a begin, mount or look back is done, only these three [...] follow"
@@ -46,13 +52,13 @@ impl Attempt {
     /// Makes the whole call on a copy.
     fn made_on(&self, core: &Core) -> Made {
         let mut after = core.clone();
-        let mut block = self.block.clone();
-        let answer = after.call_short(self.call, &mut block, self.short);
+        let mut buffer = self.buffer.clone();
+        let answer = after.call_short(self.call, &mut buffer, self.short);
         let sectors = after.disc().recorded() - core.disc().recorded();
         Made {
             answer,
             after,
-            block,
+            buffer,
             sectors: sectors as usize,
         }
     }
@@ -62,7 +68,7 @@ impl Attempt {
 struct Made {
     answer: Answer,
     after: Core,
-    block: Vec<u8>,
+    buffer: Vec<u8>,
     /// How many sectors it recorded.
     sectors: usize,
 }
@@ -82,10 +88,8 @@ impl List {
     fn start(disc: &Station, random: &mut Random) -> List {
         let mut core = Core::holding(disc, random.below(16));
         random.fill(&mut core.ledger);
-        let found = core.disc().newest_vat();
-        let page = found.map(|found| Snapshot::found(&core.disc(), &found.vat));
-        let (call, history) = match page {
-            Some(page) => (Call::Mount, History::mounted(page)),
+        let (call, history) = match core.disc().newest_vat() {
+            Some(found) => (Call::Mount, History::mounted(&core.disc(), &found.vat)),
             None => (Call::Begin, History::begun()),
         };
         let answer = core.call(call);
@@ -109,7 +113,8 @@ impl List {
         }
         let attempt = self.attempt(random);
         let made = attempt.made_on(&self.core);
-        if self.lost && made.answer.is_done() && !attempt.restores() {
+        let may_follow_a_cut = attempt.restores() || attempt.call.only_tells();
+        if self.lost && made.answer.is_done() && !may_follow_a_cut {
             tally.skipped += 1;
             return Ok(());
         }
@@ -131,15 +136,19 @@ impl List {
     fn attempt(&self, random: &mut Random) -> Attempt {
         let call = self.call(random);
         let recorded = self.core.disc().recorded();
-        let mut block = forge::block(random, &self.core.image, recorded);
+        let mut buffer = forge::buffer(random, call, &self.core.image, recorded);
         let mut short = Short::default();
-        match random.below(40) {
-            0 => short.image = 1,
-            1 => short.ledger = 1,
-            2 if call.is_lent_block() => block.resize(random.below(2 * SECTOR), 0),
+        match (random.below(40), call.lent_length()) {
+            (0, _) => short.image = 1,
+            (1, _) => short.ledger = 1,
+            (2, Some(right)) => buffer.resize(random.below(2 * right), 0),
             _ => {}
         }
-        Attempt { call, block, short }
+        Attempt {
+            call,
+            buffer,
+            short,
+        }
     }
 
     fn call(&self, random: &mut Random) -> Call {
@@ -149,14 +158,16 @@ impl List {
         let page = self.history.draft.as_ref().or(self.history.page_back(0));
         let size = page.map_or(0, |page| page.size() as usize);
         let pages = self.history.pages.len();
-        match random.below(32) {
+        match random.below(34) {
             0 => Call::Begin,
             1 => Call::Mount,
             2..=12 => Call::Write(number(random, size)),
             13..=16 => Call::Release(number(random, size)),
             17..=18 => Call::ClosePacket,
-            19..=27 => Call::Commit,
+            19..=22 => Call::Commit,
+            23..=27 => Call::CommitAt,
             28..=29 => Call::Read(number(random, size)),
+            30..=31 => Call::TimeOf(number(random, pages)),
             _ => Call::LookBack(number(random, pages)),
         }
     }
@@ -171,15 +182,18 @@ impl List {
     }
 
     /// Takes the call as made and feeds the book; a refusal "alters no lent
-    /// byte".
+    /// byte", and a call that only tells none but its answer.
     fn take(&mut self, attempt: &Attempt, made: Made) -> Result<(), String> {
         let answer = made.answer;
         self.note(attempt, format!("{answer:?}"));
-        if answer.is_done() {
+        if answer.is_done() && !attempt.call.only_tells() {
             self.check_done(attempt, &made.after)?;
             self.lost &= !attempt.restores();
-        } else if !self.core.same_bytes(&made.after) || made.block != attempt.block {
-            return Err("a refusal altered lent bytes".into());
+        } else if !self.core.same_bytes(&made.after) {
+            return Err("a refusal, or a call that only tells, altered lent bytes".into());
+        }
+        if !answer.is_done() && made.buffer != attempt.buffer {
+            return Err("a refusal altered the fourth buffer".into());
         }
         self.core = made.after;
         self.feed(attempt, Ending::Answered(answer));
@@ -192,10 +206,8 @@ impl List {
         if after.volume().recorded != after.disc().recorded() {
             return Err("the ledger's recorded is not the disc's".into());
         }
-        let on_draft = matches!(
-            attempt.call,
-            Call::Write(_) | Call::Release(_) | Call::Commit
-        );
+        let changes_draft = matches!(attempt.call, Call::Write(_) | Call::Release(_));
+        let on_draft = changes_draft || attempt.records_vat();
         if on_draft && self.history.draft.is_none() {
             return Err("done, and the book has no draft".into());
         }
@@ -209,7 +221,7 @@ impl List {
         let cut = format!("cut after {j} of {}, {told}", made.sectors);
         self.note(attempt, cut);
         self.core.cut(&made.after, j, torn.as_ref());
-        let vat_kept = attempt.call == Call::Commit && made.sectors > 0 && j == made.sectors;
+        let vat_kept = attempt.records_vat() && made.sectors > 0 && j == made.sectors;
         self.feed(attempt, Ending::Cut { vat_kept });
         self.lost = true;
     }
@@ -246,14 +258,14 @@ impl List {
     fn note(&mut self, attempt: &Attempt, ending: String) {
         let Attempt { call, short, .. } = attempt;
         let lost = if self.lost { ", ledger lost" } else { "" };
-        let block = match attempt.written() {
-            Some(block) => {
-                let start = &block[..block.len().min(4)];
-                format!(", block of {} bytes {start:02X?}..", block.len())
+        let written = match attempt.written() {
+            Some(bytes) => {
+                let start = &bytes[..bytes.len().min(STAMP)];
+                format!(", {} bytes {start:02X?}..", bytes.len())
             }
             None => String::new(),
         };
-        let event = format!("{call:?} (not lent: {short:?}{lost}{block}): {ending}");
+        let event = format!("{call:?} (not lent: {short:?}{lost}{written}): {ending}");
         self.events.push(event);
     }
 }

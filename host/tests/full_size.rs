@@ -2,22 +2,24 @@
 //!
 //! There is one image of 737 MB. Before each call the model says what the call
 //! is to do; then the core makes it, on a thread with a stack of 256 KiB that
-//! does nothing else; then the answer, ledger, kinds, block and the sectors
-//! recorded are compared, and the whole image at the end of each part.
+//! does nothing else; then the answer, ledger, kinds, the fourth buffer and the
+//! sectors recorded are compared, and the whole image at the end of each part.
 
 mod common;
 
 use std::thread;
 
+use common::built::fourth;
 use common::core::{unpacked, Core, Short};
 use common::forge::vat_behind;
 use common::guarded::Guarded;
+use common::stamps::HALF_PAST;
 use common::station::{done, refused};
 use station_model::answer::{Answer, Refusal};
 use station_model::calls::{effect, Call, Effect, Lent};
 use station_model::disc::{Sector, DATA, LINK, MOST_SECTORS, UNREADABLE};
 use station_model::ledger::{Volume, LEDGER};
-use station_model::table::{vat_sector, NONE, SECTOR};
+use station_model::table::{stamped_vat_sector, vat_sector, NONE, SECTOR};
 
 /// "every call runs on a 256 KiB stack"
 const STACK: usize = 256 * 1024;
@@ -33,7 +35,8 @@ const ONE_SECTOR: Short = Short {
 
 struct FullSize {
     core: Core,
-    block: Guarded,
+    /// The block, timestamp or answer that the next call is lent.
+    buffer: Guarded,
     compared: usize,
 }
 
@@ -46,7 +49,7 @@ impl FullSize {
         };
         FullSize {
             core,
-            block: Guarded::holding(&[0x5A; SECTOR], 0),
+            buffer: Guarded::holding(&[], 0),
             compared: 0,
         }
     }
@@ -71,16 +74,16 @@ impl FullSize {
             image: &self.core.image[..self.core.image.len() - short.image],
             kinds: &self.core.kinds[..self.core.kinds.len() - short.kinds],
             ledger: &self.core.ledger,
-            block: &self.block,
+            buffer: &self.buffer,
         };
         effect(&lent, call)
     }
 
     fn on_a_small_stack(&mut self, call: Call, short: Short) -> Answer {
-        let (core, block) = (&mut self.core, &mut self.block);
+        let (core, buffer) = (&mut self.core, &mut self.buffer);
         let answer = thread::scope(|scope| {
             let small = thread::Builder::new().stack_size(STACK);
-            let made = small.spawn_scoped(scope, || core.perform_short(call, block, short));
+            let made = small.spawn_scoped(scope, || core.perform_short(call, buffer, short));
             made.expect("a thread").join().expect("an answer")
         });
         unpacked(answer)
@@ -91,24 +94,26 @@ impl FullSize {
     }
 
     fn call_short(&mut self, call: Call, short: Short) -> Answer {
+        self.buffer = Guarded::holding(fourth(call), 0);
         let expected = self.expected(call, short);
         let mut kinds = self.core.kinds.to_vec();
         let mut ledger = self.core.ledger.to_vec();
-        let mut block = self.block.to_vec();
+        let mut buffer = self.buffer.to_vec();
         let answer = self.on_a_small_stack(call, short);
         match &expected {
             Err(refusal) => assert_eq!(answer, Answer::refused(*refusal), "{call:?}"),
             Ok(effect) => {
                 assert_eq!(answer, Answer::done(effect.second), "{call:?}");
-                ledger = effect.volume.to_bytes().to_vec();
-                block = effect.shown.as_ref().map_or(block, |shown| shown.to_vec());
+                let after = effect.volume.as_ref();
+                ledger = after.map_or(ledger, |volume| volume.to_bytes().to_vec());
+                buffer = effect.shown.clone().unwrap_or(buffer);
                 self.compare_sectors(&mut kinds, &effect.sectors);
             }
         }
         assert!(self.core.kinds[..] == kinds, "kinds after {call:?}");
         assert!(self.core.ledger[..] == ledger, "ledger after {call:?}");
-        assert!(self.block[..] == block, "block after {call:?}");
-        assert_eq!(self.core.struck(&self.block), None, "{call:?}");
+        assert!(self.buffer[..] == buffer, "buffer after {call:?}");
+        assert_eq!(self.core.struck(&self.buffer), None, "{call:?}");
         self.compared += 1;
         answer
     }
@@ -144,7 +149,7 @@ fn one_sector_too_many(disc: &mut FullSize) {
     }
 }
 
-fn every_call() -> [Call; 8] {
+fn every_call() -> [Call; 10] {
     [
         Call::Begin,
         Call::Mount,
@@ -152,8 +157,10 @@ fn every_call() -> [Call; 8] {
         Call::Release(0),
         Call::ClosePacket,
         Call::Commit,
+        Call::CommitAt,
         Call::Read(0),
         Call::LookBack(0),
+        Call::TimeOf(0),
     ]
 }
 
@@ -165,6 +172,7 @@ fn recorded_at_the_start(disc: &mut FullSize) {
     assert_eq!(disc.call(Call::Mount), done(1));
     assert_eq!(disc.call(Call::LookBack(0)), done(1));
     assert_eq!(disc.call(Call::LookBack(1)), refused(9));
+    assert_eq!(disc.call(Call::TimeOf(0)), refused(16));
     assert_eq!(disc.call(Call::Read(0)), done(0));
     assert_eq!(disc.call(Call::Begin), refused(6));
 }
@@ -180,11 +188,14 @@ fn recorded_at_the_end(disc: &mut FullSize) {
     assert_eq!(disc.call(Call::Write(2)), refused(14));
     assert_eq!(disc.call(Call::Release(0)), done(0));
     assert_eq!(disc.call(Call::Read(1)), done(0));
-    assert_eq!(disc.call(Call::Commit), done(SECTORS - 8));
+    assert_eq!(disc.call(Call::CommitAt), done(SECTORS - 8));
     assert_eq!(disc.call(Call::ClosePacket), done(0));
     assert_eq!(disc.call(Call::Commit), refused(14));
+    assert_eq!(disc.call(Call::CommitAt), refused(14));
     assert_eq!(disc.call(Call::Mount), done(1));
     assert_eq!(disc.call(Call::LookBack(1)), done(1));
+    assert_eq!(disc.call(Call::TimeOf(0)), done(0));
+    assert_eq!(disc.call(Call::TimeOf(1)), refused(16));
 }
 
 /// A kind above 3 in the last sector, and a gap before it.
@@ -198,7 +209,8 @@ fn broken_at_the_end(disc: &mut FullSize) {
     disc.kinds()[MOST_SECTORS - 1] = 0;
 }
 
-/// 360,000 tables, each naming the one before, every tenth behind attributes.
+/// 360,000 tables, each naming the one before, every tenth behind attributes and
+/// every tenth, the oldest among them, with a timestamp.
 fn chain(disc: &mut FullSize) {
     for block in 0..SECTORS {
         disc.put_sector(block, &link_of_the_chain(block));
@@ -208,10 +220,15 @@ fn chain(disc: &mut FullSize) {
     assert_eq!(disc.call(Call::LookBack(SECTORS - 1)), done(0));
     assert_eq!(disc.call(Call::LookBack(SECTORS)), refused(9));
     assert_eq!(disc.call(Call::LookBack(NONE)), refused(9));
+    assert_eq!(disc.call(Call::TimeOf(0)), refused(16));
+    assert_eq!(disc.call(Call::TimeOf(SECTORS - 1)), done(0));
+    assert_eq!(disc.call(Call::TimeOf(SECTORS)), refused(9));
+    assert_eq!(disc.call(Call::TimeOf(NONE)), refused(9));
     assert_eq!(disc.call(Call::Begin), refused(6));
     assert_eq!(disc.call(Call::Mount), done(1));
     assert_eq!(disc.call(Call::Write(0)), refused(14));
     assert_eq!(disc.call(Call::Commit), refused(14));
+    assert_eq!(disc.call(Call::CommitAt), refused(14));
     assert_eq!(disc.call(Call::Release(0)), refused(10));
     assert_eq!(disc.call(Call::Read(0)), refused(10));
     assert_eq!(disc.call(Call::ClosePacket), done(0));
@@ -219,10 +236,10 @@ fn chain(disc: &mut FullSize) {
 
 fn link_of_the_chain(block: u32) -> [u8; SECTOR] {
     let previous = block.checked_sub(1).unwrap_or(NONE);
-    if block % 10 == 9 {
-        vat_behind(&[0xA7; 220], block, &[], previous)
-    } else {
-        vat_sector(block, &[], previous)
+    match block % 10 {
+        0 => stamped_vat_sector(block, &[], previous, &HALF_PAST),
+        9 => vat_behind(&[0xA7; 220], block, &[], previous),
+        _ => vat_sector(block, &[], previous),
     }
 }
 
@@ -232,6 +249,8 @@ fn broken_chain(disc: &mut FullSize) {
     assert_eq!(disc.call(Call::LookBack(SECTORS - 2)), done(1));
     assert_eq!(disc.call(Call::LookBack(SECTORS - 1)), refused(8));
     assert_eq!(disc.call(Call::LookBack(NONE)), refused(8));
+    assert_eq!(disc.call(Call::TimeOf(SECTORS - 11)), done(0));
+    assert_eq!(disc.call(Call::TimeOf(SECTORS - 1)), refused(8));
 }
 
 /// One table in block 0 and data behind it: the search goes through the disc.
@@ -239,8 +258,10 @@ fn table_in_the_first_sector(disc: &mut FullSize) {
     disc.kinds().fill(UNREADABLE);
     disc.kinds()[0] = DATA;
     assert_eq!(disc.call(Call::Mount), done(0));
+    assert_eq!(disc.call(Call::TimeOf(0)), done(0));
     disc.kinds()[0] = LINK;
     assert_eq!(disc.call(Call::Mount), refused(7));
+    assert_eq!(disc.call(Call::TimeOf(0)), refused(7));
     assert_eq!(disc.call(Call::Begin), done(0));
     disc.lend_ledger(|volume| volume.mode = 1);
     assert_eq!(disc.call(Call::Commit), refused(4));
@@ -257,7 +278,7 @@ fn a_disc_of_360_000_sectors() {
         0 => [0x5A; SECTOR],
         1 => vat_sector(1, &[0], NONE),
         _ if block == SECTORS - 9 => [0x5A; SECTOR],
-        _ if block == SECTORS - 8 => vat_sector(block, &[NONE, SECTORS - 9], 1),
+        _ if block == SECTORS - 8 => stamped_vat_sector(block, &[NONE, SECTORS - 9], 1, &HALF_PAST),
         _ => [0; SECTOR],
     });
     chain(&mut disc);

@@ -9,7 +9,7 @@ use station::Refusal;
 /// The folder of the archive that this package links.
 const ARCHIVE: &str = env!("STATION_ARCHIVE_FOLDER");
 
-const REFUSALS: [Refusal; 15] = [
+const REFUSALS: [Refusal; 16] = [
     Refusal::DiscSize,
     Refusal::LentLength,
     Refusal::DiscUnsound,
@@ -25,6 +25,7 @@ const REFUSALS: [Refusal; 15] = [
     Refusal::AboveLimit,
     Refusal::NoRoom,
     Refusal::WouldBeVat,
+    Refusal::BadTimestamp,
 ];
 
 fn package() -> &'static Path {
@@ -63,7 +64,10 @@ fn a_c_program_records_and_mounts() {
     compile.arg(Path::new(ARCHIVE).join("libstation.a"));
     run(compile.arg("-o").arg(&program));
     let said = run(&mut Command::new(program));
-    assert_eq!(said, "recorded, mounted, read and looked back\n");
+    assert_eq!(
+        said,
+        "recorded, mounted, read, looked back and told the times\n"
+    );
 }
 
 /// The header twice in one file, in C and in C++.
@@ -86,6 +90,8 @@ fn the_header_has_the_crates_numbers() {
     let constants = [
         ("SECTOR", station::SECTOR.to_string()),
         ("LEDGER", station::LEDGER.to_string()),
+        ("STAMP", station::STAMP.to_string()),
+        ("TIME", station::TIME.to_string()),
         ("MOST_SECTORS", station::MOST_SECTORS.to_string()),
         ("LIMIT", station::LIMIT.to_string()),
         ("UNUSED", format!("0x{:X}u", station::UNUSED)),

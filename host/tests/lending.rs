@@ -1,11 +1,12 @@
-//! Every wrong length of image, kinds, ledger and block, alone and together, on
-//! the core and on the model, compared.
+//! Every wrong length of image, kinds, ledger and the fourth buffer (a block, a
+//! timestamp or an answer), alone and together, on the core and on the model,
+//! compared.
 
 mod common;
 
-use common::built::{saved, BLOCK};
+use common::built::{fourth, saved, saved_at};
 use common::pair::{tell_compared, Pair};
-use common::station::Station;
+use common::station::{refused, Station};
 use station_model::calls::Call;
 use station_model::ledger::LEDGER;
 use station_model::table::SECTOR;
@@ -21,18 +22,20 @@ fn resized(bytes: &[u8], length: usize) -> Vec<u8> {
     resized
 }
 
-const CALLS: [Call; 8] = [
+const CALLS: [Call; 10] = [
     Call::Begin,
     Call::Mount,
     Call::Write(0),
     Call::Release(0),
     Call::ClosePacket,
     Call::Commit,
+    Call::CommitAt,
     Call::Read(0),
     Call::LookBack(0),
+    Call::TimeOf(0),
 ];
 
-/// All eight calls with the station's buffers at each length; a kind that no
+/// All ten calls with the station's buffers at each length; a kind that no
 /// disc has, or a spoiled ledger, shows that the refusal tested first is given.
 fn at_each_length(station: &Station) {
     for image in lengths(station.image.len()) {
@@ -43,24 +46,25 @@ fn at_each_length(station: &Station) {
                     kinds: resized(&station.kinds, kinds),
                     ledger: resized(&station.ledger, ledger),
                 };
-                with_each_block(&lent);
+                with_each_buffer(&lent);
             }
         }
     }
 }
 
-fn with_each_block(lent: &Station) {
+fn with_each_buffer(lent: &Station) {
     for call in CALLS {
-        for block in lengths(SECTOR) {
-            let mut pair = Pair::shifted(lent, block);
-            pair.call(call, &resized(&BLOCK, block));
+        let right = fourth(call);
+        for length in lengths(right.len()) {
+            let mut pair = Pair::shifted(lent, length);
+            pair.call(call, &resized(right, length));
         }
     }
 }
 
 #[test]
 fn lengths_of_a_good_station() {
-    at_each_length(&saved(19));
+    at_each_length(&saved_at(19));
     tell_compared("lengths_of_a_good_station");
 }
 
@@ -81,21 +85,41 @@ fn lengths_beside_later_refusals() {
     tell_compared("lengths_beside_later_refusals");
 }
 
-/// Every length of the ledger and of a block up to beyond the right one.
+/// Every length of the ledger and of the fourth buffer up to beyond the right one.
 #[test]
-fn every_length_of_ledger_and_block() {
-    let station = saved(19);
+fn every_length_of_ledger_and_buffer() {
+    let station = saved_at(19);
     for length in 0..=2050 {
         let mut pair = Pair::holding(&station);
-        for call in [Call::Write(1), Call::Read(0)] {
-            pair.call(call, &resized(&BLOCK, length));
+        for call in CALLS
+            .into_iter()
+            .filter(|call| call.lent_length().is_some())
+        {
+            pair.call(call, &resized(fourth(call), length));
         }
         pair.lend_ledger(&resized(&station.ledger, length));
         for call in CALLS {
-            pair.call(call, &BLOCK);
+            pair.call(call, fourth(call));
         }
     }
-    tell_compared("every_length_of_ledger_and_block");
+    tell_compared("every_length_of_ledger_and_buffer");
+}
+
+/// Lengths of a timestamp and an answer of which only the low bits are right: 2.
+#[test]
+fn lengths_with_a_high_bit() {
+    let station = saved_at(19);
+    let mut pair = Pair::holding(&station);
+    for call in [Call::CommitAt, Call::TimeOf(0)] {
+        let right = fourth(call);
+        for bit in 4..25 {
+            let long = resized(right, right.len() + (1 << bit));
+            assert_eq!(pair.call(call, &long), refused(2), "{call:?}, bit {bit}");
+        }
+        assert!(pair.call(call, right).is_done());
+        pair.take_back(&station);
+    }
+    tell_compared("lengths_with_a_high_bit");
 }
 
 /// Image lengths about every multiple of a sector.

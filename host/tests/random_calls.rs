@@ -32,17 +32,13 @@ fn small_disc(random: &mut Random) -> Station {
     station
 }
 
-/// A call with the block that it needs.
+/// A call with the buffer that it needs.
 fn one_call(pair: &mut Pair, random: &mut Random) {
     let station = pair.station();
     let call = forge::call(random, forge::size_in(&station.ledger), 3);
     let recorded = station.kinds.iter().take_while(|kind| **kind != 0).count();
-    let block = match call {
-        Call::Write(_) => forge::block(random, &station.image, recorded as u32),
-        Call::Read(_) => vec![random.next() as u8; SECTOR],
-        _ => Vec::new(),
-    };
-    pair.call(call, &block);
+    let buffer = forge::buffer(random, call, &station.image, recorded as u32);
+    pair.call(call, &buffer);
 }
 
 /// Begin or mount, whichever is done on this disc.
@@ -140,16 +136,16 @@ fn any_lengths(case: usize) -> Outcomes {
         .to_bytes()
         .to_vec();
     let call = forge::call(&mut random, forge::size_in(&station.ledger), 2);
-    let mut block = random.bytes(SECTOR);
+    let mut buffer = random.bytes(call.lent_length().unwrap_or(SECTOR));
     match random.below(5) {
         0 => station.image = other_length(&mut random, &station.image),
         1 => station.kinds = other_length(&mut random, &station.kinds),
         2 => station.ledger = other_length(&mut random, &station.ledger),
-        3 => block = other_length(&mut random, &block),
+        3 => buffer = other_length(&mut random, &buffer),
         _ => random.fill(&mut station.kinds),
     }
     let mut pair = Pair::of_case(&station, case);
-    pair.call(call, &block);
+    pair.call(call, &buffer);
     pair.outcomes
 }
 
@@ -181,7 +177,7 @@ fn lists_of_calls() {
     run(
         20_000,
         list,
-        &[0, 3, 4, 5, 6, 7, 8, 9, 10, 11, 12, 13, 14, 15],
+        &[0, 3, 4, 5, 6, 7, 8, 9, 10, 11, 12, 13, 14, 15, 16],
     );
 }
 
@@ -190,7 +186,7 @@ fn calls_with_any_ledgers() {
     run(
         20_000,
         any_ledgers,
-        &[0, 4, 5, 6, 7, 8, 9, 10, 11, 12, 13, 14, 15],
+        &[0, 4, 5, 6, 7, 8, 9, 10, 11, 12, 13, 14, 15, 16],
     );
 }
 

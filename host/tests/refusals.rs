@@ -5,45 +5,54 @@
 
 mod common;
 
-use common::built::{saved, BLOCK};
+use common::built::{saved, saved_at, BLOCK};
 use common::pair::tell_compared;
 use common::random::{seed, Random};
+use common::stamps::{ANSWER, HALF_PAST};
 use common::station::{done, refused, Station};
 use station_model::calls::Call;
 use station_model::disc::{BLANK, DATA, LINK, UNREADABLE};
 use station_model::ledger::{Volume, LEDGER};
 use station_model::table::{vat_sector, LIMIT, NONE, SECTOR};
+use station_model::time::NO_STAMP;
 
 /// Makes the call on a copy and checks that a refusal alters nothing.
-fn outcome(station: &Station, call: Call, block: &[u8]) -> u32 {
+fn outcome(station: &Station, call: Call, buffer: &[u8]) -> u32 {
     let mut copy = station.clone();
-    let mut lent = block.to_vec();
+    let mut lent = buffer.to_vec();
     let answer = copy.call_lent(call, &mut lent);
     if !answer.is_done() {
         assert_eq!(answer.second, 0);
-        assert!(copy == *station && lent == block, "{call:?} altered bytes");
+        assert!(copy == *station && lent == buffer, "{call:?} altered bytes");
     }
     answer.outcome
 }
 
 /// Adds the conditions of 5, 4, 3, 2 and 1, those that the call has, to the
 /// ones there are; each is tested earlier, so its number is given.
-fn earlier_refusals_win(mut station: Station, call: Call, block: &[u8]) {
-    let reads_ledger = !matches!(call, Call::Begin | Call::Mount | Call::LookBack(_));
+fn earlier_refusals_win(mut station: Station, call: Call, buffer: &[u8]) {
+    let reads_ledger = !matches!(
+        call,
+        Call::Begin | Call::Mount | Call::LookBack(_) | Call::TimeOf(_)
+    );
     if reads_ledger && !matches!(call, Call::Read(_)) {
         station.change(|volume| volume.mode = 2);
-        assert_eq!(outcome(&station, call, block), 5, "{call:?}");
+        assert_eq!(outcome(&station, call, buffer), 5, "{call:?}");
     }
     if reads_ledger {
         station.change(|volume| volume.size = 459);
-        assert_eq!(outcome(&station, call, block), 4, "{call:?}");
+        assert_eq!(outcome(&station, call, buffer), 4, "{call:?}");
     }
     station.kinds[0] = 4;
-    assert_eq!(outcome(&station, call, block), 3, "{call:?}");
+    assert_eq!(outcome(&station, call, buffer), 3, "{call:?}");
+    if call.lent_length().is_some() {
+        let longer = [buffer, &[0]].concat();
+        assert_eq!(outcome(&station, call, &longer), 2, "{call:?}");
+    }
     station.ledger.pop();
-    assert_eq!(outcome(&station, call, block), 2, "{call:?}");
+    assert_eq!(outcome(&station, call, buffer), 2, "{call:?}");
     station.image.pop();
-    assert_eq!(outcome(&station, call, block), 1, "{call:?}");
+    assert_eq!(outcome(&station, call, buffer), 1, "{call:?}");
 }
 
 #[test]
@@ -122,6 +131,23 @@ fn commit_and_close_packet() {
     tell_compared("commit_and_close_packet");
 }
 
+/// 16 "is tested after 5 on a commit" (document 02), and so before 14; a
+/// timestamp that keeps the limits gives 14 where the plain commit does.
+#[test]
+fn commit_at() {
+    let mut station = saved(30);
+    station.kinds[2..29].fill(DATA);
+    station.change(|volume| volume.recorded = 29);
+    assert_eq!(outcome(&station, Call::CommitAt, &HALF_PAST), 0);
+    assert_eq!(outcome(&station, Call::CommitAt, &NO_STAMP), 16);
+    assert_eq!(station.call(Call::ClosePacket), done(0));
+    assert_eq!(outcome(&station, Call::CommitAt, &HALF_PAST), 14);
+    assert_eq!(outcome(&station, Call::CommitAt, &NO_STAMP), 16);
+    earlier_refusals_win(station.clone(), Call::CommitAt, &HALF_PAST);
+    earlier_refusals_win(station, Call::CommitAt, &NO_STAMP);
+    tell_compared("commit_at");
+}
+
 #[test]
 fn begin_and_mount() {
     let mut station = saved(30);
@@ -158,6 +184,35 @@ fn look_back() {
     assert_eq!(outcome(&station, Call::LookBack(0), &[]), 7);
     earlier_refusals_win(station, Call::LookBack(0), &[]);
     tell_compared("look_back");
+}
+
+/// 16 is tested "after 9 when asking" (document 02), of the one table that k
+/// names; so 7, 8 and 9 come before it.
+#[test]
+fn time_of() {
+    let asked = |station: &Station, k| outcome(station, Call::TimeOf(k), &ANSWER);
+    let mut station = saved_at(30);
+    assert_eq!(station.call(Call::Commit), done(2));
+    assert_eq!(station.commit_at(&HALF_PAST), done(3));
+    assert_eq!(station.call(Call::Commit), done(4));
+    assert_eq!(
+        [0, 1, 2, 3, 4].map(|k| asked(&station, k)),
+        [16, 0, 16, 0, 9]
+    );
+    assert_eq!(asked(&station, NONE), 9);
+    earlier_refusals_win(station.clone(), Call::TimeOf(0), &ANSWER);
+    station.kinds[2] = UNREADABLE;
+    assert_eq!(
+        [0, 1, 2, 3, 4].map(|k| asked(&station, k)),
+        [16, 0, 8, 8, 8]
+    );
+    assert_eq!(asked(&station, NONE), 8);
+    earlier_refusals_win(station.clone(), Call::TimeOf(2), &ANSWER);
+    station.kinds[..5].fill(LINK);
+    assert_eq!(asked(&station, 0), 7);
+    assert_eq!(asked(&station, NONE), 7);
+    earlier_refusals_win(station, Call::TimeOf(0), &ANSWER);
+    tell_compared("time_of");
 }
 
 /// Refusal 4, clause by clause; each state next to it fits.

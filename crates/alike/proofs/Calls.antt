@@ -1,5 +1,5 @@
 -- Document 01: "Bytes of a sector whose kind is not 1 mean nothing." A call on either of two alike discs answers the same, records the same sectors,
--- leaves the same ledger and block, and leaves discs that are alike.
+-- leaves the same ledger and buffer, and leaves discs that are alike.
 -- Assumes nothing.
 use Prim.Native.Nat.{ℕ, zero, suc, _+_}
 use native.Mathlib.Omega.{arith}
@@ -9,6 +9,7 @@ use mathlib.Core.List.{List, [], _∷_, _++_}
 use mathlib.Core.Option.{Option, some}
 use lib.Dec.{eqb, ltb}
 use lib.ListN.{length, getD, length-take}
+use Rattle.timestamp.specs.Timestamp.{valid, told}
 use Rattle.vat.specs.Table.{sectorLength, unused}
 use Rattle.vat.specs.Sector.{sector}
 use Rattle.vat.proofs.Theorems.{length-sector}
@@ -20,22 +21,22 @@ use Rattle.disc.proofs.Recording.{leading-le}
 use Rattle.disc.proofs.Found.{newest-table}
 use Rattle.volume.specs.declared.Volume.{Volume}
 use Rattle.volume.specs.Volume.{idle, readOnly, unpack, pack, mapOf, begun, filled}
-use Rattle.recorder.specs.Calls.{Call, begin, mount, write, release, closePacket, commit, read, lookBack, blockOf}
-use Rattle.recorder.specs.Refusals.{test, first, links, target, basic, ledgerLent, blockLent, unfit, forbidden, writeTests, notInUse, isSome, walked, isBroken, isEnded, tests, outcome}
-use Rattle.recorder.specs.Effects.{Effect, settles, blockReached, cleanNumber, effect, settled, after, ifDone, sectorsIf, secondNumber, sectorsOf}
+use Rattle.recorder.specs.Calls.{Call, begin, mount, write, release, closePacket, commit, read, lookBack, timeOf, bufferOf}
+use Rattle.recorder.specs.Refusals.{test, first, links, target, basic, ledgerLent, blockLent, stampLent, answerLent, unfit, forbidden, writeTests, commitTests, notInUse, isSome, walked, isBroken, isEnded, walkTests, tests, outcome}
+use Rattle.recorder.specs.Effects.{Effect, settles, blockReached, cleanNumber, stampOf, effect, settled, after, ifDone, sectorsIf, secondNumber, sectorsOf}
 use Rattle.alike.specs.Alike.{Alike, SameCall, MeanNothing}
 use Rattle.recorder.proofs.Done.{CommitDone, mount-done, write-done, commit-done, look-back-done, read-done, links-few}
 use Rattle.history.proofs.Steps.{walked-table}
 use Rattle.recorder.proofs.Sectors.{AllWhole, behind-whole}
-use Rattle.alike.proofs.Discs.{alike-puts, same-recorded, same-sized, same-order, same-blanks, same-kind, same-newest, same-map, same-walked, same-fits}
+use Rattle.alike.proofs.Discs.{alike-puts, same-recorded, same-sized, same-order, same-blanks, same-kind, same-newest, same-map, same-walked, same-time, same-fits}
 
 -- the table sector of a commit that is done fills its block
-saved-long : (d : Disc) (l : List ℕ) → outcome d l commit ≡ 0 → length (sector (mapOf (unpack l)) (unpack l .last) (target (unpack l))) ≡ sectorLength
-saved-long d l e =
+saved-long : (d : Disc) (l : List ℕ) (stamp : Option (List ℕ)) → outcome d l (commit stamp) ≡ 0 → length (sector (mapOf (unpack l)) (unpack l .last) (stampOf stamp) (target (unpack l))) ≡ sectorLength
+saved-long d l stamp e =
     let v : Volume = unpack l in
-    let f : CommitDone d l = commit-done d l e in
-    length-sector (mapOf v) (v .last) (target v) (omega (arith, length-take (v .size) (v .entries), f .fit .few))
-    (omega (arith, f .fit .same-recorded, leading-le (d .kinds), f .sound-disc .few, links-few v))
+    let f : CommitDone d l stamp = commit-done d l stamp e in
+    length-sector (mapOf v) (v .last) (stampOf stamp) (target v) (omega (arith, length-take (v .size) (v .entries), f .fit .few))
+    (omega (arith, f .fit .same-recorded, leading-le (d .kinds), f .sound-disc .few, links-few v)) (f .timely)
 
 pub effect-whole : (d : Disc) (l : List ℕ) (c : Call) → outcome d l c ≡ 0 → AllWhole (effect d l c .sectors)
 unfolding effect
@@ -44,9 +45,10 @@ effect-whole d l mount e = tt
 effect-whole d l (write n block) e = behind-whole (links (unpack l)) block (write-done d l n block e .block-long)
 effect-whole d l (release n) e = tt
 effect-whole d l closePacket e = tt
-effect-whole d l commit e = behind-whole (links (unpack l)) (sector (mapOf (unpack l)) (unpack l .last) (target (unpack l))) (saved-long d l e)
+effect-whole d l (commit stamp) e = behind-whole (links (unpack l)) (sector (mapOf (unpack l)) (unpack l .last) (stampOf stamp) (target (unpack l))) (saved-long d l stamp e)
 effect-whole d l (read n block) e = tt
 effect-whole d l (lookBack k) e = tt
+effect-whole d l (timeOf k answer) e = tt
 
 pub sectors-whole : (d : Disc) (l : List ℕ) (c : Call) → AllWhole (sectorsOf d l c)
 unfolding sectorsOf
@@ -63,6 +65,9 @@ module _ {d e : Disc} (a : Alike d e) where
   same-unfit : (l : List ℕ) → unfit d l ≡ unfit e l
   same-unfit l = λ i. test 4 (not (same-fits a (unpack l) i))
 
+  same-walk : (k : ℕ) → walkTests d k ≡ walkTests e k
+  same-walk k = λ i. test 7 (not (isSome (same-newest a i))) ∷ test 8 (isBroken (same-walked a k i)) ∷ test 9 (isEnded (same-walked a k i)) ∷ []
+
   same-tests : (l : List ℕ) (c : Call) → tests d l c ≡ tests e l c
   unfolding tests
   same-tests l begin = λ i. same-basic (ledgerLent l) i ++ (test 6 (isSome (same-newest a i)) ∷ [])
@@ -71,20 +76,16 @@ module _ {d e : Disc} (a : Alike d e) where
       same-basic (blockLent l block) i ++ (same-unfit l i ∷ forbidden l ∷ writeTests (same-blanks a i) (unpack l) n block)
   same-tests l (release n) = λ i. same-basic (ledgerLent l) i ++ (same-unfit l i ∷ forbidden l ∷ test 10 (notInUse (unpack l) n) ∷ [])
   same-tests l closePacket = λ i. same-basic (ledgerLent l) i ++ (same-unfit l i ∷ forbidden l ∷ [])
-  same-tests l commit = λ i.
-      same-basic (ledgerLent l) i ++ (same-unfit l i ∷ forbidden l ∷ test 14 (ltb (same-blanks a i) (links (unpack l) + 1)) ∷ [])
+  same-tests l (commit stamp) = λ i.
+      same-basic (stampLent l stamp) i ++ (same-unfit l i ∷ forbidden l ∷ commitTests (same-blanks a i) (unpack l) stamp)
   same-tests l (read n block) = λ i.
       same-basic (blockLent l block) i
       ++ (same-unfit l i
       ∷ test 10 (notInUse (unpack l) n)
       ∷ test 11 (not (eqb (same-kind a (getD (unpack l .entries) n unused) i) 1))
       ∷ [])
-  same-tests l (lookBack k) = λ i.
-      same-basic (ledgerLent l) i
-      ++ (test 7 (not (isSome (same-newest a i)))
-      ∷ test 8 (isBroken (same-walked a k i))
-      ∷ test 9 (isEnded (same-walked a k i))
-      ∷ [])
+  same-tests l (lookBack k) = λ i. same-basic (ledgerLent l) i ++ same-walk k i
+  same-tests l (timeOf k answer) = λ i. same-basic (answerLent l answer) i ++ (same-walk k i ++ (test 16 (not (valid (same-time a k i))) ∷ []))
 
   pub same-outcome : (l : List ℕ) (c : Call) → outcome d l c ≡ outcome e l c
   unfolding outcome
@@ -114,21 +115,22 @@ module _ {d e : Disc} (a : Alike d e) where
   same-effect l (write n block) h = refl
   same-effect l (release n) h = refl
   same-effect l closePacket h = refl
-  same-effect l commit h = refl
+  same-effect l (commit stamp) h = refl
   same-effect l (read n block) h = λ i.
       record {
         second = 0;
         sectors = [];
         ledger = l;
-        block = a .same-data (getD (unpack l .entries) n unused) (read-done d l n block h .data-kind) i;
+        buffer = a .same-data (getD (unpack l .entries) n unused) (read-done d l n block h .data-kind) i;
       }
   same-effect l (lookBack k) h = λ i.
       settles (blockReached (same-walked a k i))
       (pack (filled (reached-map l k h i) (blockReached (same-walked a k i)) (same-recorded a i) readOnly))
+  same-effect l (timeOf k answer) h = λ i. record { second = 0; sectors = []; ledger = l; buffer = told (same-time a k i) }
 
   -- what settles a call: its outcome, and if it is done its effect
   settled-alike : (l : List ℕ) (c : Call) (o : ℕ) → outcome d l c ≡ o
-      → Alike (settled d l (blockOf c) o (effect d l c) .disc) (settled e l (blockOf c) o (effect e l c) .disc)
+      → Alike (settled d l (bufferOf c) o (effect d l c) .disc) (settled e l (bufferOf c) o (effect e l c) .disc)
   settled-alike l c zero z =
       subst₂ (λ (r : ℕ) (f : Effect). Alike (puts d (recorded d) (effect d l c .sectors)) (puts e r (f .sectors))) (same-recorded a) (same-effect l c z)
       (alike-puts (effect d l c .sectors) (effect-whole d l c z) a (recorded d))
@@ -150,11 +152,11 @@ module _ {d e : Disc} (a : Alike d e) where
           same-outcome = same-outcome l c;
           same-second = same-if (λ o x. ifDone o (x .second)) (λ o x. ifDone o (x .second)) (λ x. refl) (λ n x y. refl);
           same-sectors = same-if (λ o x. sectorsIf o (x .sectors)) (λ o x. sectorsIf o (x .sectors)) (λ x. refl) (λ n x y. refl);
-          same-answer = same-if (λ o x. settled d l (blockOf c) o x .answer) (λ o x. settled e l (blockOf c) o x .answer) (λ x. refl) (λ n x y. refl);
-          same-ledger = same-if (λ o x. settled d l (blockOf c) o x .ledger) (λ o x. settled e l (blockOf c) o x .ledger) (λ x. refl) (λ n x y. refl);
-          same-block = same-if (λ o x. settled d l (blockOf c) o x .block) (λ o x. settled e l (blockOf c) o x .block) (λ x. refl) (λ n x y. refl);
+          same-answer = same-if (λ o x. settled d l (bufferOf c) o x .answer) (λ o x. settled e l (bufferOf c) o x .answer) (λ x. refl) (λ n x y. refl);
+          same-ledger = same-if (λ o x. settled d l (bufferOf c) o x .ledger) (λ o x. settled e l (bufferOf c) o x .ledger) (λ x. refl) (λ n x y. refl);
+          same-buffer = same-if (λ o x. settled d l (bufferOf c) o x .buffer) (λ o x. settled e l (bufferOf c) o x .buffer) (λ x. refl) (λ n x y. refl);
           alike-discs =
-              subst (λ (o : ℕ). Alike (settled d l (blockOf c) (outcome d l c) (effect d l c) .disc) (settled e l (blockOf c) o (effect e l c) .disc)) (same-outcome l c)
+              subst (λ (o : ℕ). Alike (settled d l (bufferOf c) (outcome d l c) (effect d l c) .disc) (settled e l (bufferOf c) o (effect e l c) .disc)) (same-outcome l c)
               (settled-alike l c (outcome d l c) refl);
         }
 

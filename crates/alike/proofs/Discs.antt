@@ -9,17 +9,21 @@ use mathlib.Core.List.{List, [], _∷_, _++_}
 use mathlib.Core.Option.{Option, none, some}
 use lib.Dec.{eqb, ltb, leb}
 use lib.ListN.{length, getD, take, drop, set, length-append, length-take, length-drop}
-use lib.Seq.{getD-set-other, take-take, take-at}
+use lib.Seq.{getD-set-other, take-at}
 use borrow.Author.Tests.{eqb-true, eqb-false}
-use Rattle.vat.specs.Table.{sectorLength, unused, entriesOf, previousOf, isTable}
+use Rattle.le.proofs.Bytes.{part-take}
+use Rattle.vat.specs.Table.{sectorLength, unused, entriesOf, previousOf, modifiedOf, isTable}
 use Rattle.vat.proofs.Theorems.{recognised, of-kind-1}
 use Rattle.disc.specs.Disc.{Disc, lent, mostSectors, sized, leading, recorded, inOrder, blanks, kindAt, sectorAt, readable, content, Sector, link, plain, torn, stored, put, puts}
+use Rattle.disc.specs.declared.Walk.{Walk}
+use Rattle.disc.specs.declared.Walk.the-variants.{Reached, Broken, Ended}
 use Rattle.disc.specs.Tables.{tableAt, mapAt, previousAt, newestBelow, newest, stepped, walk}
 use Rattle.disc.proofs.Recording.{Sound, Whole, sound, sound-sized, sound-order, kind-recorded}
 use Rattle.disc.proofs.Found.{newest-table}
 use Rattle.volume.specs.declared.Volume.{Volume}
 use Rattle.volume.specs.Volume.{fits}
-use Rattle.recorder.specs.Refusals.{walkFrom, walked}
+use Rattle.recorder.specs.Refusals.{walkFrom, walked, timeReached, timeBack}
+use Rattle.history.proofs.Steps.{walked-table}
 use Rattle.alike.specs.Alike.{Alike}
 use Rattle.recorder.proofs.Sectors.{AllWhole}
 
@@ -205,17 +209,20 @@ module _ {d e : Disc} (a : Alike d e) where
           walk-same (tableAt d) (previousAt d) (previousAt e) same-previous k b (newest-table (tableAt d) (recorded d) b z)
           ∙ ap (λ (t : ℕ → Bool). walk t (previousAt e) k b) (fun-ext same-table)
 
+  -- of a table that is reached, the time
+  pub same-time : (k : ℕ) → timeBack d k ≡ timeBack e k
+  same-time k = go (walked d k) refl ∙ ap (timeReached e) (same-walked k)
+    where
+      go : (w : Walk) → walked d k ≡ w → timeReached d w ≡ timeReached e w
+      go (Reached b) z = ap modifiedOf (table-data b (walked-table d k b z))
+      go Broken z = refl
+      go Ended z = refl
+
   pub same-fits : (v : Volume) → fits d v ≡ fits e v
   unfolding fits
   same-fits v = rw (same-table (v .last), same-kind (v .recorded - 1), same-recorded)
 
 -- ---- the bytes of blank sectors may be any
-
-part-taken : (r k n : ℕ) (xs : List ℕ) → k + n ≤ r → take n (drop k (take r xs)) ≡ take n (drop k xs)
-part-taken r zero n xs h = take-take n r xs (omega arith)
-part-taken zero (suc k) n xs h = absurd (omega arith)
-part-taken (suc r) (suc k) n [] h = refl
-part-taken (suc r) (suc k) n (x ∷ xs) h = part-taken r k n xs (omega arith)
 
 pub blank-bytes : (d : Disc) → Sound d → (image : List ℕ) → length (d .image) ≡ length image
     → take (sectorLength * recorded d) (d .image) ≡ take (sectorLength * recorded d) image → Alike d (lent image (d .kinds))
@@ -227,7 +234,7 @@ blank-bytes d ok image long same =
       same-data = λ b h.
           let inside : b < recorded d = kind-recorded d ok b (λ z. omega arith) in
           let end : sectorLength * b + sectorLength ≤ sectorLength * recorded d = omega arith in
-          sym (part-taken (sectorLength * recorded d) (sectorLength * b) sectorLength (d .image) end)
+          sym (part-take (sectorLength * recorded d) (sectorLength * b) sectorLength (d .image) end)
           ∙ ap (λ (xs : List ℕ). take sectorLength (drop (sectorLength * b) xs)) same
-          ∙ part-taken (sectorLength * recorded d) (sectorLength * b) sectorLength image end;
+          ∙ part-take (sectorLength * recorded d) (sectorLength * b) sectorLength image end;
     }

@@ -10,7 +10,7 @@ use mathlib.Core.Option.{Option, none, some}
 use lib.Dec.{eqb, ltb}
 use lib.ListN.{length, getD, take}
 use Rattle.disc.specs.Disc.{Disc, Sector, recorded, puts}
-use Rattle.recorder.specs.Calls.{Call, begin, mount, write, release, closePacket, commit, read, lookBack}
+use Rattle.recorder.specs.Calls.{Call, begin, mount, write, release, closePacket, commit, read, lookBack, timeOf}
 use Rattle.recorder.specs.Refusals.{outcome}
 use Rattle.recorder.specs.Effects.{effect, After, settled, after, sectorsOf}
 use Rattle.alike.specs.Alike.{Alike, SameCall}
@@ -18,7 +18,7 @@ use Rattle.recorder.proofs.Sectors.{AllWhole, whole-take}
 use Rattle.alike.proofs.Discs.{alike-refl, alike-sym, alike-trans, same-recorded, alike-torn, alike-puts}
 use Rattle.alike.proofs.Calls.{sectors-whole, alike-calls}
 use Rattle.history.specs.History.{Entry, unusedEntry, shows, Snapshot, History, Fed, answered, cutCommit, feed}
-use Rattle.history.specs.Events.{World, Event, calls, cuts, ledgerHeld, Allowed, tornAt, cutDisc, ledgerAfter, next, told, fed, AllAllowed, runs, remembers, afterCall, begunHistory, mountedHistory}
+use Rattle.history.specs.Events.{World, Event, calls, cuts, ledgerHeld, onlyTells, Allowed, tornAt, cutDisc, ledgerAfter, next, told, fed, AllAllowed, runs, remembers, afterCall, begunHistory, mountedHistory}
 use Rattle.history.specs.Claim.{reading, Shows, DoneShowing, Mounts, Claim}
 use Rattle.alike.specs.Scribbles.{Happening, event, scribble, onDisc, AllHappen, ends, recalls, ScribbledPowerCuts}
 use Rattle.history.proofs.Theorem.{power-cuts}
@@ -46,7 +46,7 @@ module _ {d e : Disc} (a : Alike d e) (o : Option (List ℕ)) where
   unfolding next
   next-alike (calls c junk) =
       let s : SameCall d e (ledgerHeld o junk) c = alike-calls d e a (ledgerHeld o junk) c in
-      record { alike-discs = s .alike-discs; same-ledger = λ i. ledgerAfter (s .same-outcome i) o (s .same-ledger i) }
+      record { alike-discs = s .alike-discs; same-ledger = λ i. ledgerAfter (onlyTells c) (s .same-outcome i) o (s .same-ledger i) }
   next-alike (cuts c junk j tear) =
       let l : List ℕ = ledgerHeld o junk in
       record {
@@ -66,16 +66,17 @@ module _ {d e : Disc} (a : Alike d e) (o : Option (List ℕ)) where
   fed-same (cuts (write n block) junk j tear) = refl
   fed-same (cuts (release n) junk j tear) = refl
   fed-same (cuts closePacket junk j tear) = refl
-  fed-same (cuts commit junk j tear) =
-      let s : SameCall d e (ledgerHeld o junk) commit = alike-calls d e a (ledgerHeld o junk) commit in
+  fed-same (cuts (commit stamp) junk j tear) =
+      let s : SameCall d e (ledgerHeld o junk) (commit stamp) = alike-calls d e a (ledgerHeld o junk) (commit stamp) in
       λ i. cutCommit (eqb (s .same-outcome i) 0 && eqb j (length (s .same-sectors i)))
   fed-same (cuts (read n block) junk j tear) = refl
   fed-same (cuts (lookBack k) junk j tear) = refl
+  fed-same (cuts (timeOf k answer) junk j tear) = refl
 
   allowed-same : (v : Event) → Allowed (record { disc = d; ledger = o }) v → Allowed (record { disc = e; ledger = o }) v
-  allowed-same (calls c junk) f = λ n z. f n (alike-calls d e a junk c .same-outcome ∙ z)
+  allowed-same (calls c junk) f = λ n z. f n (alike-calls d e a junk c .same-outcome ∙ z .0, z .1)
   allowed-same (cuts c junk j tear) f = (
-    λ n z. f .0 n (alike-calls d e a junk c .same-outcome ∙ z),
+    λ n z. f .0 n (alike-calls d e a junk c .same-outcome ∙ z .0, z .1),
     subst (λ (ss : List Sector). j ≤ length ss) (alike-calls d e a (ledgerHeld o junk) c .same-sectors) (f .1),
     f .2,
   )
@@ -99,7 +100,7 @@ module _ {w u : World} (a : AlikeWorlds w u) where
 -- ---- the claim of one disc is that of the other
 
 abbrev onto : Disc → After → After
-onto e r = record { answer = r .answer; disc = e; ledger = r .ledger; block = r .block }
+onto e r = record { answer = r .answer; disc = e; ledger = r .ledger; buffer = r .buffer }
 
 reading-onto : (d e : Disc) (l block : List ℕ) (x : Entry) → onto e (reading d l block x) ≡ reading e l block x
 reading-onto d e l block unusedEntry = refl
@@ -118,7 +119,7 @@ module _ {d e : Disc} (a : Alike d e) where
   read-onto : (l : List ℕ) (n : ℕ) (block : List ℕ) → after e l (read n block) ≡ onto e (after d l (read n block))
   read-onto l n block =
       let s : SameCall d e l (read n block) = alike-calls d e a l (read n block) in
-      λ i. record { answer = sym (s .same-answer) i; disc = read-leaves e l n block i; ledger = sym (s .same-ledger) i; block = sym (s .same-block) i }
+      λ i. record { answer = sym (s .same-answer) i; disc = read-leaves e l n block i; ledger = sym (s .same-ledger) i; buffer = sym (s .same-buffer) i }
 
   shows-alike : (l : List ℕ) (p : Snapshot) → Shows d l p → Shows e l p
   shows-alike l p s =

@@ -1,9 +1,10 @@
--- The starred rows of document 01's 'Bench examples', and those of a number too high and above size and of tables behind attributes (document 02, R-1 and
--- R-2), shown once, as one claim over one list of them: the checker works each out from the definitions.
+-- The starred rows of document 01's 'Bench examples', shown once, as one claim over one list of them, and rows for document 02's requests, as another:
+-- the checker works each out from the definitions.
 -- Assumes nothing.
 use Prim.Native.Nat.{ℕ, _+_, _*_}
 use mathlib.Core.Bool.{Bool, true, false, not, _&&_}
 use mathlib.Core.List.{List, [], _∷_, _++_}
+use mathlib.Core.Option.{none, some}
 use lib.Dec.{T, eqb}
 use lib.ListN.{replicate}
 use lib.Seq.{sets}
@@ -11,18 +12,20 @@ use Rattle.le.specs.Field.{le, readLe, leadingWords, words, leWords, lay, holds
 use Rattle.le.specs.Bytes.{every, total, holdsText}
 use Rattle.crc.specs.Crc.{crcOf, crcFrom, byteStep}
 use Rattle.tag.specs.Tag.{crcLength, checksum, bodyCrc, sealed, seal}
-use Rattle.vat.specs.Table.{unused, plainRows, lengthRows, tableName, attributeLength, entryCount, entriesOf, previousOf, framed, isTable}
-use Rattle.vat.specs.Sector.{tableRegid, tableBytes, ownRows, stationName, body, sector}
+use Rattle.timestamp.specs.Calendar.{months, real, daysOfYears, daysBefore, minutesBefore}
+use Rattle.timestamp.specs.Timestamp.{zoneOf, momentOf, valid, minutesOf, told}
+use Rattle.vat.specs.Table.{unused, plainRows, lengthRows, tableName, attributeLength, entryCount, entriesOf, previousOf, modifiedOf, framed, isTable}
+use Rattle.vat.specs.Sector.{tableRegid, tableBytes, ownRows, stationName, timed, noStamp, body, sector}
 use Rattle.disc.specs.Disc.{Disc, sized, leading, inOrder, sectorAt, content, stored, puts}
 use Rattle.disc.specs.Tables.{newestBelow, walk}
 use Rattle.volume.specs.Volume.{unpack, pack, fits, begun, filled, wrote, released, closed, committed}
-use Rattle.recorder.specs.Calls.{Call, begin, mount, write, closePacket, commit}
+use Rattle.recorder.specs.Calls.{Call, begin, mount, write, closePacket, commit, lookBack, timeOf}
 use Rattle.recorder.specs.Refusals.{first, links, walked, tests, outcome}
 use Rattle.recorder.specs.Effects.{effect, After, after, secondNumber, sectorsOf}
 
 -- To open this is to open every definition that the rows and lists are worked out from.
 unfoldable pub opened : Unit {0}
-unfolding le readLe leadingWords words leWords lay holds every total holdsText crcFrom byteStep checksum bodyCrc sealed seal plainRows lengthRows tableName attributeLength entryCount entriesOf previousOf framed isTable tableRegid tableBytes ownRows stationName body sector sized leading inOrder sectorAt content stored puts newestBelow walk unpack pack fits begun filled wrote released closed committed first links walked tests outcome effect after secondNumber sectorsOf
+unfolding le readLe leadingWords words leWords lay holds every total holdsText crcFrom byteStep checksum bodyCrc sealed seal months real daysOfYears daysBefore minutesBefore zoneOf momentOf valid minutesOf told plainRows lengthRows tableName attributeLength entryCount entriesOf previousOf modifiedOf framed isTable tableRegid tableBytes ownRows stationName timed body sector sized leading inOrder sectorAt content stored puts newestBelow walk unpack pack fits begun filled wrote released closed committed first links walked tests outcome effect after secondNumber sectorsOf
 opened = tt
 
 -- A blank disc of n sectors, and a lent block.
@@ -61,6 +64,13 @@ numbers n = pack (record { entries = replicate 458 unused; size = n; recorded = 
 abbrev pub full : List ℕ
 full = numbers 458
 
+-- A timestamp of whole minutes, with the twelve bits of its zone: 2049 is -2047, 2656 is -1440.
+abbrev pub stamp : ℕ → ℕ → ℕ → ℕ → ℕ → ℕ → List ℕ
+stamp zone year month day hour minute = le 2 (4096 + zone) ++ (le 2 year ++ (month ∷ day ∷ hour ∷ minute ∷ 0 ∷ 0 ∷ 0 ∷ 0 ∷ []))
+
+abbrev pub answer : List ℕ
+answer = replicate 8 0
+
 pub data Example : Type 0 where
   -- the CRC of these bytes
   crc-of : List ℕ → ℕ → Example
@@ -70,48 +80,78 @@ pub data Example : Type 0 where
   no-table : ℕ → Example
   -- n entries behind a bytes of attributes: all but the sums of a table sector, or not, and then no table sector whatever the sums
   framed-behind : ℕ → ℕ → Bool → Example
+  -- what is told of a timestamp: its minutes, as 32 bits, and its mark
+  told-of : List ℕ → ℕ → ℕ → Example
+  -- a timestamp that breaks the limits
+  wrong-stamp : List ℕ → Example
   -- calls on a disc, with the ledger lent to the first of them: their answers
   calls-on : Disc → List ℕ → List Call → List ℕ → Example
 
 unfoldable pub right : Example → Bool
 right (crc-of bytes value) = eqb (crcOf bytes) value
 right (lengths-of a n table crc) = let s : List ℕ = lay (block 0) (lengthRows a n) in eqb (readLe 4 s 172) table && eqb (crcLength s) crc
-right (no-table n) = not (isTable 1 (sector (replicate n unused) unused 0) 0)
+right (no-table n) = not (isTable 1 (sector (replicate n unused) unused noStamp 0) 0)
 right (framed-behind a n true) = framed (behind a n 0) 0
 right (framed-behind a n false) = not (framed (behind a n 0) 0)
+right (told-of stamp minutes mark) = valid stamp && same (told stamp) (le 4 minutes ++ le 4 mark)
+right (wrong-stamp stamp) = not (valid stamp)
 right (calls-on d l cs expected) = same (answers d l cs) expected
 
 unfoldable pub all-right : List Example → Bool
 all-right [] = true
 all-right (e ∷ es) = right e && all-right es
 
+-- Document 01's starred rows.
 unfoldable pub starred : List Example
 starred =
     crc-of (0x70 ∷ 0x6A ∷ 0x77 ∷ []) 0x3299
     ∷ lengths-of 0 0 36 196
     ∷ lengths-of 0 458 1868 2028
-    ∷ lengths-of 220 2 44 424
     ∷ no-table 459
+    ∷ calls-on (blank 8) full (begin ∷ write 0 (block 1) ∷ commit none ∷ []) (0 ∷ refused 14 ∷ 0 ∷ [])
+    ∷ calls-on (blank 9) full (begin ∷ write 0 (block 1) ∷ write 1 (block 2) ∷ []) (0 ∷ 0 ∷ refused 14 ∷ [])
+    ∷ calls-on (blank 10) full (begin ∷ write 0 (block 1) ∷ write 1 (block 2) ∷ write 2 (block 3) ∷ []) (0 ∷ 0 ∷ 1 ∷ refused 14 ∷ [])
+    ∷ calls-on (blank 17) full (begin ∷ write 0 (block 1) ∷ closePacket ∷ write 1 (block 2) ∷ []) (0 ∷ 0 ∷ 0 ∷ 8 ∷ [])
+    ∷ calls-on (blank 16) full (begin ∷ write 0 (block 1) ∷ closePacket ∷ write 1 (block 2) ∷ []) (0 ∷ 0 ∷ 0 ∷ refused 14 ∷ [])
+    ∷ calls-on (blank 9) full (begin ∷ write 1 (block 1) ∷ []) (0 ∷ refused 12 ∷ [])
+    ∷ calls-on (blank 9) full (write 458 (block 1) ∷ []) (refused 13 ∷ [])
+    ∷ calls-on (blank 12) full (begin ∷ write 0 (block 1) ∷ write 1 (block 2) ∷ write 2 (sector [] unused noStamp 1) ∷ []) (0 ∷ 0 ∷ 1 ∷ 2 ∷ [])
+    ∷ calls-on (blank 12) full (begin ∷ write 0 (block 1) ∷ write 1 (block 2) ∷ write 2 (sector [] unused noStamp 2) ∷ []) (0 ∷ 0 ∷ 1 ∷ refused 15 ∷ [])
+    ∷ []
+
+pub starred-rows : T (all-right starred)
+unfolding opened answers same right all-right starred
+starred-rows = tt
+
+-- Document 02's: numbers above limit and size, tables behind attributes, timestamps.
+unfoldable pub requested : List Example
+requested =
+    calls-on (blank 9) full (write 459 (block 1) ∷ []) (refused 13 ∷ [])
+    ∷ calls-on (blank 9) (numbers 3) (write 500 (block 1) ∷ []) (refused 13 ∷ [])
+    ∷ lengths-of 220 2 44 424
     ∷ framed-behind 1832 0 true
     ∷ framed-behind 1836 0 false
     ∷ framed-behind 1824 2 true
     ∷ framed-behind 1828 2 false
     ∷ framed-behind 2 0 false
     ∷ framed-behind 4294967292 0 false
-    ∷ calls-on (blank 8) full (begin ∷ write 0 (block 1) ∷ commit ∷ []) (0 ∷ refused 14 ∷ 0 ∷ [])
-    ∷ calls-on (blank 9) full (begin ∷ write 0 (block 1) ∷ write 1 (block 2) ∷ []) (0 ∷ 0 ∷ refused 14 ∷ [])
-    ∷ calls-on (blank 10) full (begin ∷ write 0 (block 1) ∷ write 1 (block 2) ∷ write 2 (block 3) ∷ []) (0 ∷ 0 ∷ 1 ∷ refused 14 ∷ [])
-    ∷ calls-on (blank 17) full (begin ∷ write 0 (block 1) ∷ closePacket ∷ write 1 (block 2) ∷ []) (0 ∷ 0 ∷ 0 ∷ 8 ∷ [])
-    ∷ calls-on (blank 16) full (begin ∷ write 0 (block 1) ∷ closePacket ∷ write 1 (block 2) ∷ []) (0 ∷ 0 ∷ 0 ∷ refused 14 ∷ [])
-    ∷ calls-on (blank 9) full (begin ∷ write 1 (block 1) ∷ []) (0 ∷ refused 12 ∷ [])
-    ∷ calls-on (blank 9) full (write 458 (block 1) ∷ write 459 (block 1) ∷ []) (refused 13 ∷ refused 13 ∷ [])
-    ∷ calls-on (blank 9) (numbers 3) (write 500 (block 1) ∷ []) (refused 13 ∷ [])
-    ∷ calls-on (blank 12) full (begin ∷ write 0 (block 1) ∷ write 1 (block 2) ∷ write 2 (sector [] unused 1) ∷ []) (0 ∷ 0 ∷ 1 ∷ 2 ∷ [])
-    ∷ calls-on (blank 12) full (begin ∷ write 0 (block 1) ∷ write 1 (block 2) ∷ write 2 (sector [] unused 2) ∷ []) (0 ∷ 0 ∷ 1 ∷ refused 15 ∷ [])
     ∷ calls-on (blank 12) full (begin ∷ write 0 (seal (behind 220 2 1)) ∷ write 1 (seal (behind 220 2 1)) ∷ []) (0 ∷ 0 ∷ refused 15 ∷ [])
     ∷ calls-on (holding (seal (behind 220 2 0))) full (begin ∷ mount ∷ []) (refused 6 ∷ 1 ∷ [])
+    ∷ told-of (stamp 60 1970 1 1 0 30) 0xFFFFFFE2 0
+    ∷ told-of (stamp 2049 1970 1 1 0 30) 30 1
+    ∷ told-of (stamp 0 2000 2 29 12 0) 15863760 0
+    ∷ told-of (stamp 0 2096 2 29 12 0) 66355920 0
+    ∷ wrong-stamp (stamp 0 2099 2 29 12 0)
+    ∷ told-of (stamp 1440 2099 12 31 23 59) 68372639 0
+    ∷ told-of (stamp 2656 2099 12 31 23 59) 68375519 0
+    ∷ wrong-stamp (stamp 2047 2099 12 31 23 59)
+    ∷ wrong-stamp (stamp 2048 2099 12 31 23 59)
+    ∷ calls-on (blank 3) full (begin ∷ commit (some (stamp 60 1970 1 1 0 30)) ∷ commit none ∷ timeOf 0 answer ∷ timeOf 1 answer ∷ timeOf 2 answer ∷ [])
+    (0 ∷ 0 ∷ 1 ∷ refused 16 ∷ 0 ∷ refused 9 ∷ [])
+    ∷ calls-on (blank 1) full (begin ∷ commit none ∷ commit (some (stamp 0 2099 2 29 12 0)) ∷ commit (some (stamp 0 2096 2 29 12 0)) ∷ lookBack 0 ∷ commit (some (stamp 0 2099 2 29 12 0)) ∷ [])
+    (0 ∷ 0 ∷ refused 16 ∷ refused 14 ∷ 0 ∷ refused 5 ∷ [])
     ∷ []
 
-pub starred-rows : T (all-right starred)
-unfolding opened answers same right all-right starred
-starred-rows = tt
+pub requested-rows : T (all-right requested)
+unfolding opened answers same right all-right requested
+requested-rows = tt

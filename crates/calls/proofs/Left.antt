@@ -1,24 +1,26 @@
 -- What a call leaves, from its outcome: every byte as it was, or what its definition says, part by part.
 -- Assumes nothing.
-use Prim.Native.Nat.{ℕ, zero, suc, _+_, _*_}
+use Prim.Native.Nat.{ℕ, zero, suc, _+_, _*_, _≤_, _<_}
+use native.Mathlib.Omega.{arith}
 use mathlib.Core.Path.{_≡_, refl, sym, ap, _∙_}
 use mathlib.Core.List.{List, [], _∷_, _++_}
 use mathlib.Core.Option.{Option, some}
 use lib.Dec.{eqb}
 use lib.ListN.{length, getD, set, replicate, length-replicate}
-use Rattle.vat.specs.Table.{sectorLength, unused}
+use Rattle.timestamp.specs.Timestamp.{stampLength, told}
+use Rattle.vat.specs.Table.{sectorLength, limit, unused}
 use Rattle.vat.specs.Sector.{sector}
 use Rattle.disc.specs.declared.Walk.{Walk}
 use Rattle.disc.specs.declared.Walk.the-variants.{Reached}
-use Rattle.disc.specs.Disc.{Disc, lent, Sector, link, plain, recorded, sectorAt, stored, put, puts}
-use Rattle.disc.specs.Tables.{mapAt, blockFound, newest}
-use Rattle.disc.proofs.Recording.{puts-append, puts-links}
+use Rattle.disc.specs.Disc.{Disc, lent, mostSectors, Sector, link, plain, recorded, sectorAt, stored, put, puts}
+use Rattle.disc.specs.Tables.{mapAt, timeAt, blockFound, newest}
+use Rattle.disc.proofs.Recording.{leading-le, puts-append, puts-links}
 use Rattle.volume.specs.declared.Volume.{Volume}
-use Rattle.volume.specs.Volume.{idle, readOnly, unpack, pack, mapOf, begun, filled, wrote, released, closed, committed}
-use Rattle.recorder.specs.Calls.{Call, begin, mount, write, release, closePacket, commit, read, lookBack, blockOf}
-use Rattle.recorder.specs.Refusals.{links, target, walked, outcome}
-use Rattle.recorder.specs.Effects.{effect, blockReached, cleanNumber, After, left, settled, after}
-use Rattle.recorder.proofs.Done.{write-done, commit-done}
+use Rattle.volume.specs.Volume.{ledgerLength, idle, readOnly, unpack, pack, mapOf, begun, filled, wrote, released, closed, committed}
+use Rattle.recorder.specs.Calls.{Call, begin, mount, write, release, closePacket, commit, read, lookBack, timeOf, stampBuffer, bufferOf}
+use Rattle.recorder.specs.Refusals.{links, target, walked, timeReached, outcome}
+use Rattle.recorder.specs.Effects.{effect, blockReached, cleanNumber, stampOf, After, left, settled, after}
+use Rattle.recorder.proofs.Done.{ledger-accepted, write-done, CommitDone, commit-done}
 
 -- equal parts leave the same
 pub same-left : {a a′ : ℕ} {i i′ k k′ l l′ b : List ℕ} → a ≡ a′ → i ≡ i′ → k ≡ k′ → l ≡ l′ → left a i k l b ≡ left a′ i′ k′ l′ b
@@ -26,15 +28,15 @@ same-left p q r s = cc
 
 module _ (d : Disc) (l : List ℕ) where
   -- a refusal
-  pub refused-left : (c : Call) (n : ℕ) → n ≡ outcome d l c → (n ≡ 0 → ⊥) → left (n * 4294967296) (d .image) (d .kinds) l (blockOf c) ≡ after d l c
+  pub refused-left : (c : Call) (n : ℕ) → n ≡ outcome d l c → (n ≡ 0 → ⊥) → left (n * 4294967296) (d .image) (d .kinds) l (bufferOf c) ≡ after d l c
   unfolding after
   refused-left c zero e h = absurd (h refl)
-  refused-left c (suc n) e h = ap (λ (k : ℕ). settled d l (blockOf c) k (effect d l c)) e
+  refused-left c (suc n) e h = ap (λ (k : ℕ). settled d l (bufferOf c) k (effect d l c)) e
 
   -- a call that is done
-  done-left : (c : Call) → outcome d l c ≡ 0 → settled d l (blockOf c) 0 (effect d l c) ≡ after d l c
+  done-left : (c : Call) → outcome d l c ≡ 0 → settled d l (bufferOf c) 0 (effect d l c) ≡ after d l c
   unfolding after
-  done-left c z = ap (λ (k : ℕ). settled d l (blockOf c) k (effect d l c)) (sym z)
+  done-left c z = ap (λ (k : ℕ). settled d l (bufferOf c) k (effect d l c)) (sym z)
 
   pub begin-left : outcome d l begin ≡ 0 → left 0 (d .image) (d .kinds) (pack (begun (recorded d))) [] ≡ after d l begin
   unfolding effect puts
@@ -67,6 +69,12 @@ module _ (d : Disc) (l : List ℕ) where
   unfolding effect puts
   read-left n block z = done-left (read n block) z
 
+  pub time-left : (k b : ℕ) (answer : List ℕ) → outcome d l (timeOf k answer) ≡ 0 → walked d k ≡ Reached b
+      → left 0 (d .image) (d .kinds) l (told (timeAt d b)) ≡ after d l (timeOf k answer)
+  unfolding effect puts
+  time-left k b answer z e =
+      ap (λ (w : Walk). left 0 (d .image) (d .kinds) l (told (timeReached d w))) (sym e) ∙ done-left (timeOf k answer) z
+
   -- the kinds with the links
   abbrev pub linkedKinds : List ℕ
   linkedKinds = puts (lent [] (d .kinds)) (unpack l .recorded) (replicate (links (unpack l)) link) .kinds
@@ -91,16 +99,29 @@ module _ (d : Disc) (l : List ℕ) where
   unfolding effect
   write-left n block z =
       let v : Volume = unpack l in
-      ap {B = After} (λ x. record { answer = target v; disc = x; ledger = pack (wrote n (target v) v); block = block }) (recorded-left block (write-done d l n block z .fit .same-recorded))
+      ap {B = After} (λ x. record { answer = target v; disc = x; ledger = pack (wrote n (target v) v); buffer = block }) (recorded-left block (write-done d l n block z .fit .same-recorded))
       ∙ done-left (write n block) z
 
-  pub commit-left : outcome d l commit ≡ 0
-      → left (target (unpack l)) (stored (d .image) (sectorLength * target (unpack l)) (sector (mapOf (unpack l)) (unpack l .last) (target (unpack l)))) (set linkedKinds (target (unpack l)) 1)
-      (pack (committed (target (unpack l)) (unpack l))) []
-      ≡ after d l commit
+  -- a commit that is done meets what a save asks for
+  pub commit-saves : (stamp : Option (List ℕ)) → outcome d l (commit stamp) ≡ 0
+      → (length l ≡ ledgerLength) × (length (d .image) ≡ sectorLength * length (d .kinds)) × (target (unpack l) < length (d .kinds)) × (length (d .kinds) ≤ mostSectors) × (unpack l .size ≤ limit) × (length (stampOf stamp) ≡ stampLength)
+  commit-saves stamp z =
+      let f : CommitDone d l stamp = commit-done d l stamp z in (
+        ledger-accepted d l (commit stamp) z,
+        f .sound-disc .whole,
+        omega (arith, f .room, f .fit .same-recorded, leading-le (d .kinds)),
+        f .sound-disc .few,
+        f .fit .few,
+        f .timely,
+      )
+
+  pub commit-left : (stamp : Option (List ℕ)) → outcome d l (commit stamp) ≡ 0
+      → left (target (unpack l)) (stored (d .image) (sectorLength * target (unpack l)) (sector (mapOf (unpack l)) (unpack l .last) (stampOf stamp) (target (unpack l)))) (set linkedKinds (target (unpack l)) 1)
+      (pack (committed (target (unpack l)) (unpack l))) (stampBuffer stamp)
+      ≡ after d l (commit stamp)
   unfolding effect
-  commit-left z =
+  commit-left stamp z =
       let v : Volume = unpack l in
-      ap {B = After} (λ x. record { answer = target v; disc = x; ledger = pack (committed (target v) v); block = [] })
-      (recorded-left (sector (mapOf v) (v .last) (target v)) (commit-done d l z .fit .same-recorded))
-      ∙ done-left commit z
+      ap {B = After} (λ x. record { answer = target v; disc = x; ledger = pack (committed (target v) v); buffer = stampBuffer stamp })
+      (recorded-left (sector (mapOf v) (v .last) (stampOf stamp) (target v)) (commit-done d l stamp z .fit .same-recorded))
+      ∙ done-left (commit stamp) z

@@ -9,14 +9,15 @@ use mathlib.Core.Option.{Option, none, some}
 use lib.Dec.{eqb, ltb, leb}
 use lib.ListN.{getD}
 use borrow.Author.Tests.{eq-eqb, ne-eqb, le-ltb, lt-ltb, le-leb, lt-leb}
+use Rattle.timestamp.specs.Timestamp.{valid}
 use Rattle.vat.specs.Table.{limit, unused, isTable}
 use Rattle.disc.specs.declared.Walk.the-variants.{Reached, Broken, Ended}
 use Rattle.disc.specs.Disc.{Disc, mostSectors, blanks, kindAt}
-use Rattle.disc.specs.Tables.{blockFound, newestBelow, newest}
+use Rattle.disc.specs.Tables.{timeAt, blockFound, newestBelow, newest}
 use Rattle.disc.proofs.Found.{newest-below}
 use Rattle.volume.specs.Volume.{readOnly, unpack, fits}
-use Rattle.recorder.specs.Calls.{begin, mount, write, release, closePacket, commit, read, lookBack}
-use Rattle.recorder.specs.Refusals.{Test, test, first, links, target, reserve, basic, ledgerLent, blockLent, unfit, forbidden, writeTests, notInUse, isSome, walked, isBroken, isEnded, tests, outcome}
+use Rattle.recorder.specs.Calls.{begin, mount, write, release, closePacket, commit, read, lookBack, timeOf}
+use Rattle.recorder.specs.Refusals.{Test, test, first, links, target, reserve, basic, ledgerLent, blockLent, stampLent, answerLent, unfit, forbidden, writeTests, stampWrong, commitTests, notInUse, isSome, walked, isBroken, isEnded, walkTests, timeWrong, tests, outcome}
 use Rattle.recorder.proofs.Done.{stopped, resumed, fittingTests, workingTests}
 
 -- ---- the newest table, as a block number
@@ -72,42 +73,79 @@ module _ (d : Disc) (l : List ℕ) where
   unfolding outcome tests first
   begin-0 z e = resumed (basic d (ledgerLent l)) (test 6 (isSome (newest d)) ∷ []) refl z ∙ rw e
 
-  pub mount-stopped : (first (basic d (ledgerLent l)) ≡ 0 → ⊥) → outcome d l mount ≡ first (basic d (ledgerLent l))
-  unfolding outcome tests
-  mount-stopped h = stopped (basic d (ledgerLent l)) (test 7 (not (isSome (newest d))) ∷ []) h
+-- 1, 2, 3 and 7
+abbrev pub foundTests : Disc → Bool → List Test
+foundTests d lengths = basic d lengths ++ (test 7 (not (isSome (newest d))) ∷ [])
 
-  pub mount-7 : first (basic d (ledgerLent l)) ≡ 0 → newest d ≡ none → outcome d l mount ≡ 7
-  unfolding outcome tests first
-  mount-7 z e = resumed (basic d (ledgerLent l)) (test 7 (not (isSome (newest d))) ∷ []) refl z ∙ rw e
+module _ (d : Disc) (lengths : Bool) where
+  pub found-stopped : (first (basic d lengths) ≡ 0 → ⊥) → first (foundTests d lengths) ≡ first (basic d lengths)
+  found-stopped h = stopped (basic d lengths) (test 7 (not (isSome (newest d))) ∷ []) h
 
-  pub mount-0 : (b : ℕ) → first (basic d (ledgerLent l)) ≡ 0 → newest d ≡ some b → outcome d l mount ≡ 0
-  unfolding outcome tests first
-  mount-0 b z e = resumed (basic d (ledgerLent l)) (test 7 (not (isSome (newest d))) ∷ []) refl z ∙ rw e
+  pub found-7 : first (basic d lengths) ≡ 0 → newest d ≡ none → first (foundTests d lengths) ≡ 7
+  unfolding first
+  found-7 z e = resumed (basic d lengths) (test 7 (not (isSome (newest d))) ∷ []) refl z ∙ rw e
 
-module _ (d : Disc) (l : List ℕ) (k : ℕ) where
+  pub found-0 : (b : ℕ) → first (basic d lengths) ≡ 0 → newest d ≡ some b → first (foundTests d lengths) ≡ 0
+  unfolding first
+  found-0 b z e = resumed (basic d lengths) (test 7 (not (isSome (newest d))) ∷ []) refl z ∙ rw e
+
+-- and then the steps of a walk
+module _ (d : Disc) (lengths : Bool) (k : ℕ) where
   steps : List Test
   steps = test 8 (isBroken (walked d k)) ∷ test 9 (isEnded (walked d k)) ∷ []
 
-  -- mount's tests, then those of the walk
-  pub look-back-stopped : (outcome d l mount ≡ 0 → ⊥) → outcome d l (lookBack k) ≡ outcome d l mount
-  unfolding outcome tests steps
-  look-back-stopped h = stopped (basic d (ledgerLent l) ++ (test 7 (not (isSome (newest d))) ∷ [])) steps h
+  pub walk-stopped : (first (foundTests d lengths) ≡ 0 → ⊥) → first (basic d lengths ++ walkTests d k) ≡ first (foundTests d lengths)
+  unfolding steps
+  walk-stopped h = stopped (foundTests d lengths) steps h
 
-  walked-on : outcome d l mount ≡ 0 → outcome d l (lookBack k) ≡ first steps
-  unfolding outcome tests steps
-  walked-on z = resumed (basic d (ledgerLent l) ++ (test 7 (not (isSome (newest d))) ∷ [])) steps refl z
+  walk-rest : first (foundTests d lengths) ≡ 0 → first (basic d lengths ++ walkTests d k) ≡ first steps
+  unfolding steps
+  walk-rest z = resumed (foundTests d lengths) steps refl z
 
-  pub look-back-8 : outcome d l mount ≡ 0 → walked d k ≡ Broken → outcome d l (lookBack k) ≡ 8
+  pub walk-8 : first (foundTests d lengths) ≡ 0 → walked d k ≡ Broken → first (basic d lengths ++ walkTests d k) ≡ 8
   unfolding first steps
-  look-back-8 z e = walked-on z ∙ rw e
+  walk-8 z e = walk-rest z ∙ rw e
 
-  pub look-back-9 : outcome d l mount ≡ 0 → walked d k ≡ Ended → outcome d l (lookBack k) ≡ 9
+  pub walk-9 : first (foundTests d lengths) ≡ 0 → walked d k ≡ Ended → first (basic d lengths ++ walkTests d k) ≡ 9
   unfolding first steps
-  look-back-9 z e = walked-on z ∙ rw e
+  walk-9 z e = walk-rest z ∙ rw e
 
-  pub look-back-0 : (b : ℕ) → outcome d l mount ≡ 0 → walked d k ≡ Reached b → outcome d l (lookBack k) ≡ 0
+  pub walk-0 : (b : ℕ) → first (foundTests d lengths) ≡ 0 → walked d k ≡ Reached b → first (basic d lengths ++ walkTests d k) ≡ 0
   unfolding first steps
-  look-back-0 b z e = walked-on z ∙ rw e
+  walk-0 b z e = walk-rest z ∙ rw e
+
+-- the lists of mount, of look back and of a time
+pub mount-outcome : (d : Disc) (l : List ℕ) → first (foundTests d (ledgerLent l)) ≡ outcome d l mount
+unfolding outcome tests
+mount-outcome d l = refl
+
+pub look-back-outcome : (d : Disc) (l : List ℕ) (k : ℕ) → first (basic d (ledgerLent l) ++ walkTests d k) ≡ outcome d l (lookBack k)
+unfolding outcome tests
+look-back-outcome d l k = refl
+
+module _ (d : Disc) (l : List ℕ) (k : ℕ) (answer : List ℕ) where
+  reachTests : List Test
+  reachTests = basic d (answerLent l answer) ++ walkTests d k
+
+  timeTest : List Test
+  timeTest = timeWrong d k ∷ []
+
+  pub time-stopped : (first (basic d (answerLent l answer) ++ walkTests d k) ≡ 0 → ⊥) → outcome d l (timeOf k answer) ≡ first (basic d (answerLent l answer) ++ walkTests d k)
+  unfolding outcome tests reachTests timeTest
+  time-stopped h = stopped reachTests timeTest h
+
+  time-rest : first (basic d (answerLent l answer) ++ walkTests d k) ≡ 0 → outcome d l (timeOf k answer) ≡ first timeTest
+  unfolding outcome tests reachTests timeTest
+  time-rest z = resumed reachTests timeTest refl z
+
+  module _ (b : ℕ) (z : first (basic d (answerLent l answer) ++ walkTests d k) ≡ 0) (way : walked d k ≡ Reached b) where
+    pub time-16 : valid (timeAt d b) ≡ false → outcome d l (timeOf k answer) ≡ 16
+    unfolding first timeTest
+    time-16 e = time-rest z ∙ rw (way, e)
+
+    pub time-0 : valid (timeAt d b) ≡ true → outcome d l (timeOf k answer) ≡ 0
+    unfolding first timeTest
+    time-0 e = time-rest z ∙ rw (way, e)
 
 -- ---- the calls on the working state
 
@@ -158,13 +196,22 @@ module _ (d : Disc) (l : List ℕ) where
   unfolding outcome tests
   release-tested n z = resumed (workingTests d l (ledgerLent l)) (test 10 (notInUse (unpack l) n) ∷ []) refl (sym alone ∙ z)
 
-  pub commit-stopped : (first (workingTests d l (ledgerLent l && true)) ≡ 0 → ⊥) → outcome d l commit ≡ first (workingTests d l (ledgerLent l && true))
+module _ (d : Disc) (l : List ℕ) (stamp : Option (List ℕ)) where
+  pub commit-stopped : (first (workingTests d l (stampLent l stamp)) ≡ 0 → ⊥) → outcome d l (commit stamp) ≡ first (workingTests d l (stampLent l stamp))
   unfolding outcome tests
-  commit-stopped h = stopped (workingTests d l (ledgerLent l)) (test 14 (ltb (blanks d) (links (unpack l) + 1)) ∷ []) (λ z. h (alone ∙ z)) ∙ sym alone
+  commit-stopped h = stopped (workingTests d l (stampLent l stamp)) (commitTests (blanks d) (unpack l) stamp) h
 
-  pub commit-tested : first (workingTests d l (ledgerLent l && true)) ≡ 0 → outcome d l commit ≡ first (test 14 (ltb (blanks d) (links (unpack l) + 1)) ∷ [])
+  commit-rest : first (workingTests d l (stampLent l stamp)) ≡ 0 → outcome d l (commit stamp) ≡ first (commitTests (blanks d) (unpack l) stamp)
   unfolding outcome tests
-  commit-tested z = resumed (workingTests d l (ledgerLent l)) (test 14 (ltb (blanks d) (links (unpack l) + 1)) ∷ []) refl (sym alone ∙ z)
+  commit-rest z = resumed (workingTests d l (stampLent l stamp)) (commitTests (blanks d) (unpack l) stamp) refl z
+
+  pub commit-16 : first (workingTests d l (stampLent l stamp)) ≡ 0 → stampWrong stamp ≡ true → outcome d l (commit stamp) ≡ 16
+  unfolding first
+  commit-16 z e = commit-rest z ∙ rw e
+
+  pub commit-tested : first (workingTests d l (stampLent l stamp)) ≡ 0 → stampWrong stamp ≡ false → outcome d l (commit stamp) ≡ first (test 14 (ltb (blanks d) (links (unpack l) + 1)) ∷ [])
+  unfolding first
+  commit-tested z e = commit-rest z ∙ rw e
 
 module _ (d : Disc) (l : List ℕ) (n : ℕ) (block : List ℕ) where
   readRest : List Test

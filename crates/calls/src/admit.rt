@@ -2,17 +2,18 @@
 use crate::Plan;
 use crate::basic::LEDGER;
 use crate::refused;
-use disc::Walk;
+use timestamp::STAMP;
+use timestamp::TOLD;
 use vat::table::LIMIT;
 use vat::table::SECTOR;
 use vat::table::UNUSED;
 ghost use mathlib.Core.Path.{_≡_};
 ghost use mathlib.Core.Bool.{true};
-ghost use mathlib.Core.Option.{some};
+ghost use mathlib.Core.Option.{none, some};
 ghost use Rattle.disc.specs.declared.Walk.the-variants.{Reached};
 ghost use Rattle.disc.specs.Disc.{lent, recorded};
 ghost use Rattle.disc.specs.Tables.{tableAt, newest};
-ghost use Rattle.recorder.specs.Calls.{begin, mount, write, release, closePacket, commit, read, lookBack};
+ghost use Rattle.recorder.specs.Calls.{begin, mount, write, release, closePacket, commit, read, lookBack, timeOf};
 ghost use Rattle.recorder.specs.Refusals.{walked, outcome};
 
 // "Write needs links + 1 + 8 blank sectors".
@@ -34,39 +35,28 @@ pub fn begin(image: &[u8], kinds: &[u8], ledger: &[u8]) -> Plan
 pub fn mount(image: &[u8], kinds: &[u8], ledger: &[u8]) -> Plan
     ensures { λ r. ⌜ (r .outcome ≡ outcome (lent (now (image .entry)) (now (kinds .entry))) (now (ledger .entry)) mount) × (r .outcome ≡ 0 → (r .recorded ≡ recorded (lent (now (image .entry)) (now (kinds .entry)))) × (newest (lent (now (image .entry)) (now (kinds .entry))) ≡ some (r .block))) ⌝ }
 {
-    let plan = crate::basic::sound(image, kinds, ledger.len() == LEDGER);
-    if plan.outcome != 0 {
-        return plan;
-    }
-    let recorded = plan.recorded;
-    let block = disc::tables::newest(image, kinds, recorded);
-    if block == UNUSED {
-        return refused(7);
-    }
-    Plan {
-        outcome: 0,
-        recorded: recorded,
-        block: block,
-    }
+    crate::basic::found(image, kinds, ledger.len() == LEDGER)
 }
 
 pub fn look_back(image: &[u8], kinds: &[u8], ledger: &[u8], k: u32) -> Plan
     ensures { λ r. ⌜ (r .outcome ≡ outcome (lent (now (image .entry)) (now (kinds .entry))) (now (ledger .entry)) (lookBack k)) × (r .outcome ≡ 0 → (r .recorded ≡ recorded (lent (now (image .entry)) (now (kinds .entry)))) × (walked (lent (now (image .entry)) (now (kinds .entry))) k ≡ Reached (r .block)) × (tableAt (lent (now (image .entry)) (now (kinds .entry))) (r .block) ≡ true)) ⌝ }
 {
-    let plan = mount(image, kinds, ledger);
+    crate::basic::reached(image, kinds, ledger.len() == LEDGER, k)
+}
+
+// The ledger is lent and not read. 16 judges the time of the table reached, and no other.
+pub fn time_of(image: &[u8], kinds: &[u8], ledger: &[u8], k: u32, answer: &[u8]) -> Plan
+    ensures { λ r. ⌜ (r .outcome ≡ outcome (lent (now (image .entry)) (now (kinds .entry))) (now (ledger .entry)) (timeOf k (now (answer .entry)))) × (r .outcome ≡ 0 → (walked (lent (now (image .entry)) (now (kinds .entry))) k ≡ Reached (r .block)) × (tableAt (lent (now (image .entry)) (now (kinds .entry))) (r .block) ≡ true)) ⌝ }
+{
+    let lengths = (ledger.len() == LEDGER) & (answer.len() == TOLD);
+    let plan = crate::basic::reached(image, kinds, lengths, k);
     if plan.outcome != 0 {
         return plan;
     }
-    let recorded = plan.recorded;
-    match disc::tables::walk_back(image, kinds, k, plan.block) {
-        Walk::Reached(block) => Plan {
-            outcome: 0,
-            recorded: recorded,
-            block: block,
-        },
-        Walk::Broken => refused(8),
-        Walk::Ended => refused(9),
+    if !timestamp::valid(disc::tables::time_at(image, plan.block)) {
+        return refused(16);
     }
+    plan
 }
 
 pub fn write(image: &[u8], kinds: &[u8], ledger: &[u8], n: u32, block: &[u8]) -> u32
@@ -115,17 +105,26 @@ pub fn close_packet(image: &[u8], kinds: &[u8], ledger: &[u8]) -> u32
 }
 
 pub fn commit(image: &[u8], kinds: &[u8], ledger: &[u8]) -> u32
-    ensures { λ r. ⌜ r ≡ outcome (lent (now (image .entry)) (now (kinds .entry))) (now (ledger .entry)) commit ⌝ }
+    ensures { λ r. ⌜ r ≡ outcome (lent (now (image .entry)) (now (kinds .entry))) (now (ledger .entry)) (commit none) ⌝ }
 {
     let outcome = crate::basic::working(image, kinds, ledger, true);
     if outcome != 0 {
         return outcome;
     }
-    let blank = (kinds.len() as u32) - volume::ledger::recorded(ledger);
-    if blank < crate::basic::links(ledger) + 1 {
-        return 14;
+    crate::basic::room(kinds, ledger)
+}
+
+pub fn commit_at(image: &[u8], kinds: &[u8], ledger: &[u8], stamp: &[u8]) -> u32
+    ensures { λ r. ⌜ r ≡ outcome (lent (now (image .entry)) (now (kinds .entry))) (now (ledger .entry)) (commit (some (now (stamp .entry)))) ⌝ }
+{
+    let outcome = crate::basic::working(image, kinds, ledger, stamp.len() == STAMP);
+    if outcome != 0 {
+        return outcome;
     }
-    0
+    if !timestamp::valid(stamp) {
+        return 16;
+    }
+    crate::basic::room(kinds, ledger)
 }
 
 pub fn read(image: &[u8], kinds: &[u8], ledger: &[u8], n: u32, block: &[u8]) -> u32

@@ -1,16 +1,21 @@
 // The tests that several calls begin with, in document 01's order. 0 says that none of them applies.
 use crate::Plan;
 use crate::refused;
+use disc::Walk;
 use vat::table::UNUSED;
 ghost use mathlib.Core.Path.{_≡_};
-ghost use mathlib.Core.Bool.{_&&_};
+ghost use mathlib.Core.Bool.{true, _&&_, not};
 ghost use mathlib.Core.List.{[], _∷_, _++_};
-ghost use Prim.Native.Nat.{_≤_};
+ghost use mathlib.Core.Option.{some};
+ghost use Prim.Native.Nat.{_+_, _-_, _≤_};
+ghost use lib.Dec.{ltb};
 ghost use lib.ListN.{length};
 ghost use Rattle.vat.specs.Table.{limit};
-ghost use Rattle.disc.specs.Disc.{lent, leading};
+ghost use Rattle.disc.specs.declared.Walk.the-variants.{Reached};
+ghost use Rattle.disc.specs.Disc.{lent, leading, recorded};
+ghost use Rattle.disc.specs.Tables.{tableAt, newest};
 ghost use Rattle.volume.specs.Volume.{ledgerLength, unpack};
-ghost use Rattle.recorder.specs.Refusals.{first, links, basic, ledgerLent, unfit, forbidden, notInUse};
+ghost use Rattle.recorder.specs.Refusals.{test, first, links, basic, ledgerLent, unfit, forbidden, notInUse, isSome, walked, walkTests};
 
 pub const LEDGER: usize = 1848;
 
@@ -32,6 +37,46 @@ pub fn sound(image: &[u8], kinds: &[u8], lengths: bool) -> Plan
         outcome: 0,
         recorded: extent.recorded as u32,
         block: 0,
+    }
+}
+
+// 1, 2, 3 and 7: and a table sector exists; the answer has its block.
+pub fn found(image: &[u8], kinds: &[u8], lengths: bool) -> Plan
+    ensures { λ r. ⌜ (r .outcome ≡ first (basic (lent (now (image .entry)) (now (kinds .entry))) lengths ++ (test 7 (not (isSome (newest (lent (now (image .entry)) (now (kinds .entry)))))) ∷ []))) × (r .outcome ≡ 0 → (r .recorded ≡ recorded (lent (now (image .entry)) (now (kinds .entry)))) × (newest (lent (now (image .entry)) (now (kinds .entry))) ≡ some (r .block))) ⌝ }
+{
+    let plan = sound(image, kinds, lengths);
+    if plan.outcome != 0 {
+        return plan;
+    }
+    let recorded = plan.recorded;
+    let block = disc::tables::newest(image, kinds, recorded);
+    if block == UNUSED {
+        return refused(7);
+    }
+    Plan {
+        outcome: 0,
+        recorded: recorded,
+        block: block,
+    }
+}
+
+// 1, 2, 3, 7, and then 8 or 9 at the first failing step of a walk back k tables; the answer has the block reached.
+pub fn reached(image: &[u8], kinds: &[u8], lengths: bool, k: u32) -> Plan
+    ensures { λ r. ⌜ (r .outcome ≡ first (basic (lent (now (image .entry)) (now (kinds .entry))) lengths ++ walkTests (lent (now (image .entry)) (now (kinds .entry))) k)) × (r .outcome ≡ 0 → (r .recorded ≡ recorded (lent (now (image .entry)) (now (kinds .entry)))) × (walked (lent (now (image .entry)) (now (kinds .entry))) k ≡ Reached (r .block)) × (tableAt (lent (now (image .entry)) (now (kinds .entry))) (r .block) ≡ true)) ⌝ }
+{
+    let plan = found(image, kinds, lengths);
+    if plan.outcome != 0 {
+        return plan;
+    }
+    let recorded = plan.recorded;
+    match disc::tables::walk_back(image, kinds, k, plan.block) {
+        Walk::Reached(block) => Plan {
+            outcome: 0,
+            recorded: recorded,
+            block: block,
+        },
+        Walk::Broken => refused(8),
+        Walk::Ended => refused(9),
     }
 }
 
@@ -76,6 +121,18 @@ pub fn links(ledger: &[u8]) -> u32
         return 0;
     }
     7
+}
+
+// 14: a commit "needs links + 1 blank sectors".
+pub fn room(kinds: &[u8], ledger: &[u8]) -> u32
+    requires { ⌜ (length (now ledger) ≡ ledgerLength) × (unpack (now ledger) .recorded ≤ length (now kinds)) × (length (now kinds) ≤ 360000) ⌝ }
+    ensures { λ r. ⌜ r ≡ first (test 14 (ltb (length (now (kinds .entry)) - unpack (now (ledger .entry)) .recorded) (links (unpack (now (ledger .entry))) + 1)) ∷ []) ⌝ }
+{
+    let blank = (kinds.len() as u32) - volume::ledger::recorded(ledger);
+    if blank < links(ledger) + 1 {
+        return 14;
+    }
+    0
 }
 
 // "v not below size, or of an unused entry".

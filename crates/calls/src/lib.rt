@@ -1,4 +1,4 @@
-// The eight calls: which refusal each is given, what those that look for a table find, and what those that are done record and show.
+// The calls: which refusal each is given, what those that look for a table find, and what those that are done record and show.
 pub mod admit;
 pub mod basic;
 pub mod effects;

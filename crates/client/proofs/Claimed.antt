@@ -10,11 +10,11 @@ use mathlib.Core.List.{List, [], _∷_}
 use mathlib.Core.Option.{Option, none, some}
 use Rattle.disc.specs.Disc.{Disc}
 use Rattle.disc.specs.Tables.{mapAt, newest, blockFound}
-use Rattle.recorder.specs.Calls.{Call}
+use Rattle.recorder.specs.Calls.{Call, begin, mount, write, release, closePacket, commit, read, lookBack, timeOf}
 use Rattle.recorder.specs.Refusals.{outcome}
-use Rattle.recorder.specs.Effects.{secondNumber}
+use Rattle.recorder.specs.Effects.{effect, after, secondNumber}
 use Rattle.history.specs.History.{Snapshot, History, done, feed}
-use Rattle.history.specs.Events.{World, calls, AllAllowed, next, told, fed, runs, remembers, pageOf, afterCall}
+use Rattle.history.specs.Events.{World, calls, onlyTells, AllAllowed, ledgerAfter, next, told, fed, runs, remembers, pageOf, afterCall}
 use Rattle.history.specs.Claim.{Claim}
 use Rattle.alike.specs.Scribbles.{Happening, event, AllHappen, ends, recalls}
 use Rattle.history.proofs.Theorem.{Kept, all-kept, begun-kept, mounted-kept}
@@ -39,12 +39,25 @@ abbrev pub history : Day → History → List Call → History
 history x h [] = h
 history x h (c ∷ cs) = history (called (x .disc) (x .ledger) c) (done (told c) (secondNumber (x .disc) (x .ledger) c) h) cs
 
-module _ (x : Day) (c : Call) (e : outcome (x .disc) (x .ledger) c ≡ 0) where
-  next-done : next (world x) (calls c []) ≡ world (called (x .disc) (x .ledger) c)
-  unfolding next
-  next-done = rw e
+-- a call that only tells leaves the ledger that it was lent
+still-held : (d : Disc) (l : List ℕ) (c : Call) → outcome d l c ≡ 0 → ledgerAfter (onlyTells c) 0 (some l) (after d l c .ledger) ≡ some (after d l c .ledger)
+unfolding after effect
+still-held d l begin e = refl
+still-held d l mount e = refl
+still-held d l (write v block) e = refl
+still-held d l (release v) e = refl
+still-held d l closePacket e = refl
+still-held d l (commit stamp) e = refl
+still-held d l (read v block) e = refl
+still-held d l (lookBack k) e = refl
+still-held d l (timeOf k answer) e = rw e
 
-  fed-done : (h : History) → feed h (fed (world x) (calls c [])) ≡ done (told c) (secondNumber (x .disc) (x .ledger) c) h
+module _ (x : Day) (c : Call) (e : outcome (x .disc) (x .ledger) c ≡ 0) where
+  pub next-done : next (world x) (calls c []) ≡ world (called (x .disc) (x .ledger) c)
+  unfolding next
+  next-done = rw e (λ i. record { disc = after (x .disc) (x .ledger) c .disc; ledger = still-held (x .disc) (x .ledger) c e i })
+
+  pub fed-done : (h : History) → feed h (fed (world x) (calls c [])) ≡ done (told c) (secondNumber (x .disc) (x .ledger) c) h
   unfolding feed fed
   fed-done h = rw e
 
@@ -78,7 +91,7 @@ goes (c ∷ cs) x h hs ok a =
           ∙ ap (λ (v : World). recalls v (history x′ h′ cs) hs) (sym at);
     }
 
-kept-on : (cs : List Call) (x : Day) (h : History) → x .answer < 4294967296 → AllDone x cs → Kept (world x) h → Kept (world (day x cs)) (history x h cs)
+pub kept-on : (cs : List Call) (x : Day) (h : History) → x .answer < 4294967296 → AllDone x cs → Kept (world x) h → Kept (world (day x cs)) (history x h cs)
 unfolding day
 kept-on [] x h ok a k = k
 kept-on (c ∷ cs) x h ok a k =
@@ -106,7 +119,7 @@ start-claim : (fresh : Bool) (d : Disc) (l : List ℕ) → outcome d l (opening 
 start-claim true d l e = scribbled-power-cuts .after-begin d l e
 start-claim false d l e = scribbled-power-cuts .after-mount d l e
 
-start-kept : (fresh : Bool) (d : Disc) (l : List ℕ) → outcome d l (opening fresh) ≡ 0 → Kept (afterCall d l (opening fresh)) (startHistory fresh d)
+pub start-kept : (fresh : Bool) (d : Disc) (l : List ℕ) → outcome d l (opening fresh) ≡ 0 → Kept (afterCall d l (opening fresh)) (startHistory fresh d)
 start-kept true d l e = begun-kept d l e
 start-kept false d l e = mounted-kept d l e
 

@@ -16,7 +16,7 @@ use Rattle.disc.specs.Tables.{newest, blockFound}
 use Rattle.disc.proofs.Recording.{leading-le}
 use Rattle.disc.proofs.Found.{table-recorded}
 use Rattle.volume.specs.Volume.{ledgerLength}
-use Rattle.recorder.specs.Calls.{Call, begin, mount, lookBack, blockOf}
+use Rattle.recorder.specs.Calls.{Call, begin, mount, lookBack, bufferOf}
 use Rattle.recorder.specs.Refusals.{outcome}
 use Rattle.recorder.specs.Effects.{Effect, effect, blockReached, cleanNumber, After, left, settled, after, secondNumber}
 use Rattle.recorder.proofs.Done.{ledger-accepted, look-back-done}
@@ -61,7 +61,7 @@ pub done-of : (d : Disc) (l : List ℕ) (c : Call) → after d l c .answer < 429
 unfolding after
 done-of d l c h = go (outcome d l c) h
   where
-    go : (n : ℕ) → settled d l (blockOf c) n (effect d l c) .answer < 4294967296 → n ≡ 0
+    go : (n : ℕ) → settled d l (bufferOf c) n (effect d l c) .answer < 4294967296 → n ≡ 0
     go zero h = refl
     go (suc n) h = absurd (omega arith)
 

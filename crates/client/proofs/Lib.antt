@@ -2,3 +2,4 @@ pub mod Days
 pub mod Claimed
 pub mod Shown
 pub mod Saves
+pub mod Times

@@ -21,7 +21,7 @@ use Rattle.disc.proofs.Recording.{Sound, leading-le}
 use Rattle.volume.specs.declared.Volume.{Volume}
 use Rattle.volume.specs.Volume.{ledgerLength, readOnly, unpack, mapOf, begun, grown, wrote, committed}
 use Rattle.volume.proofs.State.{Proper, length-pack, unpack-pack, proper-begun, proper-wrote, proper-committed}
-use Rattle.recorder.specs.Calls.{Call, begin, mount, write, release, closePacket, commit, read, lookBack}
+use Rattle.recorder.specs.Calls.{Call, begin, mount, write, release, closePacket, commit, read, lookBack, timeOf}
 use Rattle.recorder.specs.Refusals.{outcome, links, target}
 use Rattle.recorder.specs.Effects.{Effect, effect, sectorsIf, after, secondNumber, sectorsOf}
 use Rattle.alike.specs.Alike.{Alike}
@@ -89,10 +89,10 @@ module _ (d : Disc) (l : List ℕ) (good : Proper (unpack l)) where
       let s : Volume = unpack l in
       rw e (ap (λ v. v .last) (unpack-pack (wrote v (target s) s) (proper-wrote s good v (target s) (f .fit .few) (omega (arith, few d (f .sound-disc), f .fit .same-recorded, links-few s)))))
 
-  committed-long : outcome d l commit ≡ 0 → length (after d l commit .ledger) ≡ ledgerLength
+  committed-long : (stamp : Option (List ℕ)) → outcome d l (commit stamp) ≡ 0 → length (after d l (commit stamp) .ledger) ≡ ledgerLength
   unfolding after effect
-  committed-long e =
-      let f : CommitDone d l = commit-done d l e in
+  committed-long stamp e =
+      let f : CommitDone d l stamp = commit-done d l stamp e in
       let s : Volume = unpack l in
       rw e (length-pack (committed (target s) s) (proper-committed s good (target s) (omega (arith, few d (f .sound-disc), f .fit .same-recorded, links-few s))))
 
@@ -153,36 +153,36 @@ module _ (x : Day) (fresh : Bool) (ok : x .answer < 4294967296) where
 
   -- ---- a save
 
-  module _ (v : ℕ) (block : List ℕ) (a : AllDone x (opening fresh ∷ write v block ∷ commit ∷ [])) where
+  module _ (v : ℕ) (block : List ℕ) (a : AllDone x (opening fresh ∷ write v block ∷ commit none ∷ [])) where
     abbrev recorded-day : Day
     recorded-day = day x (opening fresh ∷ write v block ∷ [])
 
     abbrev pub saved-day : Day
-    saved-day = day x (opening fresh ∷ write v block ∷ commit ∷ [])
+    saved-day = day x (opening fresh ∷ write v block ∷ commit none ∷ [])
 
     record-done : AllDone x (opening fresh ∷ write v block ∷ [])
-    record-done = part-done (opening fresh ∷ write v block ∷ []) (commit ∷ []) x a
+    record-done = part-done (opening fresh ∷ write v block ∷ []) (commit none ∷ []) x a
 
-    commit-called : saved-day ≡ called (recorded-day .disc) (recorded-day .ledger) commit
-    commit-called = last-called x (opening fresh ∷ write v block ∷ []) commit record-done
+    commit-called : saved-day ≡ called (recorded-day .disc) (recorded-day .ledger) (commit none)
+    commit-called = last-called x (opening fresh ∷ write v block ∷ []) (commit none) record-done
 
-    commit-is-done : outcome (recorded-day .disc) (recorded-day .ledger) commit ≡ 0
-    commit-is-done = done-first recorded-day commit [] record-done (subst (λ (y : Day). y .answer < 4294967296) (joined (opening fresh ∷ write v block ∷ []) (commit ∷ []) x) a)
+    commit-is-done : outcome (recorded-day .disc) (recorded-day .ledger) (commit none) ≡ 0
+    commit-is-done = done-first recorded-day (commit none) [] record-done (subst (λ (y : Day). y .answer < 4294967296) (joined (opening fresh ∷ write v block ∷ []) (commit none ∷ []) x) a)
 
     recorded-good : Proper (unpack (recorded-day .ledger))
     recorded-good = kept-at x fresh ok (write v block ∷ []) record-done .good .ledger-good
 
     pub saved-long : length (saved-day .ledger) ≡ ledgerLength
-    saved-long = ap (λ (y : Day). length (y .ledger)) commit-called ∙ committed-long (recorded-day .disc) (recorded-day .ledger) recorded-good commit-is-done
+    saved-long = ap (λ (y : Day). length (y .ledger)) commit-called ∙ committed-long (recorded-day .disc) (recorded-day .ledger) recorded-good none commit-is-done
 
-    again : Remounted (recorded-day .disc) (recorded-day .ledger) (saved-day .ledger)
-    again = remounts (recorded-day .disc) (recorded-day .ledger) recorded-good commit-is-done (saved-day .ledger) saved-long
+    again : Remounted (recorded-day .disc) (recorded-day .ledger) none (saved-day .ledger)
+    again = remounts (recorded-day .disc) (recorded-day .ledger) recorded-good none commit-is-done (saved-day .ledger) saved-long
 
-    saved-disc : saved-day .disc ≡ after (recorded-day .disc) (recorded-day .ledger) commit .disc
+    saved-disc : saved-day .disc ≡ after (recorded-day .disc) (recorded-day .ledger) (commit none) .disc
     saved-disc = ap (λ (y : Day). y .disc) commit-called
 
     mounts : DoneShowing (saved-day .disc) (saved-day .ledger) mount (firstPage x fresh v block)
-    mounts = claim-at x fresh ok (write v block ∷ commit ∷ []) a .mounts (saved-day .ledger) saved-long
+    mounts = claim-at x fresh ok (write v block ∷ commit none ∷ []) a .mounts (saved-day .ledger) saved-long
 
     pub saved-shows : ShowsSave x (opening fresh) v block (after (saved-day .disc) (saved-day .ledger) mount .answer) (after (saved-day .disc) (saved-day .ledger) mount .ledger)
     unfolding day
@@ -190,53 +190,53 @@ module _ (x : Day) (fresh : Bool) (ok : x .answer < 4294967296) where
         let p : Snapshot = startPage fresh (x .disc) in
         let b : ℕ = taken x fresh v block in
         let n : ℕ = unpack (opened x fresh .ledger) .size in
-        let sized : n ≡ length p = start-size (start-done v block (commit ∷ []) a) in
+        let sized : n ≡ length p = start-size (start-done v block (commit none ∷ []) a) in
         record {
           clean = ap (λ (d : Disc). after d (saved-day .ledger) mount .answer) saved-disc ∙ again .clean;
           table = ap (λ (d : Disc). unpack (after d (saved-day .ledger) mount .ledger) .last) saved-disc ∙ again .that-block ∙ ap (λ (y : Day). y .answer) (sym commit-called);
-          entry = mounts .showing .entry v ∙ ap blockNumber (first-there v block (commit ∷ []) a) ∙ sym (answered-taken v block (commit ∷ []) a);
+          entry = mounts .showing .entry v ∙ ap blockNumber (first-there v block (commit none ∷ []) a) ∙ sym (answered-taken v block (commit none ∷ []) a);
           size =
               mounts .showing .size ∙ length-written p v b block
               ∙ ap (λ (k : ℕ). grown (eqb v k) k) (sym sized ∙ ap (λ (y : Day). unpack (y .ledger) .size) (sym (first-done x (opening fresh) [] ok)));
         }
 
     -- what a program sees that mounts it
-    pub mounted-shows : {r : ℕ} {i k m : List ℕ} → ended r i k m ≡ day x (opening fresh ∷ write v block ∷ commit ∷ mount ∷ []) → ShowsSave x (opening fresh) v block r m
+    pub mounted-shows : {r : ℕ} {i k m : List ℕ} → ended r i k m ≡ day x (opening fresh ∷ write v block ∷ commit none ∷ mount ∷ []) → ShowsSave x (opening fresh) v block r m
     mounted-shows e =
-        subst (λ (y : Day). ShowsSave x (opening fresh) v block (y .answer) (y .ledger)) (sym (e ∙ last-called x (opening fresh ∷ write v block ∷ commit ∷ []) mount a)) saved-shows
+        subst (λ (y : Day). ShowsSave x (opening fresh) v block (y .answer) (y .ledger)) (sym (e ∙ last-called x (opening fresh ∷ write v block ∷ commit none ∷ []) mount a)) saved-shows
 
     pub saved-reads : (out : List ℕ) → length out ≡ sectorLength → Reads saved-day mount v out 0 block
-    saved-reads out long = mount-reads saved-day a v out long mounts (first-there v block (commit ∷ []) a)
+    saved-reads out long = mount-reads saved-day a v out long mounts (first-there v block (commit none ∷ []) a)
 
     -- one step back: the table that was last when the day was opened
-    pub saved-back : {r : ℕ} {i k m : List ℕ} → ended r i k m ≡ day x (opening fresh ∷ write v block ∷ commit ∷ lookBack 1 ∷ [])
+    pub saved-back : {r : ℕ} {i k m : List ℕ} → ended r i k m ≡ day x (opening fresh ∷ write v block ∷ commit none ∷ lookBack 1 ∷ [])
         → r ≡ oneBack (unpack (day x (opening fresh ∷ []) .ledger) .last)
     unfolding day
     saved-back e =
         let o : Day = day x (opening fresh ∷ []) in
-        let o-done : AllDone x (opening fresh ∷ []) = part-done (opening fresh ∷ []) (write v block ∷ commit ∷ []) x a in
+        let o-done : AllDone x (opening fresh ∷ []) = part-done (opening fresh ∷ []) (write v block ∷ commit none ∷ []) x a in
         let same : unpack (recorded-day .ledger) .last ≡ unpack (o .ledger) .last =
         ap (λ (y : Day). unpack (y .ledger) .last) (last-called x (opening fresh ∷ []) (write v block) o-done)
         ∙ written-last (o .disc) (o .ledger) (kept-at x fresh ok [] o-done .good .ledger-good) v block
         (done-first o (write v block) [] o-done (subst (λ (y : Day). y .answer < 4294967296) (joined (opening fresh ∷ []) (write v block ∷ []) x) record-done)) in
-        let here : after (saved-day .disc) (saved-day .ledger) (lookBack 1) .answer ≡ after (after (recorded-day .disc) (recorded-day .ledger) commit .disc) (saved-day .ledger) (lookBack 1) .answer =
+        let here : after (saved-day .disc) (saved-day .ledger) (lookBack 1) .answer ≡ after (after (recorded-day .disc) (recorded-day .ledger) (commit none) .disc) (saved-day .ledger) (lookBack 1) .answer =
         ap (λ (d : Disc). after d (saved-day .ledger) (lookBack 1) .answer) saved-disc in
-        ap (λ (y : Day). y .answer) (e ∙ last-called x (opening fresh ∷ write v block ∷ commit ∷ []) (lookBack 1) a)
+        ap (λ (y : Day). y .answer) (e ∙ last-called x (opening fresh ∷ write v block ∷ commit none ∷ []) (lookBack 1) a)
         ∙ here ∙ one-step (unpack (o .ledger) .last) (λ z. again .none-back (same ∙ z)) (λ used. again .one-back (λ z. used (sym same ∙ z)) ∙ same)
 
 -- ---- any calls behind a save
 
 -- a commit that is done has a draft to save
-drafted : (x : Day) (h : History) → Kept (world x) h → outcome (x .disc) (x .ledger) commit ≡ 0 → (p : Snapshot) × (h .draft ≡ some p)
-drafted x h k e =
+pub drafted : (x : Day) (h : History) → Kept (world x) h → (stamp : Option (List ℕ)) → outcome (x .disc) (x .ledger) (commit stamp) ≡ 0 → (p : Snapshot) × (h .draft ≡ some p)
+drafted x h k stamp e =
     let v : Volume = unpack (x .ledger) in
-    let held = subst (λ (t : Bool). HeldIf F t (x .disc) (mapOf v) (v .last) (h .draft)) (commit-done (x .disc) (x .ledger) e .not-looking) (k .inv .draft) in
+    let held = subst (λ (t : Bool). HeldIf F t (x .disc) (mapOf v) (v .last) (h .draft)) (commit-done (x .disc) (x .ledger) stamp e .not-looking) (k .inv .draft) in
     (_, held .shown)
 
 -- every page moves one back with each commit
-record MovedBack (before after : List Snapshot) (n : ℕ) : Type 0 where
-  page : (i : ℕ) → getD after (i + n) [] ≡ getD before i []
-  count : length after ≡ length before + n
+pub record MovedBack (before after : List Snapshot) (n : ℕ) : Type 0 where
+  pub page : (i : ℕ) → getD after (i + n) [] ≡ getD before i []
+  pub count : length after ≡ length before + n
 
 moved-on : {ps qs rs : List Snapshot} {p : Snapshot} {n : ℕ} → qs ≡ p ∷ ps → MovedBack qs rs n → MovedBack ps rs (n + 1)
 moved-on {ps} {qs} {rs} {p} {n} e m =
@@ -249,7 +249,7 @@ moved-on {ps} {qs} {rs} {p} {n} e m =
           m .count ∙ (let k : length qs + n ≡ length ps + (n + 1) = omega (arith, more) in k);
     }
 
-moved-back : (cs : List Call) (x : Day) (h : History) → x .answer < 4294967296 → AllDone x cs → Kept (world x) h → MovedBack (h .pages) (history x h cs .pages) (commits cs)
+pub moved-back : (cs : List Call) (x : Day) (h : History) → x .answer < 4294967296 → AllDone x cs → Kept (world x) h → MovedBack (h .pages) (history x h cs .pages) (commits cs)
 moved-back [] x h ok a k =
     record {
       page = λ i. ap (λ (n : ℕ). getD (h .pages) n []) (let e : i + 0 ≡ i = omega arith in e);
@@ -267,9 +267,10 @@ moved-back (c ∷ cs) x h ok a k =
     go (write v block) e r = r
     go (release v) e r = r
     go closePacket e r = r
-    go commit e r = let d = drafted x h k e in moved-on (ap (λ (o : Option Snapshot). saved o (h .pages)) (d .1)) r
+    go (commit stamp) e r = let d = drafted x h k stamp e in moved-on (ap (λ (o : Option Snapshot). saved o (h .pages)) (d .1)) r
     go (read v block) e r = r
     go (lookBack n) e r = r
+    go (timeOf n answer) e r = r
 
 -- a later day on the disc that the calls left, lent any 1,848 bytes as ledger and a block
 pub record Later (x : Day) (cs : List Call) (y : Day) (out : List ℕ) : Type 0 where
@@ -282,44 +283,44 @@ module _ (x : Day) (fresh : Bool) (ok : x .answer < 4294967296) (v : ℕ) where
   claim-later : (cs : List Call) → AllDone x (opening fresh ∷ cs) → {y : Day} {out : List ℕ} → Later x (opening fresh ∷ cs) y out → Claim (y .disc) (remembered x fresh cs)
   claim-later cs a g = subst (λ (d : Disc). Claim d (remembered x fresh cs)) (g .there) (claim-at x fresh ok cs a)
 
-  pub long-ago-reads : (block : List ℕ) (since : List Call) → AllDone x (opening fresh ∷ write v block ∷ commit ∷ since)
-      → (y : Day) (out : List ℕ) → Later x (opening fresh ∷ write v block ∷ commit ∷ since) y out
+  pub long-ago-reads : (stamp : Option (List ℕ)) (block : List ℕ) (since : List Call) → AllDone x (opening fresh ∷ write v block ∷ commit stamp ∷ since)
+      → (y : Day) (out : List ℕ) → Later x (opening fresh ∷ write v block ∷ commit stamp ∷ since) y out
       → Reads y (lookBack (commits since)) v out 0 block
   unfolding day
-  long-ago-reads block since a y out g =
+  long-ago-reads stamp block since a y out g =
       let o : Day = opened x fresh in
       let w : Day = called (o .disc) (o .ledger) (write v block) in
-      let z : Day = called (w .disc) (w .ledger) commit in
-      let h : History = remembered x fresh (write v block ∷ commit ∷ []) in
-      let o-done : o .answer < 4294967296 = called-done x (opening fresh) (write v block ∷ commit ∷ since) ok a in
-      let o-rest : AllDone o (write v block ∷ commit ∷ since) = rest-done x (opening fresh) (write v block ∷ commit ∷ since) ok a in
-      let w-done : w .answer < 4294967296 = called-done o (write v block) (commit ∷ since) o-done o-rest in
-      let w-rest : AllDone w (commit ∷ since) = rest-done o (write v block) (commit ∷ since) o-done o-rest in
-      let first : AllDone x (opening fresh ∷ write v block ∷ commit ∷ []) = part-done (opening fresh ∷ write v block ∷ commit ∷ []) since x a in
-      let same : saved-day x fresh ok v block first ≡ z = first-done x (opening fresh) (write v block ∷ commit ∷ []) ok ∙ first-done o (write v block) (commit ∷ []) o-done ∙ first-done w commit [] w-done in
-      let k : Kept (world z) h = subst (λ (d : Day). Kept (world d) h) same (kept-at x fresh ok (write v block ∷ commit ∷ []) first) in
-      let m : MovedBack (h .pages) (remembered x fresh (write v block ∷ commit ∷ since) .pages) (commits since) =
-      moved-back since z h (called-done w commit since w-done w-rest) (rest-done w commit since w-done w-rest) k in
-      let page : getD (remembered x fresh (write v block ∷ commit ∷ since) .pages) (commits since) [] ≡ firstPage x fresh v block =
-      ap (λ (n : ℕ). getD (remembered x fresh (write v block ∷ commit ∷ since) .pages) n []) (let e : commits since ≡ 0 + commits since = omega arith in e) ∙ m .page 0 in
+      let z : Day = called (w .disc) (w .ledger) (commit stamp) in
+      let h : History = remembered x fresh (write v block ∷ commit stamp ∷ []) in
+      let o-done : o .answer < 4294967296 = called-done x (opening fresh) (write v block ∷ commit stamp ∷ since) ok a in
+      let o-rest : AllDone o (write v block ∷ commit stamp ∷ since) = rest-done x (opening fresh) (write v block ∷ commit stamp ∷ since) ok a in
+      let w-done : w .answer < 4294967296 = called-done o (write v block) (commit stamp ∷ since) o-done o-rest in
+      let w-rest : AllDone w (commit stamp ∷ since) = rest-done o (write v block) (commit stamp ∷ since) o-done o-rest in
+      let first : AllDone x (opening fresh ∷ write v block ∷ commit stamp ∷ []) = part-done (opening fresh ∷ write v block ∷ commit stamp ∷ []) since x a in
+      let same : day x (opening fresh ∷ write v block ∷ commit stamp ∷ []) ≡ z = first-done x (opening fresh) (write v block ∷ commit stamp ∷ []) ok ∙ first-done o (write v block) (commit stamp ∷ []) o-done ∙ first-done w (commit stamp) [] w-done in
+      let k : Kept (world z) h = subst (λ (d : Day). Kept (world d) h) same (kept-at x fresh ok (write v block ∷ commit stamp ∷ []) first) in
+      let m : MovedBack (h .pages) (remembered x fresh (write v block ∷ commit stamp ∷ since) .pages) (commits since) =
+      moved-back since z h (called-done w (commit stamp) since w-done w-rest) (rest-done w (commit stamp) since w-done w-rest) k in
+      let page : getD (remembered x fresh (write v block ∷ commit stamp ∷ since) .pages) (commits since) [] ≡ firstPage x fresh v block =
+      ap (λ (n : ℕ). getD (remembered x fresh (write v block ∷ commit stamp ∷ since) .pages) n []) (let e : commits since ≡ 0 + commits since = omega arith in e) ∙ m .page 0 in
       let some-page : length (h .pages) ≡ suc (length (startPages fresh (x .disc))) = refl in
       look-reads y (g .ok) v out (g .block-long) (commits since)
-      (claim-later (write v block ∷ commit ∷ since) a g .looks (y .ledger) (g .ledger-long) (commits since) (omega (arith, m .count, some-page)))
-      (ap (λ (p : Snapshot). getD p v unusedEntry) page ∙ first-there x fresh ok v block (commit ∷ since) a)
+      (claim-later (write v block ∷ commit stamp ∷ since) a g .looks (y .ledger) (g .ledger-long) (commits since) (omega (arith, m .count, some-page)))
+      (ap (λ (p : Snapshot). getD p v unusedEntry) page ∙ first-there x fresh ok v block (commit stamp ∷ since) a)
 
   -- two saves: the newer reads what was written last
-  pub newer-reads : (old new : List ℕ) → (a : AllDone x (opening fresh ∷ write v old ∷ commit ∷ write v new ∷ closePacket ∷ commit ∷ []))
-      → (y : Day) (out : List ℕ) → Later x (opening fresh ∷ write v old ∷ commit ∷ write v new ∷ closePacket ∷ commit ∷ []) y out → Reads y mount v out 0 new
+  pub newer-reads : (old new : List ℕ) → (a : AllDone x (opening fresh ∷ write v old ∷ commit none ∷ write v new ∷ closePacket ∷ commit none ∷ []))
+      → (y : Day) (out : List ℕ) → Later x (opening fresh ∷ write v old ∷ commit none ∷ write v new ∷ closePacket ∷ commit none ∷ []) y out → Reads y mount v out 0 new
   newer-reads old new a y out g =
-      mount-reads y (g .ok) v out (g .block-long) (claim-later (write v old ∷ commit ∷ write v new ∷ closePacket ∷ commit ∷ []) a g .mounts (y .ledger) (g .ledger-long))
-      (written-there (firstPage x fresh v old) v _ new (below-first x fresh ok v old (commit ∷ write v new ∷ closePacket ∷ commit ∷ []) a))
+      mount-reads y (g .ok) v out (g .block-long) (claim-later (write v old ∷ commit none ∷ write v new ∷ closePacket ∷ commit none ∷ []) a g .mounts (y .ledger) (g .ledger-long))
+      (written-there (firstPage x fresh v old) v _ new (below-first x fresh ok v old (commit none ∷ write v new ∷ closePacket ∷ commit none ∷ []) a))
 
 -- ---- a number released, and a disc without a save
 
-pub released-reads : (x : Day) → x .answer < 4294967296 → (v : ℕ) → AllDone x (mount ∷ release v ∷ commit ∷ [])
-    → (y : Day) (out : List ℕ) → Later x (mount ∷ release v ∷ commit ∷ []) y out → Reads y mount v out (10 * 4294967296) out
+pub released-reads : (x : Day) → x .answer < 4294967296 → (v : ℕ) → AllDone x (mount ∷ release v ∷ commit none ∷ [])
+    → (y : Day) (out : List ℕ) → Later x (mount ∷ release v ∷ commit none ∷ []) y out → Reads y mount v out (10 * 4294967296) out
 released-reads x ok v a y out g =
-    mount-unused y (g .ok) v out (g .block-long) (claim-later x false ok v (release v ∷ commit ∷ []) a g .mounts (y .ledger) (g .ledger-long)) (released-there (startPage false (x .disc)) v)
+    mount-unused y (g .ok) v out (g .block-long) (claim-later x false ok v (release v ∷ commit none ∷ []) a g .mounts (y .ledger) (g .ledger-long)) (released-there (startPage false (x .disc)) v)
 
 refused-answer : (d : Disc) (l : List ℕ) (c : Call) (n : ℕ) → outcome d l c ≡ suc n → after d l c .answer ≡ suc n * 4294967296
 unfolding after
@@ -353,12 +354,12 @@ ends-in : (ss : List Sector) (s : Sector) → 0 < length (ss ++ (s ∷ []))
 ends-in ss s = omega (arith, length-append ss (s ∷ []))
 
 -- a commit records sectors exactly if it is done
-kept-table : (d : Disc) (l : List ℕ) (j : ℕ) → kept d l commit j ≡ tableKept commit j (length (sectorsOf d l commit))
+kept-table : (d : Disc) (l : List ℕ) (stamp : Option (List ℕ)) (j : ℕ) → kept d l (commit stamp) j ≡ tableKept (commit stamp) j (length (sectorsOf d l (commit stamp)))
 unfolding sectorsOf effect
-kept-table d l j = go (outcome d l commit)
+kept-table d l stamp j = go (outcome d l (commit stamp))
   where
     ss : List Sector
-    ss = effect d l commit .sectors
+    ss = effect d l (commit stamp) .sectors
 
     go : (n : ℕ) → (eqb n 0 && eqb j (length (sectorsIf n ss))) ≡ (ltb 0 (length (sectorsIf n ss)) && eqb j (length (sectorsIf n ss)))
     go zero = ap (λ (t : Bool). t && eqb j (length ss)) (sym (lt-ltb 0 (length ss) (ends-in (replicate (links (unpack l)) link) _)))
@@ -372,13 +373,14 @@ cut-history d l h mount j = refl
 cut-history d l h (write v block) j = refl
 cut-history d l h (release v) j = refl
 cut-history d l h closePacket j = refl
-cut-history d l h commit j = ap {B = History} (λ t. record { pages = savedIf t (h .draft) (h .pages); draft = none }) (kept-table d l j)
+cut-history d l h (commit stamp) j = ap {B = History} (λ t. record { pages = savedIf t (h .draft) (h .pages); draft = none }) (kept-table d l stamp j)
 cut-history d l h (read v block) j = refl
 cut-history d l h (lookBack k) j = refl
+cut-history d l h (timeOf k answer) j = refl
 
-module _ (x : Day) (fresh : Bool) (ok : x .answer < 4294967296) (v : ℕ) (old new : List ℕ) (c : Call) (j : ℕ) (tear : Option (List ℕ)) where
+module _ (x : Day) (fresh : Bool) (ok : x .answer < 4294967296) (v : ℕ) (stamp : Option (List ℕ)) (old new : List ℕ) (c : Call) (j : ℕ) (tear : Option (List ℕ)) where
   abbrev before-cut : List Call
-  before-cut = write v old ∷ commit ∷ write v new ∷ []
+  before-cut = write v old ∷ commit stamp ∷ write v new ∷ []
 
   abbrev cut-day : Day
   cut-day = day x (opening fresh ∷ before-cut)
@@ -403,8 +405,8 @@ module _ (x : Day) (fresh : Bool) (ok : x .answer < 4294967296) (v : ℕ) (old n
   cut-reads d y out y-ok g alike long whole = go keeps (cut-claim g alike)
     where
       go : (t : Bool) → Claim (y .disc) (record { pages = savedIf t (remembered x fresh before-cut .draft) (remembered x fresh before-cut .pages); draft = none }) → Reads y mount v out 0 (readsOf t old new)
-      go true claim = mount-reads y y-ok v out whole (claim .mounts (y .ledger) long) (written-there (firstPage x fresh v old) v _ new (below-first x fresh ok v old (commit ∷ write v new ∷ []) (g .all-done)))
-      go false claim = mount-reads y y-ok v out whole (claim .mounts (y .ledger) long) (first-there x fresh ok v old (commit ∷ write v new ∷ []) (g .all-done))
+      go true claim = mount-reads y y-ok v out whole (claim .mounts (y .ledger) long) (written-there (firstPage x fresh v old) v _ new (below-first x fresh ok v old (commit stamp ∷ write v new ∷ []) (g .all-done)))
+      go false claim = mount-reads y y-ok v out whole (claim .mounts (y .ledger) long) (first-there x fresh ok v old (commit stamp ∷ write v new ∷ []) (g .all-done))
 
 -- ---- a program that is stopped
 
@@ -412,28 +414,28 @@ unstruck : (t : Bool) (b : ℕ) (d : Disc) → struck t none b d ≡ d
 unstruck true b d = refl
 unstruck false b d = refl
 
-module _ (x : Day) (fresh : Bool) (ok : x .answer < 4294967296) (v : ℕ) (old new : List ℕ) (y : Day) (out : List ℕ) (y-ok : y .answer < 4294967296) (long : length (y .ledger) ≡ ledgerLength) (whole : length out ≡ sectorLength) where
+module _ (x : Day) (fresh : Bool) (ok : x .answer < 4294967296) (v : ℕ) (stamp : Option (List ℕ)) (old new : List ℕ) (y : Day) (out : List ℕ) (y-ok : y .answer < 4294967296) (long : length (y .ledger) ≡ ledgerLength) (whole : length out ≡ sectorLength) where
   abbrev written-day : Day
-  written-day = day x (opening fresh ∷ write v old ∷ commit ∷ write v new ∷ [])
+  written-day = day x (opening fresh ∷ write v old ∷ commit stamp ∷ write v new ∷ [])
 
   -- no sector marked: as if a call that saves nothing had been cut before its first sector
-  pub storing-reads : StoppedStoring x (opening fresh ∷ write v old ∷ commit ∷ write v new ∷ []) (y .disc) → Reads y mount v out 0 old
+  pub storing-reads : StoppedStoring x (opening fresh ∷ write v old ∷ commit stamp ∷ write v new ∷ []) (y .disc) → Reads y mount v out 0 old
   unfolding puts
   storing-reads s =
       let d : Disc = written-day .disc in
-      let ss : List Sector = sectorsBehind x (opening fresh ∷ write v old ∷ commit ∷ write v new ∷ []) mount in
-      let good : Sound d = kept-at x fresh ok (write v old ∷ commit ∷ write v new ∷ []) (s .all-done) .good .sound-disc in
+      let ss : List Sector = sectorsBehind x (opening fresh ∷ write v old ∷ commit stamp ∷ write v new ∷ []) mount in
+      let good : Sound d = kept-at x fresh ok (write v old ∷ commit stamp ∷ write v new ∷ []) (s .all-done) .good .sound-disc in
       let alike : Alike d (y .disc) = subst (λ (ks : List ℕ). Alike d (lent (y .disc .image) ks)) (s .same-kinds) (blank-bytes d good (y .disc .image) (s .same-length) (s .same-recorded)) in
-      cut-reads x fresh ok v old new mount 0 none d y out y-ok
+      cut-reads x fresh ok v stamp old new mount 0 none d y out y-ok
       (record { all-done = s .all-done; within = omega arith; one-sector = tt; is-left = sym (unstruck (ltb 0 (length ss)) (recorded d + 0) d) }) alike long whole
 
   -- the first j sectors marked: as if the call had been cut after them
-  pub marking-reads : (c : Call) (j : ℕ) → StoppedMarking x (opening fresh ∷ write v old ∷ commit ∷ write v new ∷ []) c j (y .disc)
-      → Reads y mount v out 0 (readsOf (tableKept c j (length (sectorsBehind x (opening fresh ∷ write v old ∷ commit ∷ write v new ∷ []) c))) old new)
+  pub marking-reads : (c : Call) (j : ℕ) → StoppedMarking x (opening fresh ∷ write v old ∷ commit stamp ∷ write v new ∷ []) c j (y .disc)
+      → Reads y mount v out 0 (readsOf (tableKept c j (length (sectorsBehind x (opening fresh ∷ write v old ∷ commit stamp ∷ write v new ∷ []) c))) old new)
   marking-reads c j s =
       let d : Disc = written-day .disc in
-      let ss : List Sector = sectorsBehind x (opening fresh ∷ write v old ∷ commit ∷ write v new ∷ []) c in
+      let ss : List Sector = sectorsBehind x (opening fresh ∷ write v old ∷ commit stamp ∷ write v new ∷ []) c in
       let cut : Disc = puts d (recorded d) (take j ss) in
       let alike : Alike cut (y .disc) = subst₂ (λ (i ks : List ℕ). Alike cut (lent i ks)) (s .all-stored) (s .some-marked) (marked-call d (written-day .ledger) c j) in
-      cut-reads x fresh ok v old new c j none cut y out y-ok
+      cut-reads x fresh ok v stamp old new c j none cut y out y-ok
       (record { all-done = s .all-done; within = s .within; one-sector = tt; is-left = sym (unstruck (ltb j (length ss)) (recorded d + j) cut) }) alike long whole

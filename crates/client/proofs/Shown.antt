@@ -57,7 +57,7 @@ module _ (x : Day) (ok : x .answer < 4294967296) (c : Call) {p : Snapshot} (s : 
   reads-entry : after (after (x .disc) (x .ledger) c .disc) behind (read v out) ≡ reads (getD p v unusedEntry)
   reads-entry = ap (λ (d : Disc). after d behind (read v out)) same ∙ s .showing .reads v out long
 
-  reads-page : Reads x c v out (reads (getD p v unusedEntry) .answer) (reads (getD p v unusedEntry) .block)
+  reads-page : Reads x c v out (reads (getD p v unusedEntry) .answer) (reads (getD p v unusedEntry) .buffer)
   unfolding day
   reads-page =
       record {
@@ -65,16 +65,16 @@ module _ (x : Day) (ok : x .answer < 4294967296) (c : Call) {p : Snapshot} (s : 
         told =
             ap (λ (y : Day). y .answer) (first-done x c (read v out ∷ []) ok ∙ first-done (called (x .disc) (x .ledger) c) (read v out) [] small)
             ∙ ap (λ (a : After). a .answer) reads-entry;
-        bytes = ap (λ (y : Day). readAt y v out) (first-done x c [] ok) ∙ ap (λ (a : After). a .block) reads-entry;
+        bytes = ap (λ (y : Day). readAt y v out) (first-done x c [] ok) ∙ ap (λ (a : After). a .buffer) reads-entry;
       }
 
   -- in use: the page's bytes
   reads-block : {b : ℕ} {block : List ℕ} → getD p v unusedEntry ≡ shows b (some block) → Reads x c v out 0 block
-  reads-block e = subst (λ (y : Entry). Reads x c v out (reads y .answer) (reads y .block)) e reads-page
+  reads-block e = subst (λ (y : Entry). Reads x c v out (reads y .answer) (reads y .buffer)) e reads-page
 
   -- not in use: 10, and the lent block as it was
   reads-unused : getD p v unusedEntry ≡ unusedEntry → Reads x c v out (10 * 4294967296) out
-  reads-unused e = subst (λ (y : Entry). Reads x c v out (reads y .answer) (reads y .block)) e reads-page
+  reads-unused e = subst (λ (y : Entry). Reads x c v out (reads y .answer) (reads y .buffer)) e reads-page
 
 module _ (x : Day) (ok : x .answer < 4294967296) {p : Snapshot} (v : ℕ) (out : List ℕ) (long : length out ≡ sectorLength) where
   module _ (s : DoneShowing (x .disc) (x .ledger) mount p) where

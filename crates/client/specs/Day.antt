@@ -9,7 +9,7 @@ use lib.ListN.{length, getD, take}
 use Rattle.vat.specs.Table.{sectorLength, unused}
 use Rattle.disc.specs.Disc.{Disc, lent, Sector, torn, recorded, put, puts}
 use Rattle.volume.specs.Volume.{unpack, grown}
-use Rattle.recorder.specs.Calls.{Call, begin, mount, write, release, closePacket, commit, read, lookBack}
+use Rattle.recorder.specs.Calls.{Call, begin, mount, write, release, closePacket, commit, read, lookBack, timeOf}
 use Rattle.recorder.specs.Effects.{after, sectorsOf}
 
 -- What the last call answered, outcome × 4,294,967,296 + second number; and the disc and the ledger as it left them.
@@ -47,13 +47,13 @@ opening false = mount
 
 -- What number v then reads.
 abbrev pub readAt : Day → ℕ → List ℕ → List ℕ
-readAt x v out = after (x .disc) (x .ledger) (read v out) .block
+readAt x v out = after (x .disc) (x .ledger) (read v out) .buffer
 
 -- A save of number v as a mount then answers and shows it: clean, at the block that commit told, the number at the block that write told, and as many
 -- numbers as before, or one more.
 pub record ShowsSave (x : Day) (start : Call) (v : ℕ) (block : List ℕ) (answer : ℕ) (ledger : List ℕ) : Type 0 where
   pub clean : answer ≡ 1
-  pub table : unpack ledger .last ≡ day x (start ∷ write v block ∷ commit ∷ []) .answer
+  pub table : unpack ledger .last ≡ day x (start ∷ write v block ∷ commit none ∷ []) .answer
   pub entry : getD (unpack ledger .entries) v unused ≡ day x (start ∷ write v block ∷ []) .answer
   pub size :
       let before : ℕ = unpack (day x (start ∷ []) .ledger) .size in
@@ -75,9 +75,10 @@ commits (mount ∷ cs) = commits cs
 commits (write v block ∷ cs) = commits cs
 commits (release v ∷ cs) = commits cs
 commits (closePacket ∷ cs) = commits cs
-commits (commit ∷ cs) = commits cs + 1
+commits (commit stamp ∷ cs) = commits cs + 1
 commits (read v block ∷ cs) = commits cs
 commits (lookBack k ∷ cs) = commits cs
+commits (timeOf k answer ∷ cs) = commits cs
 
 -- What a cut leaves at the call's next sector, if there is one: it stays as it was, or is torn to 2048 bytes of any kind.
 abbrev pub struck : Bool → Option (List ℕ) → ℕ → Disc → Disc
@@ -109,9 +110,10 @@ tableKept mount j n = false
 tableKept (write v block) j n = false
 tableKept (release v) j n = false
 tableKept closePacket j n = false
-tableKept commit j n = ltb 0 n && eqb j n
+tableKept (commit stamp) j n = ltb 0 n && eqb j n
 tableKept (read v block) j n = false
 tableKept (lookBack k) j n = false
+tableKept (timeOf k answer) j n = false
 
 -- What number v reads after the cut: the block of the new save if its table was kept, and else the old one.
 abbrev pub readsOf : Bool → List ℕ → List ℕ → List ℕ

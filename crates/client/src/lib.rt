@@ -1,17 +1,18 @@
-// A host program's days, on lent buffers of any length and content, proved from what the eight calls promise and from the claim about power cuts.
+// A host program's days, on lent buffers of any length and content, proved from what the calls promise and from the claim about power cuts.
 // A day is some calls in a row, the first refusal ends it, and the answer is that of the last call made. The first promise of a function that makes such a
 // day says just that, with every byte of the disc and of the ledger; the other is what its host wants of it: what was saved is read back. The functions at
 // the end look at a disc that an earlier day left: theirs is for every such day.
 ghost use mathlib.Core.Path.{_≡_};
 ghost use mathlib.Core.Bool.{Bool, true};
-ghost use mathlib.Core.List.{List, [], _∷_};
-ghost use mathlib.Core.Option.{Option};
+ghost use mathlib.Core.List.{List, [], _∷_, _++_};
+ghost use mathlib.Core.Option.{Option, none, some};
 ghost use Prim.Native.Nat.{ℕ, _*_, _<_};
 ghost use lib.ListN.{length};
+ghost use Rattle.timestamp.specs.Timestamp.{toldLength, told};
 ghost use Rattle.vat.specs.Table.{sectorLength};
 ghost use Rattle.disc.specs.Disc.{Disc, lent};
 ghost use Rattle.volume.specs.Volume.{ledgerLength, unpack};
-ghost use Rattle.recorder.specs.Calls.{Call, begin, mount, write, release, closePacket, commit, read, lookBack};
+ghost use Rattle.recorder.specs.Calls.{Call, begin, mount, write, release, closePacket, commit, read, lookBack, timeOf};
 ghost use Rattle.alike.specs.Alike.{Alike};
 ghost use Rattle.client.specs.Day.{Day, ended, morning, day, AllDone, opening, readAt, ShowsSave, oneBack, commits, sectorsBehind, CutBehind, tableKept, readsOf, StoppedStoring, StoppedMarking};
 
@@ -55,7 +56,7 @@ fn save(
     v: u32,
     block: &[u8],
 ) -> u64
-    ensures { λ r. ⌜ ended r (now (image .exit)) (now (kinds .exit)) (now (ledger .exit)) ≡ day (morning (now (image .entry)) (now (kinds .entry)) (now (ledger .entry))) (opening fresh ∷ write v (now (block .entry)) ∷ commit ∷ []) ⌝ }
+    ensures { λ r. ⌜ ended r (now (image .exit)) (now (kinds .exit)) (now (ledger .exit)) ≡ day (morning (now (image .entry)) (now (kinds .entry)) (now (ledger .entry))) (opening fresh ∷ write v (now (block .entry)) ∷ commit none ∷ []) ⌝ }
 {
     let written = write_first(image, kinds, ledger, fresh, v, block);
     if REFUSED <= written {
@@ -73,8 +74,8 @@ pub fn save_and_mount(
     v: u32,
     block: &[u8],
 ) -> u64
-    ensures { λ r. ⌜ ended r (now (image .exit)) (now (kinds .exit)) (now (ledger .exit)) ≡ day (morning (now (image .entry)) (now (kinds .entry)) (now (ledger .entry))) (opening fresh ∷ write v (now (block .entry)) ∷ commit ∷ mount ∷ []) ⌝ }
-    ensures { λ r. ⌜ (AllDone (morning (now (image .entry)) (now (kinds .entry)) (now (ledger .entry))) (opening fresh ∷ write v (now (block .entry)) ∷ commit ∷ []) → ShowsSave (morning (now (image .entry)) (now (kinds .entry)) (now (ledger .entry))) (opening fresh) v (now (block .entry)) r (now (ledger .exit))) ⌝ }
+    ensures { λ r. ⌜ ended r (now (image .exit)) (now (kinds .exit)) (now (ledger .exit)) ≡ day (morning (now (image .entry)) (now (kinds .entry)) (now (ledger .entry))) (opening fresh ∷ write v (now (block .entry)) ∷ commit none ∷ mount ∷ []) ⌝ }
+    ensures { λ r. ⌜ (AllDone (morning (now (image .entry)) (now (kinds .entry)) (now (ledger .entry))) (opening fresh ∷ write v (now (block .entry)) ∷ commit none ∷ []) → ShowsSave (morning (now (image .entry)) (now (kinds .entry)) (now (ledger .entry))) (opening fresh) v (now (block .entry)) r (now (ledger .exit))) ⌝ }
 {
     let saved = save(image, kinds, ledger, fresh, v, block);
     if REFUSED <= saved {
@@ -93,14 +94,54 @@ pub fn save_and_read(
     block: &[u8],
     out: &mut [u8],
 ) -> u64
-    ensures { λ r. ⌜ ended r (now (image .exit)) (now (kinds .exit)) (now (ledger .exit)) ≡ day (morning (now (image .entry)) (now (kinds .entry)) (now (ledger .entry))) (opening fresh ∷ write v (now (block .entry)) ∷ commit ∷ mount ∷ read v (now (out .entry)) ∷ []) ⌝ }
-    ensures { λ r. ⌜ (AllDone (morning (now (image .entry)) (now (kinds .entry)) (now (ledger .entry))) (opening fresh ∷ write v (now (block .entry)) ∷ commit ∷ []) → length (now (out .entry)) ≡ sectorLength → (r ≡ 0) × (now (out .exit) ≡ now (block .entry))) ⌝ }
+    ensures { λ r. ⌜ ended r (now (image .exit)) (now (kinds .exit)) (now (ledger .exit)) ≡ day (morning (now (image .entry)) (now (kinds .entry)) (now (ledger .entry))) (opening fresh ∷ write v (now (block .entry)) ∷ commit none ∷ mount ∷ read v (now (out .entry)) ∷ []) ⌝ }
+    ensures { λ r. ⌜ (AllDone (morning (now (image .entry)) (now (kinds .entry)) (now (ledger .entry))) (opening fresh ∷ write v (now (block .entry)) ∷ commit none ∷ []) → length (now (out .entry)) ≡ sectorLength → (r ≡ 0) × (now (out .exit) ≡ now (block .entry))) ⌝ }
 {
     let shown = save_and_mount(image, kinds, ledger, fresh, v, block);
     if REFUSED <= shown {
         return shown;
     }
     station::station_read(image, kinds, ledger, v, out)
+}
+
+// Number v is written and saved with a time.
+fn save_at(
+    image: &mut [u8],
+    kinds: &mut [u8],
+    ledger: &mut [u8],
+    fresh: bool,
+    v: u32,
+    block: &[u8],
+    stamp: &[u8],
+) -> u64
+    ensures { λ r. ⌜ ended r (now (image .exit)) (now (kinds .exit)) (now (ledger .exit)) ≡ day (morning (now (image .entry)) (now (kinds .entry)) (now (ledger .entry))) (opening fresh ∷ write v (now (block .entry)) ∷ commit (some (now (stamp .entry))) ∷ []) ⌝ }
+{
+    let written = write_first(image, kinds, ledger, fresh, v, block);
+    if REFUSED <= written {
+        return written;
+    }
+    station::station_commit_at(image, kinds, ledger, stamp)
+}
+
+// Such a save tells its time.
+pub fn save_at_and_tell(
+    image: &mut [u8],
+    kinds: &mut [u8],
+    ledger: &mut [u8],
+    fresh: bool,
+    v: u32,
+    block: &[u8],
+    stamp: &[u8],
+    answer: &mut [u8],
+) -> u64
+    ensures { λ r. ⌜ ended r (now (image .exit)) (now (kinds .exit)) (now (ledger .exit)) ≡ day (morning (now (image .entry)) (now (kinds .entry)) (now (ledger .entry))) (opening fresh ∷ write v (now (block .entry)) ∷ commit (some (now (stamp .entry))) ∷ timeOf 0 (now (answer .entry)) ∷ []) ⌝ }
+    ensures { λ r. ⌜ (AllDone (morning (now (image .entry)) (now (kinds .entry)) (now (ledger .entry))) (opening fresh ∷ write v (now (block .entry)) ∷ commit (some (now (stamp .entry))) ∷ []) → length (now (answer .entry)) ≡ toldLength → (r ≡ 0) × (now (answer .exit) ≡ told (now (stamp .entry)))) ⌝ }
+{
+    let saved = save_at(image, kinds, ledger, fresh, v, block, stamp);
+    if REFUSED <= saved {
+        return saved;
+    }
+    station::station_time_of(image, kinds, ledger, 0, answer)
 }
 
 // One save back stands the table that was mounted; before a first save there is none.
@@ -112,8 +153,8 @@ pub fn save_and_look_back(
     v: u32,
     block: &[u8],
 ) -> u64
-    ensures { λ r. ⌜ ended r (now (image .exit)) (now (kinds .exit)) (now (ledger .exit)) ≡ day (morning (now (image .entry)) (now (kinds .entry)) (now (ledger .entry))) (opening fresh ∷ write v (now (block .entry)) ∷ commit ∷ lookBack 1 ∷ []) ⌝ }
-    ensures { λ r. ⌜ (AllDone (morning (now (image .entry)) (now (kinds .entry)) (now (ledger .entry))) (opening fresh ∷ write v (now (block .entry)) ∷ commit ∷ []) → r ≡ oneBack (unpack (day (morning (now (image .entry)) (now (kinds .entry)) (now (ledger .entry))) (opening fresh ∷ []) .ledger) .last)) ⌝ }
+    ensures { λ r. ⌜ ended r (now (image .exit)) (now (kinds .exit)) (now (ledger .exit)) ≡ day (morning (now (image .entry)) (now (kinds .entry)) (now (ledger .entry))) (opening fresh ∷ write v (now (block .entry)) ∷ commit none ∷ lookBack 1 ∷ []) ⌝ }
+    ensures { λ r. ⌜ (AllDone (morning (now (image .entry)) (now (kinds .entry)) (now (ledger .entry))) (opening fresh ∷ write v (now (block .entry)) ∷ commit none ∷ []) → r ≡ oneBack (unpack (day (morning (now (image .entry)) (now (kinds .entry)) (now (ledger .entry))) (opening fresh ∷ []) .ledger) .last)) ⌝ }
 {
     let saved = save(image, kinds, ledger, fresh, v, block);
     if REFUSED <= saved {
@@ -160,7 +201,7 @@ fn show_back(image: &[u8], kinds: &[u8], ledger: &mut [u8], k: u32, v: u32, out:
 
 // The packet is closed behind the block, so that links stand before the table.
 fn save_apart(image: &mut [u8], kinds: &mut [u8], ledger: &mut [u8], v: u32, block: &[u8]) -> u64
-    ensures { λ r. ⌜ ended r (now (image .exit)) (now (kinds .exit)) (now (ledger .exit)) ≡ day (morning (now (image .entry)) (now (kinds .entry)) (now (ledger .entry))) (write v (now (block .entry)) ∷ closePacket ∷ commit ∷ []) ⌝ }
+    ensures { λ r. ⌜ ended r (now (image .exit)) (now (kinds .exit)) (now (ledger .exit)) ≡ day (morning (now (image .entry)) (now (kinds .entry)) (now (ledger .entry))) (write v (now (block .entry)) ∷ closePacket ∷ commit none ∷ []) ⌝ }
 {
     let written = station::station_write(image, kinds, ledger, v, block);
     if REFUSED <= written {
@@ -185,8 +226,8 @@ pub fn save_twice(
     old: &mut [u8],
     new: &mut [u8],
 ) -> u64
-    ensures { λ r. ⌜ ended r (now (image .exit)) (now (kinds .exit)) (now (ledger .exit)) ≡ day (morning (now (image .entry)) (now (kinds .entry)) (now (ledger .entry))) (opening fresh ∷ write v (now (x .entry)) ∷ commit ∷ write v (now (y .entry)) ∷ closePacket ∷ commit ∷ lookBack 1 ∷ read v (now (old .entry)) ∷ mount ∷ read v (now (new .entry)) ∷ []) ⌝ }
-    ensures { λ r. ⌜ (AllDone (morning (now (image .entry)) (now (kinds .entry)) (now (ledger .entry))) (opening fresh ∷ write v (now (x .entry)) ∷ commit ∷ write v (now (y .entry)) ∷ closePacket ∷ commit ∷ []) → length (now (old .entry)) ≡ sectorLength → length (now (new .entry)) ≡ sectorLength → (r ≡ 0) × (now (old .exit) ≡ now (x .entry)) × (now (new .exit) ≡ now (y .entry))) ⌝ }
+    ensures { λ r. ⌜ ended r (now (image .exit)) (now (kinds .exit)) (now (ledger .exit)) ≡ day (morning (now (image .entry)) (now (kinds .entry)) (now (ledger .entry))) (opening fresh ∷ write v (now (x .entry)) ∷ commit none ∷ write v (now (y .entry)) ∷ closePacket ∷ commit none ∷ lookBack 1 ∷ read v (now (old .entry)) ∷ mount ∷ read v (now (new .entry)) ∷ []) ⌝ }
+    ensures { λ r. ⌜ (AllDone (morning (now (image .entry)) (now (kinds .entry)) (now (ledger .entry))) (opening fresh ∷ write v (now (x .entry)) ∷ commit none ∷ write v (now (y .entry)) ∷ closePacket ∷ commit none ∷ []) → length (now (old .entry)) ≡ sectorLength → length (now (new .entry)) ≡ sectorLength → (r ≡ 0) × (now (old .exit) ≡ now (x .entry)) × (now (new .exit) ≡ now (y .entry))) ⌝ }
 {
     let first = save(image, kinds, ledger, fresh, v, x);
     if REFUSED <= first {
@@ -205,7 +246,7 @@ pub fn save_twice(
 
 // Number v is released and the rest is saved.
 fn forget(image: &mut [u8], kinds: &mut [u8], ledger: &mut [u8], v: u32) -> u64
-    ensures { λ r. ⌜ ended r (now (image .exit)) (now (kinds .exit)) (now (ledger .exit)) ≡ day (morning (now (image .entry)) (now (kinds .entry)) (now (ledger .entry))) (mount ∷ release v ∷ commit ∷ []) ⌝ }
+    ensures { λ r. ⌜ ended r (now (image .exit)) (now (kinds .exit)) (now (ledger .exit)) ≡ day (morning (now (image .entry)) (now (kinds .entry)) (now (ledger .entry))) (mount ∷ release v ∷ commit none ∷ []) ⌝ }
 {
     let opened = open_disc(image, kinds, ledger, false);
     if REFUSED <= opened {
@@ -226,8 +267,8 @@ pub fn forget_and_read(
     v: u32,
     out: &mut [u8],
 ) -> u64
-    ensures { λ r. ⌜ ended r (now (image .exit)) (now (kinds .exit)) (now (ledger .exit)) ≡ day (morning (now (image .entry)) (now (kinds .entry)) (now (ledger .entry))) (mount ∷ release v ∷ commit ∷ mount ∷ read v (now (out .entry)) ∷ []) ⌝ }
-    ensures { λ r. ⌜ (AllDone (morning (now (image .entry)) (now (kinds .entry)) (now (ledger .entry))) (mount ∷ release v ∷ commit ∷ []) → length (now (out .entry)) ≡ sectorLength → (r ≡ 10 * 4294967296) × (now (out .exit) ≡ now (out .entry))) ⌝ }
+    ensures { λ r. ⌜ ended r (now (image .exit)) (now (kinds .exit)) (now (ledger .exit)) ≡ day (morning (now (image .entry)) (now (kinds .entry)) (now (ledger .entry))) (mount ∷ release v ∷ commit none ∷ mount ∷ read v (now (out .entry)) ∷ []) ⌝ }
+    ensures { λ r. ⌜ (AllDone (morning (now (image .entry)) (now (kinds .entry)) (now (ledger .entry))) (mount ∷ release v ∷ commit none ∷ []) → length (now (out .entry)) ≡ sectorLength → (r ≡ 10 * 4294967296) × (now (out .exit) ≡ now (out .entry))) ⌝ }
 {
     let saved = forget(image, kinds, ledger, v);
     if REFUSED <= saved {
@@ -245,15 +286,24 @@ pub fn long_ago(
     v: u32,
     out: &mut [u8],
 ) -> u64
-    ensures { λ r. ⌜ ((start : Day) (fresh : Bool) (x : List ℕ) (since : List Call) → start .answer < 4294967296 → AllDone start (opening fresh ∷ write v x ∷ commit ∷ since) → commits since ≡ k → (lent (now (image .entry)) (now (kinds .entry))) ≡ day start (opening fresh ∷ write v x ∷ commit ∷ since) .disc → length (now (ledger .entry)) ≡ ledgerLength → length (now (out .entry)) ≡ sectorLength → (r ≡ 0) × (now (out .exit) ≡ x)) ⌝ }
+    ensures { λ r. ⌜ ((start : Day) (fresh : Bool) (stamp : Option (List ℕ)) (x : List ℕ) (since : List Call) → start .answer < 4294967296 → AllDone start (opening fresh ∷ write v x ∷ commit stamp ∷ since) → commits since ≡ k → (lent (now (image .entry)) (now (kinds .entry))) ≡ day start (opening fresh ∷ write v x ∷ commit stamp ∷ since) .disc → length (now (ledger .entry)) ≡ ledgerLength → length (now (out .entry)) ≡ sectorLength → (r ≡ 0) × (now (out .exit) ≡ x)) ⌝ }
 {
     show_back(image, kinds, ledger, k, v, out)
+}
+
+// Whatever was done before a commit and since, with k commits among what came since: k saves back its time is told, and 16 of a commit without one. Any
+// 1,848 bytes will do as ledger.
+pub fn told_long_ago(image: &[u8], kinds: &[u8], ledger: &[u8], k: u32, answer: &mut [u8]) -> u64
+    ensures { λ r. ⌜ ((start : Day) (fresh : Bool) (before since : List Call) (stamp : List ℕ) → start .answer < 4294967296 → AllDone start (opening fresh ∷ (before ++ (commit (some stamp) ∷ since))) → commits since ≡ k → (lent (now (image .entry)) (now (kinds .entry))) ≡ day start (opening fresh ∷ (before ++ (commit (some stamp) ∷ since))) .disc → length (now (ledger .entry)) ≡ ledgerLength → length (now (answer .entry)) ≡ toldLength → (r ≡ 0) × (now (answer .exit) ≡ told stamp)) ⌝ }
+    ensures { λ r. ⌜ ((start : Day) (fresh : Bool) (before since : List Call) → start .answer < 4294967296 → AllDone start (opening fresh ∷ (before ++ (commit none ∷ since))) → commits since ≡ k → (lent (now (image .entry)) (now (kinds .entry))) ≡ day start (opening fresh ∷ (before ++ (commit none ∷ since))) .disc → length (now (ledger .entry)) ≡ ledgerLength → length (now (answer .entry)) ≡ toldLength → (r ≡ 16 * 4294967296) × (now (answer .exit) ≡ now (answer .entry))) ⌝ }
+{
+    station::station_time_of(image, kinds, ledger, k, answer)
 }
 
 // The morning after a power cut. After a save of x and a write of y, whatever call was cut, and after however many of its sectors: v reads y if that call
 // was a commit and kept its table, and else x. Any 1,848 bytes will do as ledger, and any bytes in the sectors that are not data.
 pub fn after_cut(image: &[u8], kinds: &[u8], ledger: &mut [u8], v: u32, out: &mut [u8]) -> u64
-    ensures { λ r. ⌜ ((start : Day) (fresh : Bool) (x y : List ℕ) (c : Call) (j : ℕ) (tear : Option (List ℕ)) (left : Disc) → start .answer < 4294967296 → CutBehind start (opening fresh ∷ write v x ∷ commit ∷ write v y ∷ []) c j tear left → Alike left (lent (now (image .entry)) (now (kinds .entry))) → length (now (ledger .entry)) ≡ ledgerLength → length (now (out .entry)) ≡ sectorLength → (r ≡ 0) × (now (out .exit) ≡ readsOf (tableKept c j (length (sectorsBehind start (opening fresh ∷ write v x ∷ commit ∷ write v y ∷ []) c))) x y)) ⌝ }
+    ensures { λ r. ⌜ ((start : Day) (fresh : Bool) (stamp : Option (List ℕ)) (x y : List ℕ) (c : Call) (j : ℕ) (tear : Option (List ℕ)) (left : Disc) → start .answer < 4294967296 → CutBehind start (opening fresh ∷ write v x ∷ commit stamp ∷ write v y ∷ []) c j tear left → Alike left (lent (now (image .entry)) (now (kinds .entry))) → length (now (ledger .entry)) ≡ ledgerLength → length (now (out .entry)) ≡ sectorLength → (r ≡ 0) × (now (out .exit) ≡ readsOf (tableKept c j (length (sectorsBehind start (opening fresh ∷ write v x ∷ commit stamp ∷ write v y ∷ []) c))) x y)) ⌝ }
 {
     show(image, kinds, ledger, v, out)
 }
@@ -261,8 +311,8 @@ pub fn after_cut(image: &[u8], kinds: &[u8], ledger: &mut [u8], v: u32, out: &mu
 // The morning after a crash of a program that keeps the disc in a file, and stores the bytes of what a call records before it marks the sectors as
 // recorded. It is a cut: stopped while it stored, v reads x; stopped after j marks, what it reads after a cut of j sectors.
 pub fn after_crash(image: &[u8], kinds: &[u8], ledger: &mut [u8], v: u32, out: &mut [u8]) -> u64
-    ensures { λ r. ⌜ ((start : Day) (fresh : Bool) (x y : List ℕ) → start .answer < 4294967296 → StoppedStoring start (opening fresh ∷ write v x ∷ commit ∷ write v y ∷ []) (lent (now (image .entry)) (now (kinds .entry))) → length (now (ledger .entry)) ≡ ledgerLength → length (now (out .entry)) ≡ sectorLength → (r ≡ 0) × (now (out .exit) ≡ x)) ⌝ }
-    ensures { λ r. ⌜ ((start : Day) (fresh : Bool) (x y : List ℕ) (c : Call) (j : ℕ) → start .answer < 4294967296 → StoppedMarking start (opening fresh ∷ write v x ∷ commit ∷ write v y ∷ []) c j (lent (now (image .entry)) (now (kinds .entry))) → length (now (ledger .entry)) ≡ ledgerLength → length (now (out .entry)) ≡ sectorLength → (r ≡ 0) × (now (out .exit) ≡ readsOf (tableKept c j (length (sectorsBehind start (opening fresh ∷ write v x ∷ commit ∷ write v y ∷ []) c))) x y)) ⌝ }
+    ensures { λ r. ⌜ ((start : Day) (fresh : Bool) (stamp : Option (List ℕ)) (x y : List ℕ) → start .answer < 4294967296 → StoppedStoring start (opening fresh ∷ write v x ∷ commit stamp ∷ write v y ∷ []) (lent (now (image .entry)) (now (kinds .entry))) → length (now (ledger .entry)) ≡ ledgerLength → length (now (out .entry)) ≡ sectorLength → (r ≡ 0) × (now (out .exit) ≡ x)) ⌝ }
+    ensures { λ r. ⌜ ((start : Day) (fresh : Bool) (stamp : Option (List ℕ)) (x y : List ℕ) (c : Call) (j : ℕ) → start .answer < 4294967296 → StoppedMarking start (opening fresh ∷ write v x ∷ commit stamp ∷ write v y ∷ []) c j (lent (now (image .entry)) (now (kinds .entry))) → length (now (ledger .entry)) ≡ ledgerLength → length (now (out .entry)) ≡ sectorLength → (r ≡ 0) × (now (out .exit) ≡ readsOf (tableKept c j (length (sectorsBehind start (opening fresh ∷ write v x ∷ commit stamp ∷ write v y ∷ []) c))) x y)) ⌝ }
 {
     show(image, kinds, ledger, v, out)
 }

@@ -34,8 +34,8 @@ unfoldable pub commits : World → History → ℕ → List Snapshot → Snapsho
 commits w h n ps draft =
     let l : List ℕ = ledgerHeld (w .ledger) [] in
     held (w .ledger)
-    && (eqb (outcome (w .disc) l commit) 0
-    && (eqb (length (sectorsOf (w .disc) l commit)) n && (same-pages (h .pages) ps && same-draft (h .draft) draft)))
+    && (eqb (outcome (w .disc) l (commit none)) 0
+    && (eqb (length (sectorsOf (w .disc) l (commit none))) n && (same-pages (h .pages) ps && same-draft (h .draft) draft)))
 
 unfoldable pub commit-works : Disc → Call → History → List Event → ℕ → List Snapshot → Snapshot → Bool
 unfolding opened same same-entry same-page same-pages cutDisc next fed feed played held same-draft commits
@@ -47,8 +47,8 @@ commit-works d c h es n ps draft =
 
 record Commits (w : World) (h : History) (n : ℕ) (ps : List Snapshot) (p : Snapshot) : Type 0 where
   has-state : w .ledger ≡ none → ⊥
-  is-done : outcome (w .disc) (ledgerHeld (w .ledger) []) commit ≡ 0
-  sectors : length (sectorsOf (w .disc) (ledgerHeld (w .ledger) []) commit) ≡ n
+  is-done : outcome (w .disc) (ledgerHeld (w .ledger) []) (commit none) ≡ 0
+  sectors : length (sectorsOf (w .disc) (ledgerHeld (w .ledger) []) (commit none)) ≡ n
   pages : h .pages ≡ ps
   draft : h .draft ≡ some p
 
@@ -66,8 +66,8 @@ commits-so : (w : World) (h : History) (n : ℕ) (ps : List Snapshot) (draft : S
 unfolding commits
 commits-so w h n ps draft t =
     let l : List ℕ = ledgerHeld (w .ledger) [] in
-    let done : Bool = eqb (outcome (w .disc) l commit) 0 in
-    let counted : Bool = eqb (length (sectorsOf (w .disc) l commit)) n in
+    let done : Bool = eqb (outcome (w .disc) l (commit none)) 0 in
+    let counted : Bool = eqb (length (sectorsOf (w .disc) l (commit none))) n in
     let paged : Bool = same-pages (h .pages) ps in
     let drafted : Bool = same-draft (h .draft) draft in
     let a = both (held (w .ledger)) (done && (counted && (paged && drafted))) t in
@@ -76,8 +76,8 @@ commits-so w h n ps draft t =
     let e = both paged drafted (c .1) in
     record {
       has-state = held-some (w .ledger) (a .0);
-      is-done = eqb→eq (outcome (w .disc) l commit) 0 (b .0);
-      sectors = eqb→eq (length (sectorsOf (w .disc) l commit)) n (c .0);
+      is-done = eqb→eq (outcome (w .disc) l (commit none)) 0 (b .0);
+      sectors = eqb→eq (length (sectorsOf (w .disc) l (commit none))) n (c .0);
       pages = pages-same (h .pages) ps (e .0);
       draft = draft-same (h .draft) draft (e .1);
     }
@@ -97,7 +97,7 @@ remembered-then (x ∷ es) w h e = remembered-then es (next w x) (feed h (fed w 
 -- ---- the cut
 
 cut-feeds : (w : World) (h : History) (n : ℕ) (ps : List Snapshot) (draft : Snapshot) → Commits w h n ps draft → (j : ℕ) (tear : Option (List ℕ))
-    → feed h (fed w (cuts commit [] j tear)) .pages ≡ savedIf (eqb j n) (some draft) ps
+    → feed h (fed w (cuts (commit none) [] j tear)) .pages ≡ savedIf (eqb j n) (some draft) ps
 unfolding feed fed
 cut-feeds w h n ps draft c j tear = rw (c .is-done, c .sectors, c .pages, c .draft)
 
@@ -120,11 +120,11 @@ module _ (d : Disc) (c : Call) (h : History) (es : List Event) (n : ℕ) (ps : L
   pub cut-started : outcome d full c ≡ 0
   cut-started = eqb→eq (outcome d full c) 0 (parts .0)
 
-  pub cut-allowed : (j : ℕ) → j ≤ n → (tear : Option (List ℕ)) → Torn tear → AllAllowed w (es ++ (cuts commit [] j tear ∷ []))
+  pub cut-allowed : (j : ℕ) → j ≤ n → (tear : Option (List ℕ)) → Torn tear → AllAllowed w (es ++ (cuts (commit none) [] j tear ∷ []))
   cut-allowed j most tear long =
-      allowed-then es w (cuts commit [] j tear) (all-allowed es true w h (parts .1 .0) .1)
+      allowed-then es w (cuts (commit none) [] j tear) (all-allowed es true w h (parts .1 .0) .1)
       ((λ lost done. absurd (ready .has-state lost)), subst (λ (k : ℕ). j ≤ k) (sym (ready .sectors)) most, long)
 
-  pub cut-pages : (j : ℕ) (tear : Option (List ℕ)) → remembers w h (es ++ (cuts commit [] j tear ∷ [])) .pages ≡ savedIf (eqb j n) (some draft) ps
+  pub cut-pages : (j : ℕ) (tear : Option (List ℕ)) → remembers w h (es ++ (cuts (commit none) [] j tear ∷ [])) .pages ≡ savedIf (eqb j n) (some draft) ps
   cut-pages j tear =
-      ap (λ (x : History). x .pages) (remembered-then es w h (cuts commit [] j tear)) ∙ cut-feeds (runs w es) (remembers w h es) n ps draft ready j tear
+      ap (λ (x : History). x .pages) (remembered-then es w h (cuts (commit none) [] j tear)) ∙ cut-feeds (runs w es) (remembers w h es) n ps draft ready j tear

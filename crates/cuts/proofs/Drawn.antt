@@ -33,11 +33,11 @@ use Rattle.cuts.proofs.Lists.{scratched, on-scratched, scratched-pages,
 -- What read of n leaves, lent any 2,048 bytes: disc and ledger as they were, the bytes where they can be read, else a refusal and the block as lent.
 abbrev pub ReadsAs : Disc → List ℕ → ℕ → Entry → Type 0
 ReadsAs d l n unusedEntry =
-    (lent : List ℕ) → length lent ≡ 2048 → after d l (read n lent) ≡ record { answer = 10 * 4294967296; disc = d; ledger = l; block = lent }
+    (lent : List ℕ) → length lent ≡ 2048 → after d l (read n lent) ≡ record { answer = 10 * 4294967296; disc = d; ledger = l; buffer = lent }
 ReadsAs d l n (shows b (some bytes)) =
-    (lent : List ℕ) → length lent ≡ 2048 → after d l (read n lent) ≡ record { answer = 0; disc = d; ledger = l; block = bytes }
+    (lent : List ℕ) → length lent ≡ 2048 → after d l (read n lent) ≡ record { answer = 0; disc = d; ledger = l; buffer = bytes }
 ReadsAs d l n (shows b none) =
-    (lent : List ℕ) → length lent ≡ 2048 → after d l (read n lent) ≡ record { answer = 11 * 4294967296; disc = d; ledger = l; block = lent }
+    (lent : List ℕ) → length lent ≡ 2048 → after d l (read n lent) ≡ record { answer = 11 * 4294967296; disc = d; ledger = l; buffer = lent }
 
 -- The block that a number stands for.
 abbrev pub StandsFor : List ℕ → ℕ → Entry → Type 0
@@ -128,9 +128,9 @@ mounted-gives d es ps t =
 
 cut-gives : (n : ℕ) (es : List Event) (k : ℕ) (ps : List Snapshot) (draft : Snapshot) → T (commit-works (blank n) begin begunHistory es k ps draft)
     → (j : ℕ) → j ≤ k → (tear : Option (List ℕ)) → Torn tear
-    → Gives (runs (start n) (es ++ (cuts commit [] j tear ∷ [])) .disc) (savedIf (eqb j k) (some draft) ps)
+    → Gives (runs (start n) (es ++ (cuts (commit none) [] j tear ∷ [])) .disc) (savedIf (eqb j k) (some draft) ps)
 cut-gives n es k ps draft t j most tear long =
-    let fs : List Event = es ++ (cuts commit [] j tear ∷ []) in
+    let fs : List Event = es ++ (cuts (commit none) [] j tear ∷ []) in
     gives (runs (start n) fs .disc) (remembers (start n) begunHistory fs)
     (power-cuts .after-begin (blank n) full (cut-started (blank n) begin begunHistory es k ps draft t) fs (cut-allowed (blank n) begin begunHistory es k ps draft t j most tear long))
     (savedIf (eqb j k) (some draft) ps) (cut-pages (blank n) begin begunHistory es k ps draft t j tear)
@@ -155,7 +155,7 @@ allowed-three-back = works-allowed (blank 14) begin begunHistory three-back thre
 pub allowed-on-scratched : AllAllowed (afterCall scratched full mount) on-scratched
 allowed-on-scratched = works-allowed scratched mount (mountedHistory scratched) on-scratched scratched-pages shown-on-scratched
 
-pub allowed-cut : (j : ℕ) → j ≤ 8 → (tear : Option (List ℕ)) → Torn tear → AllAllowed (start 11) (before-the-cut ++ (cuts commit [] j tear ∷ []))
+pub allowed-cut : (j : ℕ) → j ≤ 8 → (tear : Option (List ℕ)) → Torn tear → AllAllowed (start 11) (before-the-cut ++ (cuts (commit none) [] j tear ∷ []))
 allowed-cut = cut-allowed (blank 11) begin begunHistory before-the-cut 8 (old-page ∷ []) new-page shown-before-the-cut
 
 -- ---- what the claim gives for each list
@@ -180,14 +180,14 @@ drawn-on-scratched = mounted-gives scratched on-scratched scratched-pages shown-
 
 -- whatever the struck sector holds
 pub drawn-cut-short : (j : ℕ) → j < 8 → (tear : Option (List ℕ)) → Torn tear
-    → Gives (runs (start 11) (before-the-cut ++ (cuts commit [] j tear ∷ [])) .disc) (old-page ∷ [])
+    → Gives (runs (start 11) (before-the-cut ++ (cuts (commit none) [] j tear ∷ [])) .disc) (old-page ∷ [])
 drawn-cut-short j below tear long =
     let short : eqb j 8 ≡ false = ne-eqb j 8 (λ q. omega (arith, below, q)) in
-    subst (λ (t : Bool). Gives (runs (start 11) (before-the-cut ++ (cuts commit [] j tear ∷ [])) .disc) (savedIf t (some new-page) (old-page ∷ []))) short
+    subst (λ (t : Bool). Gives (runs (start 11) (before-the-cut ++ (cuts (commit none) [] j tear ∷ [])) .disc) (savedIf t (some new-page) (old-page ∷ []))) short
     (cut-gives 11 before-the-cut 8 (old-page ∷ []) new-page shown-before-the-cut j (omega (arith, below)) tear long)
 
 pub drawn-cut-at-the-end : (tear : Option (List ℕ)) → Torn tear
-    → Gives (runs (start 11) (before-the-cut ++ (cuts commit [] 8 tear ∷ [])) .disc) (new-page ∷ old-page ∷ [])
+    → Gives (runs (start 11) (before-the-cut ++ (cuts (commit none) [] 8 tear ∷ [])) .disc) (new-page ∷ old-page ∷ [])
 drawn-cut-at-the-end tear long = cut-gives 11 before-the-cut 8 (old-page ∷ []) new-page shown-before-the-cut 8 (lit≤ tt) tear long
 
 -- ---- some of it, written out
@@ -198,12 +198,12 @@ module _ (l lent : List ℕ) (ledger-lent : length l ≡ 1848) (block-lent : len
   back k = after (runs (start 14) three-back .disc) l (lookBack k) .ledger
 
   pub reads-three-back : after (runs (start 14) three-back .disc) (back 3) (read 0 lent)
-      ≡ record { answer = 0; disc = runs (start 14) three-back .disc; ledger = back 3; block = block 1 }
+      ≡ record { answer = 0; disc = runs (start 14) three-back .disc; ledger = back 3; buffer = block 1 }
   unfolding three-back-pages
   reads-three-back = drawn-three-back .1 .1 .1 .1 .0 l ledger-lent .1 .0 .1 lent block-lent
 
   pub reads-one-back : after (runs (start 14) three-back .disc) (back 1) (read 0 lent)
-      ≡ record { answer = 10 * 4294967296; disc = runs (start 14) three-back .disc; ledger = back 1; block = lent }
+      ≡ record { answer = 10 * 4294967296; disc = runs (start 14) three-back .disc; ledger = back 1; buffer = lent }
   unfolding three-back-pages
   reads-one-back = drawn-three-back .1 .1 .0 l ledger-lent .1 .0 .1 lent block-lent
 
@@ -212,6 +212,6 @@ module _ (l lent : List ℕ) (ledger-lent : length l ≡ 1848) (block-lent : len
   found = after (runs (afterCall scratched full mount) on-scratched .disc) l mount .ledger
 
   pub reads-scratched : after (runs (afterCall scratched full mount) on-scratched .disc) found (read 0 lent)
-      ≡ record { answer = 11 * 4294967296; disc = runs (afterCall scratched full mount) on-scratched .disc; ledger = found; block = lent }
+      ≡ record { answer = 11 * 4294967296; disc = runs (afterCall scratched full mount) on-scratched .disc; ledger = found; buffer = lent }
   unfolding scratched-pages
   reads-scratched = drawn-on-scratched .0 l ledger-lent .1 .0 .1 lent block-lent

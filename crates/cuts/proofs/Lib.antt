@@ -3,3 +3,4 @@ pub mod Worked
 pub mod CutCommit
 pub mod Lists
 pub mod Drawn
+pub mod Dated

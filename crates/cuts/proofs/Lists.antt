@@ -9,7 +9,7 @@ use mathlib.Core.Option.{none, some}
 use lib.Dec.{T, eqb}
 use lib.ListN.{length, getD}
 use Rattle.vat.specs.Table.{unused}
-use Rattle.vat.specs.Sector.{sector}
+use Rattle.vat.specs.Sector.{noStamp, sector}
 use Rattle.disc.specs.Disc.{Disc, plain, torn, puts}
 use Rattle.volume.specs.Volume.{unpack}
 use Rattle.recorder.specs.Calls.{begin, mount, write, release, closePacket, commit, lookBack}
@@ -33,7 +33,7 @@ begun-works n es ps = works (blank n) begin begunHistory es ps
 -- begin, write, commit, a commit cut in the links, look back, mount
 unfoldable pub in-the-links : List Event
 in-the-links =
-    calls (write 0 (block 5)) [] ∷ calls commit [] ∷ calls closePacket [] ∷ cuts commit [] 3 (some (block 9)) ∷ calls (lookBack 0) full ∷ calls mount full ∷ []
+    calls (write 0 (block 5)) [] ∷ calls (commit none) [] ∷ calls closePacket [] ∷ cuts (commit none) [] 3 (some (block 9)) ∷ calls (lookBack 0) full ∷ calls mount full ∷ []
 
 unfoldable pub in-the-links-pages : List Snapshot
 in-the-links-pages = (shows 0 (some (block 5)) ∷ []) ∷ []
@@ -53,7 +53,7 @@ shown-no-table-yet = tt
 -- the same, then begin, and a save
 unfoldable pub before-the-first-table : List Event
 before-the-first-table =
-    cuts (write 0 (block 4)) [] 1 none ∷ calls mount full ∷ calls begin [] ∷ calls begin full ∷ calls (write 0 (block 6)) [] ∷ calls commit [] ∷ []
+    cuts (write 0 (block 4)) [] 1 none ∷ calls mount full ∷ calls begin [] ∷ calls begin full ∷ calls (write 0 (block 6)) [] ∷ calls (commit none) [] ∷ []
 
 unfoldable pub first-table-pages : List Snapshot
 first-table-pages = (shows 8 (some (block 6)) ∷ []) ∷ []
@@ -64,7 +64,7 @@ shown-before-the-first-table = tt
 
 -- a sector that was struck is unreadable, though its bytes are those of a table at its block
 unfoldable pub looks-like-a-table : List Event
-looks-like-a-table = calls (write 0 (block 5)) [] ∷ calls commit [] ∷ cuts commit [] 0 (some (sector [] 1 2)) ∷ []
+looks-like-a-table = calls (write 0 (block 5)) [] ∷ calls (commit none) [] ∷ cuts (commit none) [] 0 (some (sector [] 1 noStamp 2)) ∷ []
 
 unfoldable pub struck-pages : List Snapshot
 struck-pages = (shows 0 (some (block 5)) ∷ []) ∷ []
@@ -76,10 +76,10 @@ shown-looks-like-a-table = tt
 -- a save three back, and a number released
 unfoldable pub three-back : List Event
 three-back =
-    calls (write 0 (block 1)) [] ∷ calls commit []
-    ∷ calls (write 1 (block 2)) [] ∷ calls commit []
-    ∷ calls (release 0) [] ∷ calls commit []
-    ∷ calls (write 0 (block 3)) [] ∷ calls commit []
+    calls (write 0 (block 1)) [] ∷ calls (commit none) []
+    ∷ calls (write 1 (block 2)) [] ∷ calls (commit none) []
+    ∷ calls (release 0) [] ∷ calls (commit none) []
+    ∷ calls (write 0 (block 3)) [] ∷ calls (commit none) []
     ∷ []
 
 unfoldable pub three-back-pages : List Snapshot
@@ -96,10 +96,10 @@ shown-three-back = tt
 
 -- a mount on a disc whose block of number 0 cannot be read; then a save, and a write of that number that is cut
 unfoldable pub scratched : Disc
-scratched = puts (blank 21) 0 (torn (block 5) ∷ plain (block 6) ∷ plain (sector (0 ∷ 1 ∷ []) unused 2) ∷ [])
+scratched = puts (blank 21) 0 (torn (block 5) ∷ plain (block 6) ∷ plain (sector (0 ∷ 1 ∷ []) unused noStamp 2) ∷ [])
 
 unfoldable pub on-scratched : List Event
-on-scratched = calls (write 2 (block 7)) [] ∷ calls commit [] ∷ cuts (write 0 (block 8)) [] 1 none ∷ []
+on-scratched = calls (write 2 (block 7)) [] ∷ calls (commit none) [] ∷ cuts (write 0 (block 8)) [] 1 none ∷ []
 
 unfoldable pub scratched-pages : List Snapshot
 scratched-pages =
@@ -113,7 +113,7 @@ shown-on-scratched = tt
 
 -- a commit cut after each j of its 8 sectors: 0 to 7 show the old save, 8 the new
 unfoldable pub before-the-cut : List Event
-before-the-cut = calls (write 0 (block 5)) [] ∷ calls commit [] ∷ calls (write 1 (block 6)) [] ∷ calls closePacket [] ∷ []
+before-the-cut = calls (write 0 (block 5)) [] ∷ calls (commit none) [] ∷ calls (write 1 (block 6)) [] ∷ calls closePacket [] ∷ []
 
 unfoldable pub old-page : Snapshot
 old-page = shows 0 (some (block 5)) ∷ []
@@ -134,7 +134,7 @@ finds w h ps = same-pages (h .pages) ps && eqb (unpack (after (w .disc) full mou
 each-cut : World → History → List ℕ → List Snapshot → Bool
 unfolding opened finds cutDisc next fed feed
 each-cut w h [] ps = true
-each-cut w h (j ∷ js) ps = let e : Event = cuts commit [] j (some (block 9)) in finds (next w e) (feed h (fed w e)) ps && each-cut w h js ps
+each-cut w h (j ∷ js) ps = let e : Event = cuts (commit none) [] j (some (block 9)) in finds (next w e) (feed h (fed w e)) ps && each-cut w h js ps
 
 every-cut : List Snapshot → List Snapshot → Bool
 unfolding each-cut before-the-cut played

@@ -19,7 +19,7 @@ use Rattle.bench.proofs.Starred.{block, same, full}
 -- The answer of a read and the block that it leaves are what the entry says.
 unfoldable pub reads-as : After → Entry → Bool
 reads-as a unusedEntry = eqb (a .answer) (10 * 4294967296)
-reads-as a (shows b (some bytes)) = eqb (a .answer) 0 && same (a .block) bytes
+reads-as a (shows b (some bytes)) = eqb (a .answer) 0 && same (a .buffer) bytes
 reads-as a (shows b none) = eqb (a .answer) (11 * 4294967296)
 
 unfoldable pub reads-page : Disc → List ℕ → ℕ → Snapshot → Bool

@@ -13,11 +13,11 @@ use mathlib.Core.Path.{_≡_, refl, sym, ap, _∙_, subst}
 use lib.Dec.{T, eqb, leb, eqb→eq, leb→le}
 use lib.ListN.{length}
 use Rattle.disc.specs.Disc.{Disc}
-use Rattle.recorder.specs.Calls.{Call, begin, mount, write, release, closePacket, commit, read, lookBack, blockOf}
+use Rattle.recorder.specs.Calls.{Call, begin, mount, write, release, closePacket, commit, read, lookBack, timeOf, bufferOf}
 use Rattle.recorder.specs.Refusals.{outcome}
 use Rattle.recorder.specs.Effects.{Effect, effect, After, settled, after, ifDone, secondNumber, sectorsOf}
 use Rattle.history.specs.History.{Snapshot, History, answered, feed}
-use Rattle.history.specs.Events.{World, Event, calls, cuts, ledgerHeld, Restores, Torn, Allowed, cutDisc, ledgerAfter, next, told, fed, AllAllowed, runs, remembers, shown, afterCall}
+use Rattle.history.specs.Events.{World, Event, calls, cuts, ledgerHeld, onlyTells, CountsAsDone, Restores, Torn, Allowed, cutDisc, ledgerAfter, next, told, fed, AllAllowed, runs, remembers, shown, afterCall}
 use Rattle.bench.proofs.Starred.{opened, same, full}
 use Rattle.cuts.proofs.Pages.{reads-as, reads-page, shows-page, mounts-to, looks-to, same-entry, same-page, same-pages, both, pages-same}
 
@@ -29,14 +29,15 @@ restores mount = true
 restores (write n block) = false
 restores (release n) = false
 restores closePacket = false
-restores commit = false
+restores (commit stamp) = false
 restores (read n block) = false
 restores (lookBack k) = true
+restores (timeOf k answer) = false
 
--- With a state at hand every call may follow; with none, what is refused, and what makes one.
+-- With a state at hand every call may follow; with none, what is refused or only tells, and what makes one.
 unfoldable pub follows : Option (List ℕ) → Disc → Call → List ℕ → Bool
 follows (some l) d c junk = true
-follows none d c junk = not (eqb (outcome d junk c) 0) || restores c
+follows none d c junk = not (eqb (outcome d junk c) 0) || (onlyTells c || restores c)
 
 -- A struck sector has 2,048 bytes.
 unfoldable pub struck : Option (List ℕ) → Bool
@@ -59,14 +60,16 @@ restoring mount t = tt
 restoring (write n block) t = t
 restoring (release n) t = t
 restoring closePacket t = t
-restoring commit t = t
+restoring (commit stamp) t = t
 restoring (read n block) t = t
 restoring (lookBack k) t = tt
+restoring (timeOf k answer) t = t
 
-following : (o : Option (List ℕ)) (d : Disc) (c : Call) (junk : List ℕ) → T (follows o d c junk) → o ≡ none → outcome d junk c ≡ 0 → Restores c
+following : (o : Option (List ℕ)) (d : Disc) (c : Call) (junk : List ℕ) → T (follows o d c junk) → o ≡ none → CountsAsDone d junk c → Restores c
 unfolding follows
 following (some l) d c junk t lost done = absurd (some-none lost)
-following none d c junk t lost done = restoring c (subst (λ (n : ℕ). T (not (eqb n 0) || restores c)) done t)
+following none d c junk t lost done =
+    restoring c (subst (λ (u : Bool). T (u || restores c)) (done .1) (subst (λ (n : ℕ). T (not (eqb n 0) || (onlyTells c || restores c))) (done .0) t))
 
 struck-long : (tear : Option (List ℕ)) → T (struck tear) → Torn tear
 unfolding struck
@@ -97,8 +100,8 @@ played ok w h (calls c junk ∷ es) =
     let l : List ℕ = ledgerHeld (w .ledger) junk in
     let n : ℕ = outcome (w .disc) l c in
     let e : Effect = effect (w .disc) l c in
-    let a : After = settled (w .disc) l (blockOf c) n e in
-    let w′ : World = record { disc = a .disc; ledger = ledgerAfter n (w .ledger) (a .ledger) } in
+    let a : After = settled (w .disc) l (bufferOf c) n e in
+    let w′ : World = record { disc = a .disc; ledger = ledgerAfter (onlyTells c) n (w .ledger) (a .ledger) } in
     played (ok && allows w (calls c junk)) w′ (feed h (answered (told c) n (ifDone n (e .second)))) es
 played ok w h (cuts c junk j tear ∷ es) =
     let w′ : World = next w (cuts c junk j tear) in

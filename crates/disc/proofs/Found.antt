@@ -3,25 +3,27 @@
 use Prim.Native.Nat.{ℕ, zero, suc, _+_, _-_, _*_, _≤_, _<_}
 use native.Mathlib.Nat.{not-suc-le-zero, le-of-suc-le-suc, zero-add, suc-add}
 use native.Mathlib.Omega.{arith}
-use mathlib.Core.Path.{_≡_, refl, sym, ap, _∙_}
+use mathlib.Core.Path.{_≡_, refl, sym, ap, ap₂, _∙_}
 use mathlib.Core.Bool.{Bool, true, false, _&&_}
 use mathlib.Core.List.{List, [], _∷_}
 use mathlib.Core.Option.{Option, none, some}
-use lib.Dec.{eqb, ltb}
+use lib.Dec.{eqb, ltb, lit≤}
 use lib.ListN.{length, getD, take, drop, length-drop}
-use lib.Seq.{length-take-le}
+use lib.Seq.{length-take-le, drop-drop}
 use borrow.Author.Tests.{eq-eqb, ne-eqb, ltb-true, ltb-false}
 use Rattle.le.specs.Bytes.{every}
 use Rattle.le.specs.Field.{readLe, holds, words}
+use Rattle.le.proofs.Bytes.{part-take}
 use Rattle.le.proofs.Runs.{words-none}
+use Rattle.timestamp.specs.Timestamp.{stampLength}
 use Rattle.tag.specs.Tag.{sealed}
-use Rattle.vat.specs.Table.{sectorLength, unused, plainRows, unusedOrBelow, entriesOf, framed, isTable}
+use Rattle.vat.specs.Table.{sectorLength, unused, plainRows, unusedOrBelow, entriesOf, modifiedAt, modifiedOf, framed, isTable}
 use Rattle.vat.proofs.Frame.{word-taken}
 use Rattle.vat.proofs.Theorems.{recognised}
 use Rattle.disc.specs.declared.Walk.{Walk}
 use Rattle.disc.specs.declared.Walk.the-variants.{Reached, Broken, Ended}
 use Rattle.disc.specs.Disc.{Disc, recorded, kindAt, sectorAt}
-use Rattle.disc.specs.Tables.{tableAt, found, newestBelow, stepped, walk}
+use Rattle.disc.specs.Tables.{tableAt, timeAt, found, newestBelow, stepped, walk}
 use Rattle.disc.proofs.Order.{and-false}
 use Rattle.disc.proofs.Recording.{Sized, Sound, kind-recorded}
 
@@ -64,6 +66,23 @@ unfolding sectorAt
 part-sector d b =
     let long : (sectorLength * b + sectorLength) - sectorLength * b ≡ sectorLength = omega arith in
     ap (λ (k : ℕ). take k (drop (sectorLength * b) (d .image))) long
+
+-- the modification time of a sector, as a part of the image
+pub part-time : (d : Disc) (b : ℕ)
+    → take ((sectorLength * b + modifiedAt + stampLength) - (sectorLength * b + modifiedAt)) (drop (sectorLength * b + modifiedAt) (d .image)) ≡ timeAt d b
+unfolding sectorAt modifiedOf
+part-time d b =
+    let at : ℕ = sectorLength * b in
+    let long : (at + modifiedAt + stampLength) - (at + modifiedAt) ≡ stampLength = omega arith in
+    ap₂ (λ (k : ℕ) (l : List ℕ). take k l) long (sym (drop-drop modifiedAt at (d .image)))
+    ∙ sym (part-take sectorLength modifiedAt stampLength (drop at (d .image)) (lit≤ tt))
+
+pub length-time : (d : Disc) (b : ℕ) → sectorLength * b + sectorLength ≤ length (d .image) → length (timeAt d b) ≡ stampLength
+unfolding sectorAt modifiedOf
+length-time d b h =
+    let sector : List ℕ = take sectorLength (drop (sectorLength * b) (d .image)) in
+    let long : length sector ≡ sectorLength = length-take-le sectorLength (drop (sectorLength * b) (d .image)) (rw (length-drop (sectorLength * b) (d .image)) (omega arith)) in
+    length-take-le stampLength (drop modifiedAt sector) (rw (length-drop modifiedAt sector, long) (lit≤ tt))
 
 -- its bytes lie within the image
 pub sector-end : (d : Disc) → Sized d → (b : ℕ) → b < length (d .kinds) → sectorLength * b + sectorLength ≤ length (d .image)

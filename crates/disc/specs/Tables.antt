@@ -4,12 +4,12 @@ use mathlib.Core.Bool.{Bool, true, false}
 use mathlib.Core.List.{List}
 use mathlib.Core.Option.{Option, none, some}
 use lib.Dec.{eqb}
-use Rattle.vat.specs.Table.{unused, entriesOf, previousOf, isTable}
+use Rattle.vat.specs.Table.{unused, entriesOf, previousOf, modifiedOf, isTable}
 use Rattle.disc.specs.declared.Walk.{Walk}
 use Rattle.disc.specs.declared.Walk.the-variants.{Reached, Broken, Ended}
 use Rattle.disc.specs.Disc.{Disc, recorded, kindAt, sectorAt}
 
--- The sector at block b is a table sector; its map and its previous table.
+-- The sector at block b is a table sector; its map, its previous table and its modification time.
 abbrev pub tableAt : Disc → ℕ → Bool
 tableAt d b = isTable (kindAt d b) (sectorAt d b) b
 
@@ -18,6 +18,9 @@ mapAt d b = entriesOf (sectorAt d b)
 
 abbrev pub previousAt : Disc → ℕ → ℕ
 previousAt d b = previousOf (sectorAt d b)
+
+abbrev pub timeAt : Disc → ℕ → List ℕ
+timeAt d b = modifiedOf (sectorAt d b)
 
 -- "starts at the last recorded sector and goes towards block 0. The first table sector met ends the search."
 abbrev pub found : Bool → ℕ → Option ℕ → Option ℕ

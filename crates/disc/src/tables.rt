@@ -1,13 +1,17 @@
 // The tables on a disc: the newest one, and the walk back from table to table.
 use crate::Walk;
+use timestamp::STAMP;
+use vat::table::MODIFIED_AT;
 use vat::table::SECTOR;
 use vat::table::UNUSED;
 ghost use mathlib.Core.Path.{_≡_};
 ghost use mathlib.Core.Bool.{true};
-ghost use Prim.Native.Nat.{_≤_, _<_};
+ghost use mathlib.Core.List.{[]};
+ghost use Prim.Native.Nat.{_+_, _*_, _≤_};
 ghost use lib.ListN.{length};
 ghost use Rattle.disc.specs.Disc.{lent, sized};
-ghost use Rattle.disc.specs.Tables.{tableAt, previousAt, blockFound, newestBelow, walk};
+ghost use Rattle.vat.specs.Table.{sectorLength};
+ghost use Rattle.disc.specs.Tables.{tableAt, previousAt, timeAt, blockFound, newestBelow, walk};
 
 // A block beyond the disc is no table sector.
 pub fn table_at(image: &[u8], kinds: &[u8], b: u32) -> bool
@@ -96,4 +100,14 @@ pub fn walk_back(image: &[u8], kinds: &[u8], k: u32, b: u32) -> Walk
         Walk::Broken => Walk::Broken,
         Walk::Ended => Walk::Ended,
     }
+}
+
+// The modification time of the sector at block b.
+pub fn time_at(image: &[u8], b: u32) -> &[u8]
+    requires { ⌜ sectorLength * b + sectorLength ≤ length (now image) ⌝ }
+    ensures { λ r. ⌜ now r ≡ timeAt (lent (now (image .entry)) []) b ⌝ }
+{
+    let at = SECTOR * (b as usize) + MODIFIED_AT;
+    let end = at + STAMP;
+    &image[at..end]
 }

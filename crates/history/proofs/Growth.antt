@@ -14,18 +14,18 @@ use lib.ListN.{length, take, replicate, length-replicate}
 use lib.Seq.{take-append-le, length-take-le, take-length}
 use borrow.Author.Tests.{eq-eqb, ltb-true, eqb-true, lt-ltb, le-ltb}
 use Rattle.le.specs.Bytes.{every}
-use Rattle.vat.specs.Table.{sectorLength, unused, unusedOrBelow, entriesOf, previousOf, isTable}
+use Rattle.vat.specs.Table.{sectorLength, unused, unusedOrBelow, entriesOf, previousOf, modifiedOf, isTable}
 use Rattle.vat.proofs.Frame.{and-left, and-right}
 use Rattle.vat.proofs.Theorems.{Named, named, recognised, of-kind-1}
 use Rattle.disc.specs.Disc.{Disc, recorded, kindAt, sectorAt, readable, content, Sector, link, plain, torn, put, puts}
-use Rattle.disc.specs.Tables.{tableAt, mapAt, previousAt}
+use Rattle.disc.specs.Tables.{tableAt, mapAt, previousAt, timeAt}
 use Rattle.disc.proofs.Recording.{Sound, Whole, Recorded, put-recorded, plain-here, puts-append}
 use Rattle.recorder.proofs.Sectors.{AllWhole, links-whole, behindLinks, length-behind}
 use Rattle.history.specs.Events.{Torn, tornAt, cutDisc}
 use Rattle.history.proofs.Log.{Format, AllBelow, NamesBelow, View, Extends, Plain, Saved, extends-on, plain-same, plain-on}
 
 abbrev pub F : Format
-F = record { Disc = Disc; recorded = recorded; table = tableAt; mapAt = mapAt; previousAt = previousAt; content = content }
+F = record { Disc = Disc; recorded = recorded; table = tableAt; mapAt = mapAt; previousAt = previousAt; timeAt = timeAt; content = content }
 
 -- a test of every number, one by one
 pub all-below-of : (b : ℕ) (xs : List ℕ) → every (unusedOrBelow b) xs ≡ true → AllBelow b xs
@@ -60,6 +60,7 @@ extends-of {d} {d′} r =
       tables = λ b h. ap₂ (λ (k : ℕ) (s : List ℕ). isTable k s b) (r .kinds-kept b h) (r .sectors-kept b h);
       maps = λ b h. ap entriesOf (r .sectors-kept b h);
       previous = λ b h. ap previousOf (r .sectors-kept b h);
+      times = λ b h. ap modifiedOf (r .sectors-kept b h);
       contents = λ b h. ap₂ (λ (k : ℕ) (s : List ℕ). readable (eqb k 1) s) (r .kinds-kept b h) (r .sectors-kept b h);
     }
 
@@ -172,6 +173,9 @@ module _ (d : Disc) (ok : Sound d) (n : ℕ) (s : List ℕ) (long : length s ≡
   behind-content =
       ap₂ content behind (sym (linked-grown .counted))
       ∙ ap₂ (λ (k : ℕ) (t : List ℕ). readable (eqb k 1) t) (last-recorded .its-kind) (plain-here linked (linked-grown .still-sound) linked-room s long)
+
+  pub behind-time : timeAt (puts d (recorded d) (behindLinks n s)) (recorded d + n) ≡ modifiedOf s
+  behind-time = ap₂ timeAt behind (sym (linked-grown .counted)) ∙ ap modifiedOf (plain-here linked (linked-grown .still-sound) linked-room s long)
 
   pub behind-sound : Sound (puts d (recorded d) (behindLinks n s))
   behind-sound = subst Sound (sym behind) (last-recorded .still-sound)

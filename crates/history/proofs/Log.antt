@@ -31,6 +31,7 @@ pub record Format : Type 1 where
   pub table : Disc → ℕ → Bool
   pub mapAt : Disc → ℕ → List ℕ
   pub previousAt : Disc → ℕ → ℕ
+  pub timeAt : Disc → ℕ → List ℕ
   pub content : Disc → ℕ → Option (List ℕ)
 
 -- block numbers that may be named while r sectors are recorded
@@ -93,6 +94,7 @@ module _ (F : Format) where
     pub tables : (b : ℕ) → b < F .recorded d → F .table d′ b ≡ F .table d b
     pub maps : (b : ℕ) → b < F .recorded d → F .mapAt d′ b ≡ F .mapAt d b
     pub previous : (b : ℕ) → b < F .recorded d → F .previousAt d′ b ≡ F .previousAt d b
+    pub times : (b : ℕ) → b < F .recorded d → F .timeAt d′ b ≡ F .timeAt d b
     pub contents : (b : ℕ) → b < F .recorded d → F .content d′ b ≡ F .content d b
 
   -- recorded on, with no table among what was added
@@ -111,7 +113,7 @@ module _ (F : Format) where
     pub its-previous : F .previousAt d′ b ≡ v .last
 
   pub extends-same : (d : F .Disc) → Extends d d
-  extends-same d = record { more = le-refl (F .recorded d); tables = λ b h. refl; maps = λ b h. refl; previous = λ b h. refl; contents = λ b h. refl }
+  extends-same d = record { more = le-refl (F .recorded d); tables = λ b h. refl; maps = λ b h. refl; previous = λ b h. refl; times = λ b h. refl; contents = λ b h. refl }
 
   pub extends-on : {d e f : F .Disc} → Extends d e → Extends e f → Extends d f
   extends-on {d} {e} {f} p q =
@@ -121,6 +123,7 @@ module _ (F : Format) where
         tables = λ b h. q .tables b (up b h) ∙ p .tables b h;
         maps = λ b h. q .maps b (up b h) ∙ p .maps b h;
         previous = λ b h. q .previous b (up b h) ∙ p .previous b h;
+        times = λ b h. q .times b (up b h) ∙ p .times b h;
         contents = λ b h. q .contents b (up b h) ∙ p .contents b h;
       }
 

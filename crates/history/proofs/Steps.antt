@@ -17,21 +17,21 @@ use Rattle.vat.specs.Sector.{sector}
 use Rattle.vat.proofs.Theorems.{Named, recognised, Tells, tells, ReadsBack, reads-back}
 use Rattle.disc.specs.Disc.{Disc, recorded, blanks, kindAt, sectorAt, content, Sector, puts}
 use Rattle.disc.specs.declared.Walk.the-variants.{Reached}
-use Rattle.disc.specs.Tables.{tableAt, mapAt, previousAt, newest, blockFound}
+use Rattle.disc.specs.Tables.{tableAt, mapAt, previousAt, timeAt, newest, blockFound}
 use Rattle.disc.proofs.Recording.{Sound, leading-le}
 use Rattle.disc.proofs.Found.{table-recorded, newest-table, walk-table}
 use Rattle.volume.specs.declared.Volume.{Volume}
 use Rattle.volume.specs.Volume.{idle, readOnly, unpack, pack, mapOf, begun, filled, wrote, released, closed, committed}
 use Rattle.volume.proofs.State.{Proper, unpack-pack, proper-begun, proper-filled, proper-wrote, proper-released, proper-closed, proper-committed, grownMap, map-filled, map-wrote, map-released, length-map}
-use Rattle.recorder.specs.Calls.{Call, begin, mount, write, release, closePacket, commit, read, lookBack}
+use Rattle.recorder.specs.Calls.{Call, begin, mount, write, release, closePacket, commit, read, lookBack, timeOf}
 use Rattle.recorder.specs.Refusals.{links, target, walkFrom, walked, outcome}
-use Rattle.recorder.specs.Effects.{effect, blockReached, after, secondNumber, sectorsIf, sectorsOf}
+use Rattle.recorder.specs.Effects.{blockReached, stampOf, effect, settled, after, secondNumber, sectorsIf, sectorsOf}
 use Rattle.recorder.proofs.Done.{Fits, WriteDone, CommitDone, begin-done, mount-done, write-done, release-done, close-done, commit-done, look-back-done}
 use Rattle.history.specs.History.{History, Told, Fed, answered, cut, cutCommit, feed}
-use Rattle.history.specs.Events.{World, Event, calls, cuts, ledgerHeld, Follows, Torn, Allowed, cutDisc, next, told, kept, cutShort, fed}
+use Rattle.history.specs.Events.{World, Event, calls, cuts, ledgerHeld, onlyTells, Follows, Torn, Allowed, cutDisc, ledgerAfter, next, told, kept, cutShort, fed}
 use Rattle.history.proofs.Log.{AllBelow, all-below-more, View, State, Step, Saved, plain-same, at, working}
 use Rattle.recorder.proofs.Sectors.{whole-take, behindLinks, length-behind, behind-whole}
-use Rattle.history.proofs.Growth.{F, names-below, below-to, all-below-of, all-below-to, Grown, puts-plain, no-tables-take, behind-no-tables, behind-content, behind-sound, behind-counted, behind-saved, Left, cut-left, cut-links-left, cut-all, cut-none}
+use Rattle.history.proofs.Growth.{F, names-below, below-to, all-below-of, all-below-to, Grown, puts-plain, no-tables-take, behind-no-tables, behind-content, behind-time, behind-sound, behind-counted, behind-saved, Left, cut-left, cut-links-left, cut-all, cut-none}
 
 -- ---- the world as the log sees it
 
@@ -96,18 +96,22 @@ proper-table d ok b mode hm e =
 -- what the two look like, once the outcome is known
 refused-next : (w : World) (c : Call) (junk : List ℕ) (n : ℕ) → outcome (w .disc) (ledgerHeld (w .ledger) junk) c ≡ suc n → next w (calls c junk) ≡ w
 unfolding next after
-refused-next w c junk n e = rw e
+refused-next w c junk n e = rw e (λ i. record { disc = w .disc; ledger = still (onlyTells c) i })
+  where
+    still : (t : Bool) → ledgerAfter t (suc n) (w .ledger) (ledgerHeld (w .ledger) junk) ≡ w .ledger
+    still true = refl
+    still false = refl
 
-refused-fed : (w : World) (c : Call) (junk : List ℕ) (n : ℕ) → outcome (w .disc) (ledgerHeld (w .ledger) junk) c ≡ suc n → fed w (calls c junk) ≡ answered (told c) (suc n) 0
+pub refused-fed : (w : World) (c : Call) (junk : List ℕ) (n : ℕ) → outcome (w .disc) (ledgerHeld (w .ledger) junk) c ≡ suc n → fed w (calls c junk) ≡ answered (told c) (suc n) 0
 unfolding fed secondNumber
 refused-fed w c junk n e = rw e
 
 abbrev doneWorld : World → List ℕ → Call → World
 doneWorld w l c = record { disc = puts (w .disc) (recorded (w .disc)) (effect (w .disc) l c .sectors); ledger = some (effect (w .disc) l c .ledger) }
 
-done-next : (w : World) (c : Call) (junk : List ℕ) → outcome (w .disc) (ledgerHeld (w .ledger) junk) c ≡ 0 → next w (calls c junk) ≡ doneWorld w (ledgerHeld (w .ledger) junk) c
+done-next : (w : World) (c : Call) (junk : List ℕ) → onlyTells c ≡ false → outcome (w .disc) (ledgerHeld (w .ledger) junk) c ≡ 0 → next w (calls c junk) ≡ doneWorld w (ledgerHeld (w .ledger) junk) c
 unfolding next after
-done-next w c junk e = rw e
+done-next w c junk t e = rw (t, e)
 
 done-fed : (w : World) (c : Call) (junk : List ℕ) → outcome (w .disc) (ledgerHeld (w .ledger) junk) c ≡ 0
     → fed w (calls c junk) ≡ answered (told c) 0 (effect (w .disc) (ledgerHeld (w .ledger) junk) c .second)
@@ -291,82 +295,114 @@ module _ (d : Disc) (l : List ℕ) (sound : Sound d) (good : Proper (unpack l)) 
       go true z e = below-to b (unpack l .last) (inr (eqb-true (unpack l .last) unused z))
       go false z e = below-to b (unpack l .last) (inl (omega (arith, table-recorded d sound (unpack l .last) e)))
 
-  unfoldable pub tableSector : List ℕ
-  tableSector = sector (mapOf (unpack l)) (unpack l .last) (target (unpack l))
+  unfoldable pub tableSector : Option (List ℕ) → List ℕ
+  tableSector stamp = sector (mapOf (unpack l)) (unpack l .last) (stampOf stamp) (target (unpack l))
 
   -- the sector that commit records is a table of the working map, at the block that it takes
-  module _ (f : CommitDone d l) where
+  module _ (stamp : Option (List ℕ)) (f : CommitDone d l stamp) where
     pub at-target : target (unpack l) ≡ recorded d + links (unpack l)
     at-target = ap (λ (r : ℕ). r + links (unpack l)) (f .fit .same-recorded)
 
-    read-back : ReadsBack (mapOf (unpack l)) (unpack l .last) (target (unpack l))
+    read-back : ReadsBack (mapOf (unpack l)) (unpack l .last) (stampOf stamp) (target (unpack l))
     read-back =
         let v : Volume = unpack l in
         let b : ℕ = target v in
         let lower : recorded d + links v < unused = small (links v) (f .room) in
         let below : AllBelow b (mapOf v) = all-below-more (v .recorded) b (mapOf v) (omega arith) (all-below-of (v .recorded) (mapOf v) (f .fit .entries-below)) in
-        reads-back (mapOf v) (v .last) b (omega (arith, length-map v (enough (f .fit)), f .fit .few)) (all-below-to b (mapOf v) below)
-        (last-below (f .fit) b (omega (arith, at-target))) (omega (arith, at-target))
+        reads-back (mapOf v) (v .last) (stampOf stamp) b (omega (arith, length-map v (enough (f .fit)), f .fit .few)) (all-below-to b (mapOf v) below)
+        (last-below (f .fit) b (omega (arith, at-target))) (f .timely) (omega (arith, at-target))
 
-    pub sector-long : length tableSector ≡ sectorLength
+    pub sector-long : length (tableSector stamp) ≡ sectorLength
     unfolding tableSector
-    sector-long = recognised 1 (sector (mapOf (unpack l)) (unpack l .last) (target (unpack l))) (target (unpack l)) (read-back .is-table) .whole
+    sector-long = recognised 1 (sector (mapOf (unpack l)) (unpack l .last) (stampOf stamp) (target (unpack l))) (target (unpack l)) (read-back .is-table) .whole
 
-    pub save : Saved F d (puts d (recorded d) (behindLinks (links (unpack l)) tableSector)) (working F (mapOf (unpack l)) (unpack l .last)) (recorded d + links (unpack l))
+    pub save : Saved F d (puts d (recorded d) (behindLinks (links (unpack l)) (tableSector stamp))) (working F (mapOf (unpack l)) (unpack l .last)) (recorded d + links (unpack l))
     unfolding tableSector
     save =
         let v : Volume = unpack l in
-        behind-saved d sound (links v) tableSector sector-long (room (links v) (f .room)) (working F (mapOf v) (v .last)) (small (links v) (f .room))
-        (subst (λ (b : ℕ). isTable 1 (sector (mapOf v) (v .last) (target v)) b ≡ true) at-target (read-back .is-table)) (read-back .entries) (read-back .previous-table)
+        behind-saved d sound (links v) (tableSector stamp) sector-long (room (links v) (f .room)) (working F (mapOf v) (v .last)) (small (links v) (f .room))
+        (subst (λ (b : ℕ). isTable 1 (sector (mapOf v) (v .last) (stampOf stamp) (target v)) b ≡ true) at-target (read-back .is-table)) (read-back .entries) (read-back .previous-table)
 
-  commit-step : outcome d l commit ≡ 0
+    -- and its time is the commit's
+    pub saved-time : timeAt (puts d (recorded d) (behindLinks (links (unpack l)) (tableSector stamp))) (recorded d + links (unpack l)) ≡ stampOf stamp
+    unfolding tableSector
+    saved-time = behind-time d sound (links (unpack l)) (tableSector stamp) sector-long (room (links (unpack l)) (f .room)) ∙ read-back .modified
+
+  commit-step : (stamp : Option (List ℕ)) → outcome d l (commit stamp) ≡ 0
       → GoodStep (record { disc = d; ledger = some l }) (answered Told.commit 0 (target (unpack l)))
-      (record { disc = puts d (recorded d) (behindLinks (links (unpack l)) tableSector); ledger = some (pack (committed (target (unpack l)) (unpack l))) })
-  commit-step e =
-      let f : CommitDone d l = commit-done d l e in
+      (record { disc = puts d (recorded d) (behindLinks (links (unpack l)) (tableSector stamp)); ledger = some (pack (committed (target (unpack l)) (unpack l))) })
+  commit-step stamp e =
+      let f : CommitDone d l stamp = commit-done d l stamp e in
       let v : Volume = unpack l in
       let b : ℕ = target v in
       let m : ℕ = links v in
-      let d′ : Disc = puts d (recorded d) (behindLinks m tableSector) in
-      let ok : Proper (committed b v) = proper-committed v good b (omega (arith, at-target f, small m (f .room))) in
+      let d′ : Disc = puts d (recorded d) (behindLinks m (tableSector stamp)) in
+      let ok : Proper (committed b v) = proper-committed v good b (omega (arith, at-target stamp f, small m (f .room))) in
       let before : viewIs v ≡ working F (mapOf v) (v .last) = working-view v (f .not-looking) in
       let after-view : viewIs (unpack (pack (committed b v))) ≡ working F (mapOf v) (recorded d + m) =
-      packed-view (committed b v) ok ∙ committed-view v b ∙ ap (working F (mapOf v)) (at-target f) in
+      packed-view (committed b v) ok ∙ committed-view v b ∙ ap (working F (mapOf v)) (at-target stamp f) in
       record {
         good =
             record {
-              sound-disc = behind-sound d sound m tableSector (sector-long f) (room m (f .room));
+              sound-disc = behind-sound d sound m (tableSector stamp) (sector-long stamp f) (room m (f .room));
               ledger-good = packed-good (committed b v) ok;
             };
         step =
             subst₂ (λ (x y : View). Step F (at F d (some x)) (answered Told.commit 0 b) (at F d′ (some y))) (sym before) (sym after-view)
-            (Step.committed (mapOf v) (v .last) (recorded d + m) b (save f));
+            (Step.committed (mapOf v) (v .last) (recorded d + m) b (save stamp f));
       }
 
-done-step : (d : Disc) (o : Option (List ℕ)) (c : Call) (junk : List ℕ) → Good (record { disc = d; ledger = o }) → Follows (record { disc = d; ledger = o }) c junk
+done-step : (d : Disc) (o : Option (List ℕ)) (c : Call) (junk : List ℕ) → onlyTells c ≡ false → Good (record { disc = d; ledger = o }) → Follows (record { disc = d; ledger = o }) c junk
     → outcome d (ledgerHeld o junk) c ≡ 0
     → GoodStep (record { disc = d; ledger = o }) (answered (told c) 0 (effect d (ledgerHeld o junk) c .second)) (doneWorld (record { disc = d; ledger = o }) (ledgerHeld o junk) c)
 unfolding effect puts tableSector
-done-step d o begin junk g f e = begin-step (record { disc = d; ledger = o }) (ledgerHeld o junk) g e
-done-step d o mount junk g f e = mount-step (record { disc = d; ledger = o }) (ledgerHeld o junk) g e
-done-step d o (lookBack k) junk g f e = look-back-step (record { disc = d; ledger = o }) (ledgerHeld o junk) k g e
-done-step d none (write n block) junk g f e = absurd (f refl e)
-done-step d none (release n) junk g f e = absurd (f refl e)
-done-step d none closePacket junk g f e = absurd (f refl e)
-done-step d none commit junk g f e = absurd (f refl e)
-done-step d none (read n block) junk g f e = absurd (f refl e)
-done-step d (some l) (write n block) junk g f e = write-step d l (g .sound-disc) (g .ledger-good) n block e
-done-step d (some l) (release n) junk g f e = release-step d l (g .sound-disc) (g .ledger-good) n e
-done-step d (some l) closePacket junk g f e = close-step d l (g .sound-disc) (g .ledger-good) e
-done-step d (some l) commit junk g f e = commit-step d l (g .sound-disc) (g .ledger-good) e
-done-step d (some l) (read n block) junk g f e = read-step d l (g .sound-disc) (g .ledger-good) n 0
+done-step d o begin junk t g f e = begin-step (record { disc = d; ledger = o }) (ledgerHeld o junk) g e
+done-step d o mount junk t g f e = mount-step (record { disc = d; ledger = o }) (ledgerHeld o junk) g e
+done-step d o (lookBack k) junk t g f e = look-back-step (record { disc = d; ledger = o }) (ledgerHeld o junk) k g e
+done-step d o (timeOf k answer) junk t g f e = absurd (mathlib.Core.Bool.true≢false t)
+done-step d none (write n block) junk t g f e = absurd (f refl (e, refl))
+done-step d none (release n) junk t g f e = absurd (f refl (e, refl))
+done-step d none closePacket junk t g f e = absurd (f refl (e, refl))
+done-step d none (commit stamp) junk t g f e = absurd (f refl (e, refl))
+done-step d none (read n block) junk t g f e = absurd (f refl (e, refl))
+done-step d (some l) (write n block) junk t g f e = write-step d l (g .sound-disc) (g .ledger-good) n block e
+done-step d (some l) (release n) junk t g f e = release-step d l (g .sound-disc) (g .ledger-good) n e
+done-step d (some l) closePacket junk t g f e = close-step d l (g .sound-disc) (g .ledger-good) e
+done-step d (some l) (commit stamp) junk t g f e = commit-step d l (g .sound-disc) (g .ledger-good) stamp e
+done-step d (some l) (read n block) junk t g f e = read-step d l (g .sound-disc) (g .ledger-good) n 0
 
-call-step : (w : World) (c : Call) (junk : List ℕ) → Good w → Follows w c junk → GoodStep w (fed w (calls c junk)) (next w (calls c junk))
-call-step w c junk g f = go (outcome (w .disc) (ledgerHeld (w .ledger) junk) c) refl
+settled-step : (w : World) (c : Call) (junk : List ℕ) → onlyTells c ≡ false → Good w → Follows w c junk → GoodStep w (fed w (calls c junk)) (next w (calls c junk))
+settled-step w c junk t g f = go (outcome (w .disc) (ledgerHeld (w .ledger) junk) c) refl
   where
     go : (n : ℕ) → outcome (w .disc) (ledgerHeld (w .ledger) junk) c ≡ n → GoodStep w (fed w (calls c junk)) (next w (calls c junk))
-    go zero e = subst₂ (λ (x : Fed) (y : World). GoodStep w x y) (sym (done-fed w c junk e)) (sym (done-next w c junk e)) (done-step (w .disc) (w .ledger) c junk g f e)
+    go zero e = subst₂ (λ (x : Fed) (y : World). GoodStep w x y) (sym (done-fed w c junk e)) (sym (done-next w c junk t e)) (done-step (w .disc) (w .ledger) c junk t g f e)
     go (suc n) e = subst₂ (λ (x : Fed) (y : World). GoodStep w x y) (sym (refused-fed w c junk n e)) (sym (refused-next w c junk n e)) (refused-step w c n 0 g)
+
+-- a time that is asked for changes nothing, told or refused
+time-step : (w : World) (k : ℕ) (answer junk : List ℕ) → Good w → GoodStep w (fed w (calls (timeOf k answer) junk)) (next w (calls (timeOf k answer) junk))
+unfolding next after effect puts fed feed
+time-step w k answer junk g = go (outcome (w .disc) (ledgerHeld (w .ledger) junk) (timeOf k answer))
+  where
+    second : ℕ
+    second = secondNumber (w .disc) (ledgerHeld (w .ledger) junk) (timeOf k answer)
+
+    left : ℕ → World
+    left n = record { disc = settled (w .disc) (ledgerHeld (w .ledger) junk) answer n (effect (w .disc) (ledgerHeld (w .ledger) junk) (timeOf k answer)) .disc; ledger = w .ledger }
+
+    go : (n : ℕ) → GoodStep w (answered (Told.timeOf k) n second) (left n)
+    go zero = record { good = g; step = Step.quiet (λ h. refl) }
+    go (suc n) = record { good = g; step = Step.quiet (λ h. refl) }
+
+call-step : (w : World) (c : Call) (junk : List ℕ) → Good w → Follows w c junk → GoodStep w (fed w (calls c junk)) (next w (calls c junk))
+call-step w begin junk g f = settled-step w begin junk refl g f
+call-step w mount junk g f = settled-step w mount junk refl g f
+call-step w (write n block) junk g f = settled-step w (write n block) junk refl g f
+call-step w (release n) junk g f = settled-step w (release n) junk refl g f
+call-step w closePacket junk g f = settled-step w closePacket junk refl g f
+call-step w (commit stamp) junk g f = settled-step w (commit stamp) junk refl g f
+call-step w (read n block) junk g f = settled-step w (read n block) junk refl g f
+call-step w (lookBack k) junk g f = settled-step w (lookBack k) junk refl g f
+call-step w (timeOf k answer) junk g f = time-step w k answer junk g
 
 -- ---- a call that is cut
 
@@ -401,7 +437,7 @@ refused-records-none : (d : Disc) (l : List ℕ) (c : Call) (n : ℕ) → outcom
 unfolding sectorsOf
 refused-records-none d l c n e = rw e
 
-done-records : (d : Disc) (l : List ℕ) (c : Call) → outcome d l c ≡ 0 → sectorsOf d l c ≡ effect d l c .sectors
+pub done-records : (d : Disc) (l : List ℕ) (c : Call) → outcome d l c ≡ 0 → sectorsOf d l c ≡ effect d l c .sectors
 unfolding sectorsOf
 done-records d l c e = rw e
 
@@ -414,7 +450,7 @@ cut-write-left : (d : Disc) (o : Option (List ℕ)) (n : ℕ) (block junk : List
     → (m : ℕ) → outcome d (ledgerHeld o junk) (write n block) ≡ m → Left d (cutDisc d (sectorsOf d (ledgerHeld o junk) (write n block)) j tear)
 cut-write-left d o n block junk j tear g f h t (suc m) e =
     nothing-left d (g .sound-disc) (sectorsOf d (ledgerHeld o junk) (write n block)) j tear (refused-records-none d (ledgerHeld o junk) (write n block) m e) h
-cut-write-left d none n block junk j tear g f h t zero e = absurd (f refl e)
+cut-write-left d none n block junk j tear g f h t zero e = absurd (f refl (e, refl))
 cut-write-left d (some l) n block junk j tear g f h t zero e =
     let w : WriteDone d l n block = write-done d l n block e in
     let m : ℕ = links (unpack l) in
@@ -426,62 +462,62 @@ cut-write-left d (some l) n block junk j tear g f h t zero e =
     (whole-take j ss (behind-whole m block (w .block-long)))
     (no-tables-take j ss (recorded d) (behind-no-tables m block (recorded d) (subst (λ (b : ℕ). isTable 1 block b ≡ false) here (w .no-table)))) t)
 
-pub commit-records : (d : Disc) (l : List ℕ) (ok : Sound d) (good : Proper (unpack l)) → effect d l commit .sectors ≡ behindLinks (links (unpack l)) (tableSector d l ok good)
+pub commit-records : (d : Disc) (l : List ℕ) (ok : Sound d) (good : Proper (unpack l)) (stamp : Option (List ℕ)) → effect d l (commit stamp) .sectors ≡ behindLinks (links (unpack l)) (tableSector d l ok good stamp)
 unfolding effect tableSector
-commit-records d l ok good = refl
+commit-records d l ok good stamp = refl
 
 not-all : (j n m : ℕ) → j ≤ n → (j ≡ n → ⊥) → n ≡ m + 1 → j ≤ m
 not-all j n m h ne e = let less : j < n = lt-of-le-ne h ne in omega arith
 
-cut-commit-step : (d : Disc) (o : Option (List ℕ)) (junk : List ℕ) (j : ℕ) (tear : Option (List ℕ)) → Good (record { disc = d; ledger = o })
-    → Follows (record { disc = d; ledger = o }) commit junk → j ≤ length (sectorsOf d (ledgerHeld o junk) commit) → Torn tear
-    → (m : ℕ) → outcome d (ledgerHeld o junk) commit ≡ m
-    → GoodStep (record { disc = d; ledger = o }) (cutCommit (kept d (ledgerHeld o junk) commit j)) (cutWorld (cutDisc d (sectorsOf d (ledgerHeld o junk) commit) j tear))
-cut-commit-step d o junk j tear g f h t (suc m) e =
+cut-commit-step : (d : Disc) (o : Option (List ℕ)) (stamp : Option (List ℕ)) (junk : List ℕ) (j : ℕ) (tear : Option (List ℕ)) → Good (record { disc = d; ledger = o })
+    → Follows (record { disc = d; ledger = o }) (commit stamp) junk → j ≤ length (sectorsOf d (ledgerHeld o junk) (commit stamp)) → Torn tear
+    → (m : ℕ) → outcome d (ledgerHeld o junk) (commit stamp) ≡ m
+    → GoodStep (record { disc = d; ledger = o }) (cutCommit (kept d (ledgerHeld o junk) (commit stamp) j)) (cutWorld (cutDisc d (sectorsOf d (ledgerHeld o junk) (commit stamp)) j tear))
+cut-commit-step d o stamp junk j tear g f h t (suc m) e =
     let l : List ℕ = ledgerHeld o junk in
-    let unsaved : kept d l commit j ≡ false = ap (λ (x : ℕ). eqb x 0 && eqb j (length (sectorsOf d l commit))) e ∙ ap (λ (x : Bool). x && eqb j (length (sectorsOf d l commit))) (eqb·suc-zero m) in
-    subst (λ (x : Bool). GoodStep (record { disc = d; ledger = o }) (cutCommit x) (cutWorld (cutDisc d (sectorsOf d l commit) j tear))) (sym unsaved)
-    (lost-step (record { disc = d; ledger = o }) (cutCommit false) (cutDisc d (sectorsOf d l commit) j tear) unsaved-clears
-    (nothing-left d (g .sound-disc) (sectorsOf d l commit) j tear (refused-records-none d l commit m e) h))
-cut-commit-step d none junk j tear g f h t zero e = absurd (f refl e)
-cut-commit-step d (some l) junk j tear g f h t zero e = go (eqb j (length (sectorsOf d l commit))) refl
+    let unsaved : kept d l (commit stamp) j ≡ false = ap (λ (x : ℕ). eqb x 0 && eqb j (length (sectorsOf d l (commit stamp)))) e ∙ ap (λ (x : Bool). x && eqb j (length (sectorsOf d l (commit stamp)))) (eqb·suc-zero m) in
+    subst (λ (x : Bool). GoodStep (record { disc = d; ledger = o }) (cutCommit x) (cutWorld (cutDisc d (sectorsOf d l (commit stamp)) j tear))) (sym unsaved)
+    (lost-step (record { disc = d; ledger = o }) (cutCommit false) (cutDisc d (sectorsOf d l (commit stamp)) j tear) unsaved-clears
+    (nothing-left d (g .sound-disc) (sectorsOf d l (commit stamp)) j tear (refused-records-none d l (commit stamp) m e) h))
+cut-commit-step d none stamp junk j tear g f h t zero e = absurd (f refl (e, refl))
+cut-commit-step d (some l) stamp junk j tear g f h t zero e = go (eqb j (length (sectorsOf d l (commit stamp)))) refl
   where
-    done : CommitDone d l
-    done = commit-done d l e
+    done : CommitDone d l stamp
+    done = commit-done d l stamp e
 
-    same : sectorsOf d l commit ≡ behindLinks (links (unpack l)) (tableSector d l (g .sound-disc) (g .ledger-good))
-    same = done-records d l commit e ∙ commit-records d l (g .sound-disc) (g .ledger-good)
+    same : sectorsOf d l (commit stamp) ≡ behindLinks (links (unpack l)) (tableSector d l (g .sound-disc) (g .ledger-good) stamp)
+    same = done-records d l (commit stamp) e ∙ commit-records d l (g .sound-disc) (g .ledger-good) stamp
 
-    count : length (sectorsOf d l commit) ≡ links (unpack l) + 1
-    count = ap length same ∙ length-behind (links (unpack l)) (tableSector d l (g .sound-disc) (g .ledger-good))
+    count : length (sectorsOf d l (commit stamp)) ≡ links (unpack l) + 1
+    count = ap length same ∙ length-behind (links (unpack l)) (tableSector d l (g .sound-disc) (g .ledger-good) stamp)
 
-    is-kept : (t : Bool) → eqb j (length (sectorsOf d l commit)) ≡ t → kept d l commit j ≡ t
+    is-kept : (t : Bool) → eqb j (length (sectorsOf d l (commit stamp))) ≡ t → kept d l (commit stamp) j ≡ t
     is-kept t z = ap₂ (λ (x : ℕ) (y : Bool). eqb x 0 && y) e z
 
     before : viewIs (unpack l) ≡ working F (mapOf (unpack l)) (unpack l .last)
     before = working-view (unpack l) (done .not-looking)
 
-    go : (t : Bool) → eqb j (length (sectorsOf d l commit)) ≡ t
-        → GoodStep (record { disc = d; ledger = some l }) (cutCommit (kept d l commit j)) (cutWorld (cutDisc d (sectorsOf d l commit) j tear))
+    go : (t : Bool) → eqb j (length (sectorsOf d l (commit stamp))) ≡ t
+        → GoodStep (record { disc = d; ledger = some l }) (cutCommit (kept d l (commit stamp) j)) (cutWorld (cutDisc d (sectorsOf d l (commit stamp)) j tear))
     go true z =
-        let all : cutDisc d (sectorsOf d l commit) j tear ≡ puts d (recorded d) (behindLinks (links (unpack l)) (tableSector d l (g .sound-disc) (g .ledger-good))) =
-        cut-all (sectorsOf d l commit) d tear j (eqb-true j (length (sectorsOf d l commit)) z) ∙ ap (puts d (recorded d)) same in
+        let all : cutDisc d (sectorsOf d l (commit stamp)) j tear ≡ puts d (recorded d) (behindLinks (links (unpack l)) (tableSector d l (g .sound-disc) (g .ledger-good) stamp)) =
+        cut-all (sectorsOf d l (commit stamp)) d tear j (eqb-true j (length (sectorsOf d l (commit stamp))) z) ∙ ap (puts d (recorded d)) same in
         subst₂ (λ (x : Bool) (y : Disc). GoodStep (record { disc = d; ledger = some l }) (cutCommit x) (cutWorld y)) (sym (is-kept true z)) (sym all)
         (record {
           good =
               record {
-                sound-disc = behind-sound d (g .sound-disc) (links (unpack l)) (tableSector d l (g .sound-disc) (g .ledger-good)) (sector-long d l (g .sound-disc) (g .ledger-good) done) (room d l (g .sound-disc) (g .ledger-good) (links (unpack l)) (done .room));
+                sound-disc = behind-sound d (g .sound-disc) (links (unpack l)) (tableSector d l (g .sound-disc) (g .ledger-good) stamp) (sector-long d l (g .sound-disc) (g .ledger-good) stamp done) (room d l (g .sound-disc) (g .ledger-good) (links (unpack l)) (done .room));
                 ledger-good = tt;
               };
           step =
-              subst (λ (v : View). Step F (at F d (some v)) (cutCommit true) (at F (puts d (recorded d) (behindLinks (links (unpack l)) (tableSector d l (g .sound-disc) (g .ledger-good)))) none)) (sym before)
-              (Step.lost-saved (mapOf (unpack l)) (unpack l .last) (recorded d + links (unpack l)) (save d l (g .sound-disc) (g .ledger-good) done));
+              subst (λ (v : View). Step F (at F d (some v)) (cutCommit true) (at F (puts d (recorded d) (behindLinks (links (unpack l)) (tableSector d l (g .sound-disc) (g .ledger-good) stamp))) none)) (sym before)
+              (Step.lost-saved (mapOf (unpack l)) (unpack l .last) (recorded d + links (unpack l)) (save d l (g .sound-disc) (g .ledger-good) stamp done));
         })
     go false z =
-        let fewer : j ≤ links (unpack l) = not-all j (length (sectorsOf d l commit)) (links (unpack l)) h (eqb-false j (length (sectorsOf d l commit)) z) count in
+        let fewer : j ≤ links (unpack l) = not-all j (length (sectorsOf d l (commit stamp))) (links (unpack l)) h (eqb-false j (length (sectorsOf d l (commit stamp))) z) count in
         subst₂ (λ (x : Bool) (y : List Sector). GoodStep (record { disc = d; ledger = some l }) (cutCommit x) (cutWorld (cutDisc d y j tear))) (sym (is-kept false z)) (sym same)
-        (lost-step (record { disc = d; ledger = some l }) (cutCommit false) (cutDisc d (behindLinks (links (unpack l)) (tableSector d l (g .sound-disc) (g .ledger-good))) j tear) unsaved-clears
-        (cut-links-left (links (unpack l)) (tableSector d l (g .sound-disc) (g .ledger-good)) d j tear (g .sound-disc) (room d l (g .sound-disc) (g .ledger-good) (links (unpack l)) (done .room)) fewer t))
+        (lost-step (record { disc = d; ledger = some l }) (cutCommit false) (cutDisc d (behindLinks (links (unpack l)) (tableSector d l (g .sound-disc) (g .ledger-good) stamp)) j tear) unsaved-clears
+        (cut-links-left (links (unpack l)) (tableSector d l (g .sound-disc) (g .ledger-good) stamp) d j tear (g .sound-disc) (room d l (g .sound-disc) (g .ledger-good) (links (unpack l)) (done .room)) fewer t))
 
 -- the calls that record nothing
 abbrev Idle : Call → Type 0
@@ -490,9 +526,10 @@ Idle mount = Unit
 Idle (write n block) = ⊥
 Idle (release n) = Unit
 Idle closePacket = Unit
-Idle commit = ⊥
+Idle (commit stamp) = ⊥
 Idle (read n block) = Unit
 Idle (lookBack k) = Unit
+Idle (timeOf k answer) = Unit
 
 records-nothing : (d : Disc) (l : List ℕ) (c : Call) → Idle c → sectorsOf d l c ≡ []
 unfolding sectorsOf effect
@@ -501,9 +538,10 @@ records-nothing d l mount i = records-none (outcome d l mount)
 records-nothing d l (write n block) i = absurd i
 records-nothing d l (release n) i = records-none (outcome d l (release n))
 records-nothing d l closePacket i = records-none (outcome d l closePacket)
-records-nothing d l commit i = absurd i
+records-nothing d l (commit stamp) i = absurd i
 records-nothing d l (read n block) i = records-none (outcome d l (read n block))
 records-nothing d l (lookBack k) i = records-none (outcome d l (lookBack k))
+records-nothing d l (timeOf k answer) i = records-none (outcome d l (timeOf k answer))
 
 idle-cut : (d : Disc) (o : Option (List ℕ)) (c : Call) (junk : List ℕ) (j : ℕ) (tear : Option (List ℕ)) → Good (record { disc = d; ledger = o })
     → j ≤ length (sectorsOf d (ledgerHeld o junk) c) → sectorsOf d (ledgerHeld o junk) c ≡ []
@@ -522,9 +560,10 @@ cut-step d o (write n block) junk j tear g f h t =
     (cut-write-left d o n block junk j tear g f h t (outcome d (ledgerHeld o junk) (write n block)) refl)
 cut-step d o (release n) junk j tear g f h t = idle-cut d o (release n) junk j tear g h (records-nothing d (ledgerHeld o junk) (release n) tt)
 cut-step d o closePacket junk j tear g f h t = idle-cut d o closePacket junk j tear g h (records-nothing d (ledgerHeld o junk) closePacket tt)
-cut-step d o commit junk j tear g f h t = cut-commit-step d o junk j tear g f h t (outcome d (ledgerHeld o junk) commit) refl
+cut-step d o (commit stamp) junk j tear g f h t = cut-commit-step d o stamp junk j tear g f h t (outcome d (ledgerHeld o junk) (commit stamp)) refl
 cut-step d o (read n block) junk j tear g f h t = idle-cut d o (read n block) junk j tear g h (records-nothing d (ledgerHeld o junk) (read n block) tt)
 cut-step d o (lookBack k) junk j tear g f h t = idle-cut d o (lookBack k) junk j tear g h (records-nothing d (ledgerHeld o junk) (lookBack k) tt)
+cut-step d o (timeOf k answer) junk j tear g f h t = idle-cut d o (timeOf k answer) junk j tear g h (records-nothing d (ledgerHeld o junk) (timeOf k answer) tt)
 
 -- every event is a step
 pub event-step : (w : World) (e : Event) → Good w → Allowed w e → GoodStep w (fed w e) (next w e)

@@ -8,7 +8,7 @@ use Prim.Native.Nat.{ℕ, suc, _+_, _*_, _<_}
 use native.Mathlib.Nat.{not-suc-le-zero}
 use native.Mathlib.Omega.{arith}
 use mathlib.Core.Path.{_≡_, refl, sym, ap, _∙_, subst, subst₂}
-use mathlib.Core.Bool.{Bool, true, _||_, not}
+use mathlib.Core.Bool.{Bool, true, false, _||_, not}
 use mathlib.Core.List.{List, [], _∷_}
 use mathlib.Core.Option.{Option, none, some}
 use lib.Dec.{eqb, lit<}
@@ -27,11 +27,11 @@ use Rattle.volume.specs.declared.Volume.{Volume}
 use Rattle.volume.specs.Volume.{ledgerLength, idle, readOnly, unpack, pack, mapOf, filled}
 use Rattle.volume.proofs.State.{Proper, unpack-pack, proper-unpack, map-filled, length-map}
 use Rattle.recorder.specs.Calls.{Call, begin, mount, commit, lookBack}
-use Rattle.recorder.specs.Refusals.{test, ledgerLent, isSome, walkFrom, walked, isBroken, isEnded, tests, outcome, links, target}
+use Rattle.recorder.specs.Refusals.{test, ledgerLent, isSome, walkFrom, walked, isBroken, isEnded, walkTests, tests, outcome, links, target}
 use Rattle.recorder.specs.Effects.{effect, blockReached, cleanNumber, after}
-use Rattle.recorder.proofs.Done.{skip, stop, none-left, skip-basic, begin-done, mount-done, CommitDone, commit-done}
+use Rattle.recorder.proofs.Done.{skip, stop, none-left, skip-basic, skip-walk, begin-done, mount-done, CommitDone, commit-done}
 use Rattle.history.specs.History.{Snapshot, History, feed}
-use Rattle.history.specs.Events.{World, Event, calls, AllAllowed, next, fed, runs, remembers, shown, pageOf, afterCall, begunHistory, mountedHistory}
+use Rattle.history.specs.Events.{World, Event, calls, onlyTells, AllAllowed, next, fed, runs, remembers, shown, pageOf, afterCall, begunHistory, mountedHistory}
 use Rattle.history.specs.Claim.{Shows, DoneShowing, Mounts, Claim, PowerCuts}
 use Rattle.history.proofs.Log.{Inv, Pages, Saved, pageFrom, newest-saved, kept, walk-page, head-link, working}
 use Rattle.recorder.proofs.Sectors.{behindLinks}
@@ -88,14 +88,7 @@ module _ (d : Disc) (l : List ℕ) (ok : Sound d) (long : length l ≡ ledgerLen
   look-back-some : (k b t : ℕ) → newest d ≡ some b → walked d k ≡ Reached t → outcome d l (lookBack k) ≡ 0
   unfolding outcome tests
   look-back-some k b t n e =
-      let seven : Bool = not (isSome (newest d)) in
-      let eight : Bool = isBroken (walked d k) in
-      let nine : Bool = isEnded (walked d k) in
-      skip-basic d (ledgerLent l) (test 7 seven ∷ test 8 eight ∷ test 9 nine ∷ []) ok (eq-eqb (length l) ledgerLength long)
-      ∙ skip 7 seven (test 8 eight ∷ test 9 nine ∷ []) (ap (λ (o : Option ℕ). not (isSome o)) n)
-      ∙ skip 8 eight (test 9 nine ∷ []) (ap isBroken e)
-      ∙ skip 9 nine [] (ap isEnded e)
-      ∙ none-left
+      skip-basic d (ledgerLent l) (walkTests d k) ok (eq-eqb (length l) ledgerLength long) ∙ skip-walk d k b t [] n e ∙ none-left
 
   look-back-leaves : (k b t : ℕ) → newest d ≡ some b → walked d k ≡ Reached t → after d l (lookBack k) .ledger ≡ pack (filled (mapAt d t) t (recorded d) readOnly)
   unfolding after effect
@@ -155,9 +148,9 @@ claimed w h r =
 abbrev lostWorld : Disc → World
 lostWorld d = record { disc = d; ledger = none }
 
-started : (d : Disc) (l : List ℕ) (c : Call) → outcome d l c ≡ 0 → next (lostWorld d) (calls c l) ≡ afterCall d l c
+started : (d : Disc) (l : List ℕ) (c : Call) → onlyTells c ≡ false → outcome d l c ≡ 0 → next (lostWorld d) (calls c l) ≡ afterCall d l c
 unfolding next
-started d l c e = rw e
+started d l c t e = rw (t, e)
 
 pub begun-kept : (d : Disc) (l : List ℕ) → outcome d l begin ≡ 0 → Kept (afterCall d l begin) begunHistory
 unfolding feed fed
@@ -168,7 +161,7 @@ begun-kept d l e =
     let h : History = record { pages = []; draft = none } in
     let i : Inv F (stateOf (lostWorld d)) h = record { pages = facts .1; draft = refl } in
     let fed-begin : feed h (fed (lostWorld d) (calls begin l)) ≡ begunHistory = rw e in
-    subst₂ (λ (w : World) (k : History). Kept w k) (started d l begin e) fed-begin (record { good = s .good; inv = kept F names-below h (s .step) i })
+    subst₂ (λ (w : World) (k : History). Kept w k) (started d l begin refl e) fed-begin (record { good = s .good; inv = kept F names-below h (s .step) i })
 
 pub mounted-kept : (d : Disc) (l : List ℕ) → outcome d l mount ≡ 0 → Kept (afterCall d l mount) (mountedHistory d)
 unfolding feed fed shown
@@ -185,7 +178,7 @@ mounted-kept d l e =
     let i : Inv F (stateOf (lostWorld d)) h =
     record { pages = (b, n, record { is-table = table; inside = table-recorded d (facts .0) b table; page = same }); draft = refl } in
     let fed-mount : feed h (fed (lostWorld d) (calls mount l)) ≡ mountedHistory d = rw e in
-    subst₂ (λ (w : World) (k : History). Kept w k) (started d l mount e) fed-mount (record { good = s .good; inv = kept F names-below h (s .step) i })
+    subst₂ (λ (w : World) (k : History). Kept w k) (started d l mount refl e) fed-mount (record { good = s .good; inv = kept F names-below h (s .step) i })
 
 pub power-cuts : PowerCuts
 power-cuts =
@@ -200,22 +193,22 @@ power-cuts =
 
 -- what mount and look back 1 say of the disc that a commit left, lent any 1,848 bytes: the same map and size, that block as last table, clean; and one
 -- step back the table that was the ledger's last, if there was one
-pub record Remounted (d : Disc) (l m : List ℕ) : Type 0 where
-  pub clean : after (after d l commit .disc) m mount .answer ≡ 1
-  pub same-map : mapOf (unpack (after (after d l commit .disc) m mount .ledger)) ≡ mapOf (unpack l)
-  pub same-size : unpack (after (after d l commit .disc) m mount .ledger) .size ≡ unpack l .size
-  pub that-block : unpack (after (after d l commit .disc) m mount .ledger) .last ≡ after d l commit .answer
-  pub one-back : (unpack l .last ≡ unused → ⊥) → after (after d l commit .disc) m (lookBack 1) .answer ≡ unpack l .last
-  pub none-back : unpack l .last ≡ unused → after (after d l commit .disc) m (lookBack 1) .answer ≡ 9 * 4294967296
+pub record Remounted (d : Disc) (l : List ℕ) (stamp : Option (List ℕ)) (m : List ℕ) : Type 0 where
+  pub clean : after (after d l (commit stamp) .disc) m mount .answer ≡ 1
+  pub same-map : mapOf (unpack (after (after d l (commit stamp) .disc) m mount .ledger)) ≡ mapOf (unpack l)
+  pub same-size : unpack (after (after d l (commit stamp) .disc) m mount .ledger) .size ≡ unpack l .size
+  pub that-block : unpack (after (after d l (commit stamp) .disc) m mount .ledger) .last ≡ after d l (commit stamp) .answer
+  pub one-back : (unpack l .last ≡ unused → ⊥) → after (after d l (commit stamp) .disc) m (lookBack 1) .answer ≡ unpack l .last
+  pub none-back : unpack l .last ≡ unused → after (after d l (commit stamp) .disc) m (lookBack 1) .answer ≡ 9 * 4294967296
 
-committed-disc : (d : Disc) (l : List ℕ) (ok : Sound d) (good : Proper (unpack l)) → outcome d l commit ≡ 0
-    → after d l commit .disc ≡ puts d (recorded d) (behindLinks (links (unpack l)) (tableSector d l ok good))
+pub committed-disc : (d : Disc) (l : List ℕ) (ok : Sound d) (good : Proper (unpack l)) (stamp : Option (List ℕ)) → outcome d l (commit stamp) ≡ 0
+    → after d l (commit stamp) .disc ≡ puts d (recorded d) (behindLinks (links (unpack l)) (tableSector d l ok good stamp))
 unfolding after
-committed-disc d l ok good e = rw e (ap (puts d (recorded d)) (commit-records d l ok good))
+committed-disc d l ok good stamp e = rw e (ap (puts d (recorded d)) (commit-records d l ok good stamp))
 
-committed-block : (d : Disc) (l : List ℕ) → outcome d l commit ≡ 0 → after d l commit .answer ≡ target (unpack l)
+committed-block : (d : Disc) (l : List ℕ) (stamp : Option (List ℕ)) → outcome d l (commit stamp) ≡ 0 → after d l (commit stamp) .answer ≡ target (unpack l)
 unfolding after effect
-committed-block d l e = rw e
+committed-block d l stamp e = rw e
 
 mount-clean : (d : Disc) (m : List ℕ) → Sound d → length m ≡ ledgerLength → (b : ℕ) → newest d ≡ some b → recorded d ≡ suc b → after d m mount .answer ≡ 1
 unfolding after effect
@@ -233,18 +226,18 @@ module _ (d : Disc) (b t : ℕ) (n : newest d ≡ some b) (named : previousAt d 
   unfolding walked walk
   steps-off none-there = ap (walkFrom d 1) n ∙ rw (named, eq-eqb t unused none-there)
 
-pub remounts : (d : Disc) (l : List ℕ) → Proper (unpack l) → outcome d l commit ≡ 0 → (m : List ℕ) → length m ≡ ledgerLength → Remounted d l m
+pub remounts : (d : Disc) (l : List ℕ) → Proper (unpack l) → (stamp : Option (List ℕ)) → outcome d l (commit stamp) ≡ 0 → (m : List ℕ) → length m ≡ ledgerLength → Remounted d l stamp m
 unfolding filled
-remounts d l good e m long =
+remounts d l good stamp e m long =
     let v : Volume = unpack l in
-    let f : CommitDone d l = commit-done d l e in
+    let f : CommitDone d l stamp = commit-done d l stamp e in
     let ok : Sound d = f .sound-disc in
     let b : ℕ = recorded d + links v in
-    let s : List ℕ = tableSector d l ok good in
+    let s : List ℕ = tableSector d l ok good stamp in
     let d′ : Disc = puts d (recorded d) (behindLinks (links v) s) in
-    let same : after d l commit .disc ≡ d′ = committed-disc d l ok good e in
-    let ok′ : Sound d′ = behind-sound d ok (links v) s (sector-long d l ok good f) (room d l ok good (links v) (f .room)) in
-    let saved : Saved F d d′ (working F (mapOf v) (v .last)) b = save d l ok good f in
+    let same : after d l (commit stamp) .disc ≡ d′ = committed-disc d l ok good stamp e in
+    let ok′ : Sound d′ = behind-sound d ok (links v) s (sector-long d l ok good stamp f) (room d l ok good (links v) (f .room)) in
+    let saved : Saved F d d′ (working F (mapOf v) (v .last)) b = save d l ok good stamp f in
     let n : newest d′ ≡ some b = newest-saved F (working F (mapOf v) (v .last)) b saved in
     let state : Volume = filled (mapAt d′ b) b (recorded d′) idle in
     let proper : Proper state = proper-table d′ ok′ b idle (lit< tt) (saved .a-table) in
@@ -255,9 +248,9 @@ remounts d l good e m long =
     let all : (e : Disc) → e ≡ d′ → unpack (after e m mount .ledger) ≡ state = λ e p. ap (λ (x : Disc). unpack (after x m mount .ledger)) p ∙ left in
     record {
       clean = ap (λ (x : Disc). after x m mount .answer) same ∙ mount-clean d′ m ok′ long b n (saved .last-sector);
-      same-map = ap mapOf (all (after d l commit .disc) same) ∙ map;
-      same-size = ap (λ (x : Volume). x .size) (all (after d l commit .disc) same) ∙ ap length (saved .its-map) ∙ counted;
-      that-block = ap (λ (x : Volume). x .last) (all (after d l commit .disc) same) ∙ sym (committed-block d l e ∙ at-target d l ok good f);
+      same-map = ap mapOf (all (after d l (commit stamp) .disc) same) ∙ map;
+      same-size = ap (λ (x : Volume). x .size) (all (after d l (commit stamp) .disc) same) ∙ ap length (saved .its-map) ∙ counted;
+      that-block = ap (λ (x : Volume). x .last) (all (after d l (commit stamp) .disc) same) ∙ sym (committed-block d l stamp e ∙ at-target d l ok good stamp f);
       one-back = λ used.
           let inside : v .last < recorded d = table-recorded d ok (v .last) (old-table used) in
           ap (λ (x : Disc). after x m (lookBack 1) .answer) same
@@ -266,5 +259,5 @@ remounts d l good e m long =
           ap (λ (x : Disc). after x m (lookBack 1) .answer) same ∙ look-back-ends d′ m ok′ long 1 b n (steps-off d′ b (v .last) n (saved .its-previous) none-there);
     }
 
-pub commit-then-mount : (d : Disc) (l : List ℕ) → AllBytes l → outcome d l commit ≡ 0 → (m : List ℕ) → length m ≡ ledgerLength → Remounted d l m
+pub commit-then-mount : (d : Disc) (l : List ℕ) → AllBytes l → (stamp : Option (List ℕ)) → outcome d l (commit stamp) ≡ 0 → (m : List ℕ) → length m ≡ ledgerLength → Remounted d l stamp m
 commit-then-mount d l bytes = remounts d l (proper-unpack l bytes)

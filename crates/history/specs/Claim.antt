@@ -20,9 +20,9 @@ blockNumber (shows b bytes) = b
 
 -- "Read of v, lent 2048 bytes, then gives what that page has for v, or 10 if not in use."
 abbrev pub reading : Disc → List ℕ → List ℕ → Entry → After
-reading d l block unusedEntry = record { answer = 10 * 4294967296; disc = d; ledger = l; block = block }
-reading d l block (shows b (some bytes)) = record { answer = 0; disc = d; ledger = l; block = bytes }
-reading d l block (shows b none) = record { answer = 11 * 4294967296; disc = d; ledger = l; block = block }
+reading d l block unusedEntry = record { answer = 10 * 4294967296; disc = d; ledger = l; buffer = block }
+reading d l block (shows b (some bytes)) = record { answer = 0; disc = d; ledger = l; buffer = bytes }
+reading d l block (shows b none) = record { answer = 11 * 4294967296; disc = d; ledger = l; buffer = block }
 
 -- The ledger l on the disc d shows the page p: "size and entries are the .. page's", and every number reads what the page has.
 pub record Shows (d : Disc) (l : List ℕ) (p : Snapshot) : Type 0 where

@@ -9,7 +9,7 @@ use lib.ListN.{length, take}
 use Rattle.vat.specs.Table.{sectorLength, unused}
 use Rattle.disc.specs.Disc.{Disc, Sector, torn, recorded, content, put, puts}
 use Rattle.disc.specs.Tables.{mapAt, newest, blockFound}
-use Rattle.recorder.specs.Calls.{Call, begin, mount, write, release, closePacket, commit, read, lookBack}
+use Rattle.recorder.specs.Calls.{Call, begin, mount, write, release, closePacket, commit, read, lookBack, timeOf}
 use Rattle.recorder.specs.Refusals.{outcome}
 use Rattle.recorder.specs.Effects.{after, secondNumber, sectorsOf}
 use Rattle.history.specs.History.{Entry, unusedEntry, shows, Snapshot, History, Told, Fed, answered, cut, cutCommit, feed}
@@ -30,6 +30,21 @@ abbrev pub ledgerHeld : Option (List ℕ) → List ℕ → List ℕ
 ledgerHeld none junk = junk
 ledgerHeld (some l) junk = l
 
+-- "In the cut rule this and any later call that only tells counts as a refused one" (document 02, R-3): which calls only tell.
+abbrev pub onlyTells : Call → Bool
+onlyTells begin = false
+onlyTells mount = false
+onlyTells (write n block) = false
+onlyTells (release n) = false
+onlyTells closePacket = false
+onlyTells (commit stamp) = false
+onlyTells (read n block) = false
+onlyTells (lookBack k) = false
+onlyTells (timeOf k answer) = true
+
+abbrev pub CountsAsDone : Disc → List ℕ → Call → Type 0
+CountsAsDone d l c = (outcome d l c ≡ 0) × (onlyTells c ≡ false)
+
 -- "until a begin, mount or look back is done, only these three and refused calls follow."
 abbrev pub Restores : Call → Type 0
 Restores begin = Unit
@@ -37,12 +52,13 @@ Restores mount = Unit
 Restores (write n block) = ⊥
 Restores (release n) = ⊥
 Restores closePacket = ⊥
-Restores commit = ⊥
+Restores (commit stamp) = ⊥
 Restores (read n block) = ⊥
 Restores (lookBack k) = Unit
+Restores (timeOf k answer) = ⊥
 
 abbrev pub Follows : World → Call → List ℕ → Type 0
-Follows w c junk = (w .ledger ≡ none) → ((outcome (w .disc) junk c ≡ 0) → Restores c)
+Follows w c junk = (w .ledger ≡ none) → (CountsAsDone (w .disc) junk c → Restores c)
 
 -- "A cut keeps the first j of them, for any j from 0 to all; the call's next sector, if there is one, stays blank or has kind 3 with arbitrary bytes."
 abbrev pub Torn : Option (List ℕ) → Type 0
@@ -61,17 +77,18 @@ tornAt false tear b d = d
 unfoldable pub cutDisc : Disc → List Sector → ℕ → Option (List ℕ) → Disc
 cutDisc d ss j tear = tornAt (ltb j (length ss)) tear (recorded d + j) (puts d (recorded d) (take j ss))
 
--- After a refused call a lost ledger is still lost.
-abbrev pub ledgerAfter : ℕ → Option (List ℕ) → List ℕ → Option (List ℕ)
-ledgerAfter zero before left = some left
-ledgerAfter (suc n) before left = before
+-- After a refused call a lost ledger is still lost, and so it is after one that only tells.
+abbrev pub ledgerAfter : Bool → ℕ → Option (List ℕ) → List ℕ → Option (List ℕ)
+ledgerAfter true n before left = before
+ledgerAfter false zero before left = some left
+ledgerAfter false (suc n) before left = before
 
 unfoldable pub next : World → Event → World
 next w (calls c junk) =
     let l : List ℕ = ledgerHeld (w .ledger) junk in
     record {
       disc = after (w .disc) l c .disc;
-      ledger = ledgerAfter (outcome (w .disc) l c) (w .ledger) (after (w .disc) l c .ledger);
+      ledger = ledgerAfter (onlyTells c) (outcome (w .disc) l c) (w .ledger) (after (w .disc) l c .ledger);
     }
 next w (cuts c junk j tear) =
     record { disc = cutDisc (w .disc) (sectorsOf (w .disc) (ledgerHeld (w .ledger) junk) c) j tear; ledger = none }
@@ -83,9 +100,10 @@ told mount = Told.mount
 told (write n block) = Told.write n block
 told (release n) = Told.release n
 told closePacket = Told.closePacket
-told commit = Told.commit
+told (commit stamp) = Told.commit
 told (read n block) = Told.read n
 told (lookBack k) = Told.lookBack k
+told (timeOf k answer) = Told.timeOf k
 
 -- A commit's table sector is kept if it would have been done and all of its sectors are there.
 abbrev pub kept : Disc → List ℕ → Call → ℕ → Bool
@@ -97,9 +115,10 @@ cutShort d l mount j = cut Told.mount
 cutShort d l (write n block) j = cut (Told.write n block)
 cutShort d l (release n) j = cut (Told.release n)
 cutShort d l closePacket j = cut Told.closePacket
-cutShort d l commit j = cutCommit (kept d l commit j)
+cutShort d l (commit stamp) j = cutCommit (kept d l (commit stamp) j)
 cutShort d l (read n block) j = cut (Told.read n)
 cutShort d l (lookBack k) j = cut (Told.lookBack k)
+cutShort d l (timeOf k answer) j = cut (Told.timeOf k)
 
 unfoldable pub fed : World → Event → Fed
 fed w (calls c junk) =

@@ -29,6 +29,7 @@ pub data Told : Type 0 where
   commit : Told
   read : ℕ → Told
   lookBack : ℕ → Told
+  timeOf : ℕ → Told
 
 -- .. and the two numbers answered; of a cut call, instead of these numbers, that it was cut, and for a commit whether its table sector was kept."
 pub data Fed : Type 0 where
@@ -69,8 +70,10 @@ done closePacket second h = h
 done commit second h = record { pages = saved (h .draft) (h .pages); draft = h .draft }
 done (read n) second h = h
 done (lookBack k) second h = record { pages = h .pages; draft = none }
+done (timeOf k) second h = h
 
--- "Read, close packet, any refused call: no change." "Cut: a commit whose table sector was kept makes its page; then no draft."
+-- "Read, close packet, any refused call: no change", and a call that only tells "counts as a refused one" (document 02, R-3). "Cut: a commit whose table
+-- sector was kept makes its page; then no draft."
 unfoldable pub feed : History → Fed → History
 feed h (answered c zero second) = done c second h
 feed h (answered c (suc refusal) second) = h

@@ -8,10 +8,10 @@ use mathlib.Core.Bool.{Bool, true, false, _&&_, _||_, and-assoc}
 use mathlib.Core.List.{List, [], _∷_, _++_}
 use mathlib.Core.Logic.{_⊎_, inl, inr}
 use lib.Dec.{T, eqb, leb, leb→le}
-use lib.ListN.{length, drop}
+use lib.ListN.{length, take, drop}
 use borrow.Author.Tests.{eq-eqb}
 use Rattle.le.specs.Field.{Row, le, readLe, putLe, holds, lay}
-use Rattle.le.proofs.Bytes.{drop-sets-after}
+use Rattle.le.proofs.Bytes.{drop-sets-after, part-sets-apart}
 use Rattle.le.proofs.Fields.{length-le, length-put, read-put, read-sets-apart}
 
 pub both-left : (a b : Bool) → T (a && b) → T a
@@ -61,19 +61,31 @@ unfolding lay
 lay-append [] qs s = refl
 lay-append (p ∷ ps) qs s = lay-append ps qs (putLe (p .width) s (p .at) (p .value))
 
+-- where a row that does not touch a field stands
+outside : (at width : ℕ) (r : Row) → T (leb (at + width) (r .at) || leb (r .at + r .width) at) → (at + width ≤ r .at) ⊎ (r .at + length (le (r .width) (r .value)) ≤ at)
+outside at width r t = go (either (leb (at + width) (r .at)) (leb (r .at + r .width) at) t)
+  where
+    go : T (leb (at + width) (r .at)) ⊎ T (leb (r .at + r .width) at) → (at + width ≤ r .at) ⊎ (r .at + length (le (r .width) (r .value)) ≤ at)
+    go (inl a) = inl (leb→le (at + width) (r .at) a)
+    go (inr b) = inr (rw (length-le (r .width) (r .value)) (leb→le (r .at + r .width) at b))
+
 -- a field that no row touches is read as before
 pub read-lay : (rs : List Row) (s : List ℕ) (at width : ℕ) → T (clear at width rs) → readLe width (lay s rs) at ≡ readLe width s at
 unfolding lay
 read-lay [] s at width t = refl
 read-lay (r ∷ rs) s at width t =
-    let t′ : List ℕ = putLe (r .width) s (r .at) (r .value) in
-    read-lay rs t′ at width (both-right (leb (at + width) (r .at) || leb (r .at + r .width) at) (clear at width rs) t)
-    ∙ read-sets-apart width s at (r .at) (le (r .width) (r .value))
-    (outside (either (leb (at + width) (r .at)) (leb (r .at + r .width) at) (both-left (leb (at + width) (r .at) || leb (r .at + r .width) at) (clear at width rs) t)))
-  where
-    outside : T (leb (at + width) (r .at)) ⊎ T (leb (r .at + r .width) at) → (at + width ≤ r .at) ⊎ (r .at + length (le (r .width) (r .value)) ≤ at)
-    outside (inl a) = inl (leb→le (at + width) (r .at) a)
-    outside (inr b) = inr (rw (length-le (r .width) (r .value)) (leb→le (r .at + r .width) at b))
+    let here : Bool = leb (at + width) (r .at) || leb (r .at + r .width) at in
+    read-lay rs (putLe (r .width) s (r .at) (r .value)) at width (both-right here (clear at width rs) t)
+    ∙ read-sets-apart width s at (r .at) (le (r .width) (r .value)) (outside at width r (both-left here (clear at width rs) t))
+
+-- and so is a part
+pub part-lay : (rs : List Row) (s : List ℕ) (at width : ℕ) → T (clear at width rs) → take width (drop at (lay s rs)) ≡ take width (drop at s)
+unfolding lay
+part-lay [] s at width t = refl
+part-lay (r ∷ rs) s at width t =
+    let here : Bool = leb (at + width) (r .at) || leb (r .at + r .width) at in
+    part-lay rs (putLe (r .width) s (r .at) (r .value)) at width (both-right here (clear at width rs) t)
+    ∙ part-sets-apart (le (r .width) (r .value)) s (r .at) at width (outside at width r (both-left here (clear at width rs) t))
 
 -- rows that lie apart, within the bytes, are held where they were laid
 pub holds-lay : (rs : List Row) (s : List ℕ) → T (apart rs) → (k : ℕ) → T (within k rs) → k ≤ length s → Fit rs → holds (lay s rs) rs ≡ true

@@ -11,6 +11,7 @@ use lib.ListN.{length, getD, take, drop}
 use lib.Seq.{getD-take}
 use borrow.Author.Tests.{eqb-true, eqb-false, ltb-true, ltb-false, leb-true, leb-false, not-false}
 use Rattle.le.specs.Bytes.{every}
+use Rattle.timestamp.specs.Timestamp.{stampLength, toldLength, valid}
 use Rattle.vat.specs.Table.{sectorLength, limit, unused, unusedOrBelow, wholeLength, isTable}
 use Rattle.vat.proofs.Frame.{and-left, and-right}
 use Rattle.vat.proofs.Theorems.{tells}
@@ -22,8 +23,9 @@ use Rattle.disc.proofs.Recording.{sized-tells, Sound, sound, sound-sized, sound
 use Rattle.disc.proofs.Found.{sector-end, table-within}
 use Rattle.volume.specs.declared.Volume.{Volume}
 use Rattle.volume.specs.Volume.{ledgerLength, idle, packetOpen, readOnly, mapOf, unpack, isUnused, fits}
-use Rattle.recorder.specs.Calls.{Call, begin, mount, write, release, closePacket, commit, read, lookBack}
-use Rattle.recorder.specs.Refusals.{Test, test, orElse, first, linkCount, linksIf, links, target, reserve, basic, ledgerLent, blockLent, unfit, forbidden, writeTests, notInUse, isSome, walked, isBroken, isEnded, tests, outcome}
+use Rattle.recorder.specs.Calls.{Call, begin, mount, write, release, closePacket, commit, read, lookBack, timeOf}
+use Rattle.recorder.specs.Refusals.{Test, test, orElse, first, linkCount, linksIf, links, target, reserve, basic, ledgerLent, blockLent, stampLong, stampLent, answerLent, unfit, forbidden, writeTests, stampWrong, commitTests, notInUse, isSome, walked, isBroken, isEnded, walkTests, timeBack, timeWrong, tests, outcome}
+use Rattle.recorder.specs.Effects.{stampOf}
 
 -- ---- lists of tests
 
@@ -223,12 +225,12 @@ ledger-accepted d l (write n block) e =
     (unfit d l ∷ forbidden l ∷ writeTests (blanks d) (unpack l) n block) e
 ledger-accepted d l (release n) e = alone-long d l (unfit d l ∷ forbidden l ∷ test 10 (notInUse (unpack l) n) ∷ []) e
 ledger-accepted d l closePacket e = alone-long d l (unfit d l ∷ forbidden l ∷ []) e
-ledger-accepted d l commit e = alone-long d l (unfit d l ∷ forbidden l ∷ test 14 (ltb (blanks d) (links (unpack l) + 1)) ∷ []) e
+ledger-accepted d l (commit stamp) e = lent-long d l (stampLong stamp) (unfit d l ∷ forbidden l ∷ commitTests (blanks d) (unpack l) stamp) e
 ledger-accepted d l (read n block) e =
     lent-long d l (eqb (length block) sectorLength)
     (unfit d l ∷ test 10 (notInUse (unpack l) n) ∷ test 11 (not (eqb (kindAt d (getD (unpack l .entries) n unused)) 1)) ∷ []) e
-ledger-accepted d l (lookBack k) e =
-    alone-long d l (test 7 (not (isSome (newest d))) ∷ test 8 (isBroken (walked d k)) ∷ test 9 (isEnded (walked d k)) ∷ []) e
+ledger-accepted d l (lookBack k) e = alone-long d l (walkTests d k) e
+ledger-accepted d l (timeOf k answer) e = lent-long d l (eqb (length answer) toldLength) (walkTests d k ++ (timeWrong d k ∷ [])) e
 
 pub record ReadDone (d : Disc) (l : List ℕ) (n : ℕ) (block : List ℕ) : Type 0 where
   pub sound-disc : Sound d
@@ -379,23 +381,33 @@ close-done d l e =
     let b : Basic d (ledgerLent l) (unfit d l ∷ forbidden l ∷ []) = basic-passed d (ledgerLent l) (unfit d l ∷ forbidden l ∷ []) e in
     (b .sound-disc, working-passed d l [] (b .rest-passed))
 
-pub record CommitDone (d : Disc) (l : List ℕ) : Type 0 where
+pub record CommitDone (d : Disc) (l : List ℕ) (stamp : Option (List ℕ)) : Type 0 where
   pub sound-disc : Sound d
+  pub timely : length (stampOf stamp) ≡ stampLength
   pub fit : Fits d (unpack l)
   pub not-looking : eqb (unpack l .mode) readOnly ≡ false
+  pub right-stamp : stampWrong stamp ≡ false
   pub room : links (unpack l) + 1 ≤ blanks d
 
-pub commit-done : (d : Disc) (l : List ℕ) → outcome d l commit ≡ 0 → CommitDone d l
+stamp-long : (stamp : Option (List ℕ)) → stampLong stamp ≡ true → length (stampOf stamp) ≡ stampLength
+stamp-long none e = refl
+stamp-long (some stamp) e = eqb-true (length stamp) stampLength e
+
+pub commit-done : (d : Disc) (l : List ℕ) (stamp : Option (List ℕ)) → outcome d l (commit stamp) ≡ 0 → CommitDone d l stamp
 unfolding outcome tests
-commit-done d l e =
+commit-done d l stamp e =
+    let sixteen : Bool = stampWrong stamp in
     let fourteen : Bool = ltb (blanks d) (links (unpack l) + 1) in
-    let b : Basic d (ledgerLent l) (unfit d l ∷ forbidden l ∷ test 14 fourteen ∷ []) = basic-passed d (ledgerLent l) (unfit d l ∷ forbidden l ∷ test 14 fourteen ∷ []) e in
-    let w : Working d l (test 14 fourteen ∷ []) = working-passed d l (test 14 fourteen ∷ []) (b .rest-passed) in
+    let rest : List Test = commitTests (blanks d) (unpack l) stamp in
+    let b : Basic d (stampLent l stamp) (unfit d l ∷ forbidden l ∷ rest) = basic-passed d (stampLent l stamp) (unfit d l ∷ forbidden l ∷ rest) e in
+    let w : Working d l rest = working-passed d l rest (b .rest-passed) in
     record {
       sound-disc = b .sound-disc;
+      timely = stamp-long stamp (and-right (ledgerLent l) (stampLong stamp) (b .lent));
       fit = w .fit;
       not-looking = w .not-looking;
-      room = ltb-false (blanks d) (links (unpack l) + 1) (passed 13 fourteen [] (w .rest-passed));
+      right-stamp = passed 15 sixteen (test 14 fourteen ∷ []) (w .rest-passed);
+      room = ltb-false (blanks d) (links (unpack l) + 1) (passed 13 fourteen [] (later 15 sixteen (test 14 fourteen ∷ []) (w .rest-passed)));
     }
 
 way-reached : (w : Walk) → isBroken w ≡ false → isEnded w ≡ false → (b : ℕ) × (w ≡ Reached b)
@@ -403,12 +415,56 @@ way-reached (Reached b) p q = (b, refl)
 way-reached Broken p q = absurd (mathlib.Core.Bool.true≢false p)
 way-reached Ended p q = absurd (mathlib.Core.Bool.true≢false q)
 
-pub look-back-done : (d : Disc) (l : List ℕ) (k : ℕ) → outcome d l (lookBack k) ≡ 0 → Sound d × ((b : ℕ) × (walked d k ≡ Reached b))
-unfolding outcome tests
-look-back-done d l k e =
+-- 7, 8 and 9 do not apply: a table was reached
+pub record Walked (d : Disc) (k : ℕ) (rest : List Test) : Type 0 where
+  pub block : ℕ
+  pub reached : walked d k ≡ Reached block
+  pub rest-passed : first rest ≡ 0
+
+walk-passed : (d : Disc) (k : ℕ) (rest : List Test) → first (walkTests d k ++ rest) ≡ 0 → Walked d k rest
+walk-passed d k rest e =
     let seven : Bool = not (isSome (newest d)) in
     let eight : Bool = isBroken (walked d k) in
     let nine : Bool = isEnded (walked d k) in
-    let b : Basic d (ledgerLent l) (test 7 seven ∷ test 8 eight ∷ test 9 nine ∷ []) = basic-passed d (ledgerLent l) (test 7 seven ∷ test 8 eight ∷ test 9 nine ∷ []) e in
-    let e₁ : first (test 8 eight ∷ test 9 nine ∷ []) ≡ 0 = later 6 seven (test 8 eight ∷ test 9 nine ∷ []) (b .rest-passed) in
-    (b .sound-disc, way-reached (walked d k) (passed 7 eight (test 9 nine ∷ []) e₁) (passed 8 nine [] (later 7 eight (test 9 nine ∷ []) e₁)))
+    let e₁ : first (test 8 eight ∷ test 9 nine ∷ rest) ≡ 0 = later 6 seven (test 8 eight ∷ test 9 nine ∷ rest) e in
+    let e₂ : first (test 9 nine ∷ rest) ≡ 0 = later 7 eight (test 9 nine ∷ rest) e₁ in
+    let way = way-reached (walked d k) (passed 7 eight (test 9 nine ∷ rest) e₁) (passed 8 nine rest e₂) in
+    record { block = way .0; reached = way .1; rest-passed = later 8 nine rest e₂ }
+
+pub skip-walk : (d : Disc) (k b t : ℕ) (rest : List Test) → newest d ≡ some b → walked d k ≡ Reached t → first (walkTests d k ++ rest) ≡ first rest
+skip-walk d k b t rest n way =
+    let seven : Bool = not (isSome (newest d)) in
+    let eight : Bool = isBroken (walked d k) in
+    let nine : Bool = isEnded (walked d k) in
+    skip 7 seven (test 8 eight ∷ test 9 nine ∷ rest) (ap (λ (o : Option ℕ). not (isSome o)) n)
+    ∙ skip 8 eight (test 9 nine ∷ rest) (ap isBroken way)
+    ∙ skip 9 nine rest (ap isEnded way)
+
+pub look-back-done : (d : Disc) (l : List ℕ) (k : ℕ) → outcome d l (lookBack k) ≡ 0 → Sound d × ((b : ℕ) × (walked d k ≡ Reached b))
+unfolding outcome tests
+look-back-done d l k e =
+    let b : Basic d (ledgerLent l) (walkTests d k) = basic-passed d (ledgerLent l) (walkTests d k) e in
+    let w : Walked d k [] = walk-passed d k [] (b .rest-passed) in
+    (b .sound-disc, (w .block, w .reached))
+
+pub record TimeDone (d : Disc) (k : ℕ) (answer : List ℕ) : Type 0 where
+  pub sound-disc : Sound d
+  pub answer-long : length answer ≡ toldLength
+  pub block : ℕ
+  pub reached : walked d k ≡ Reached block
+  pub right-time : valid (timeBack d k) ≡ true
+
+pub time-done : (d : Disc) (l : List ℕ) (k : ℕ) (answer : List ℕ) → outcome d l (timeOf k answer) ≡ 0 → TimeDone d k answer
+unfolding outcome tests
+time-done d l k answer e =
+    let sixteen : Bool = not (valid (timeBack d k)) in
+    let rest : List Test = test 16 sixteen ∷ [] in
+    let b : Basic d (answerLent l answer) (walkTests d k ++ rest) = basic-passed d (answerLent l answer) (walkTests d k ++ rest) e in
+    let w : Walked d k rest = walk-passed d k rest (b .rest-passed) in
+    record {
+      sound-disc = b .sound-disc;
+      answer-long = eqb-true (length answer) toldLength (and-right (ledgerLent l) (eqb (length answer) toldLength) (b .lent));
+      block = w .block;
+      reached = w .reached;
+      right-time = not-false (valid (timeBack d k)) (passed 15 sixteen [] (w .rest-passed));
+    }

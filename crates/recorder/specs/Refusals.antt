@@ -1,20 +1,21 @@
--- Which refusal a call is given (document 01, 'Refusals, by who causes them'): "The lowest applicable number is given, never another, and none without
--- its condition", where lowest "means first in the order of tests", in demand 1 too (document 02, R-1). Each call has a list of tests in order; the first
--- that applies gives its number, and 0 is done.
+-- Which refusal a call is given (document 01, 'Refusals, by who causes them', and document 02): "The lowest applicable number is given, never another,
+-- and none without its condition", where lowest "means first in the order of tests", in demand 1 too (document 02, R-1). Each call has a list of tests in
+-- order; the first that applies gives its number, and 0 is done.
 use Prim.Native.Nat.{ℕ, _+_}
 use mathlib.Core.Bool.{Bool, true, false, _&&_, _||_, not}
 use mathlib.Core.List.{List, [], _∷_, _++_}
 use mathlib.Core.Option.{Option, none, some}
 use lib.Dec.{eqb, ltb, leb}
 use lib.ListN.{length, getD}
+use Rattle.timestamp.specs.Timestamp.{stampLength, toldLength, valid}
 use Rattle.vat.specs.Table.{sectorLength, limit, unused, isTable}
 use Rattle.disc.specs.Disc.{Disc, sized, inOrder, blanks, kindAt}
 use Rattle.disc.specs.declared.Walk.{Walk}
 use Rattle.disc.specs.declared.Walk.the-variants.{Reached, Broken, Ended}
-use Rattle.disc.specs.Tables.{tableAt, previousAt, newest, walk}
+use Rattle.disc.specs.Tables.{tableAt, previousAt, timeAt, newest, walk}
 use Rattle.volume.specs.declared.Volume.{Volume}
 use Rattle.volume.specs.Volume.{ledgerLength, idle, readOnly, unpack, fits}
-use Rattle.recorder.specs.Calls.{Call, begin, mount, write, release, closePacket, commit, read, lookBack}
+use Rattle.recorder.specs.Calls.{Call, begin, mount, write, release, closePacket, commit, read, lookBack, timeOf}
 
 pub record Test : Type 0 where
   pub number : ℕ
@@ -60,6 +61,17 @@ ledgerLent l = eqb (length l) ledgerLength
 abbrev pub blockLent : List ℕ → List ℕ → Bool
 blockLent l block = ledgerLent l && eqb (length block) sectorLength
 
+-- "A lent timestamp or answer of another length gives 2."
+abbrev pub stampLong : Option (List ℕ) → Bool
+stampLong none = true
+stampLong (some stamp) = eqb (length stamp) stampLength
+
+abbrev pub stampLent : List ℕ → Option (List ℕ) → Bool
+stampLent l stamp = ledgerLent l && stampLong stamp
+
+abbrev pub answerLent : List ℕ → List ℕ → Bool
+answerLent l answer = ledgerLent l && eqb (length answer) toldLength
+
 -- 4: the ledger does not fit. 5: looking only.
 abbrev pub unfit : Disc → List ℕ → Test
 unfit d l = test 4 (not (fits d (unpack l)))
@@ -76,6 +88,15 @@ writeTests blank v n block =
     ∷ test 14 (ltb blank (links v + 1 + reserve))
     ∷ test 15 (isTable 1 block (target v))
     ∷ []
+
+-- 16, "a timestamp given .. breaks these limits": "tested after 5 on a commit".
+abbrev pub stampWrong : Option (List ℕ) → Bool
+stampWrong none = false
+stampWrong (some stamp) = not (valid stamp)
+
+-- A commit's own tests, with so many blank sectors on the disc: the timestamp, if it has one, and the room.
+abbrev pub commitTests : ℕ → Volume → Option (List ℕ) → List Test
+commitTests blank v stamp = test 16 (stampWrong stamp) ∷ test 14 (ltb blank (links v + 1)) ∷ []
 
 -- 10: "v not below size, or .. an unused entry".
 abbrev pub notInUse : Volume → ℕ → Bool
@@ -104,20 +125,36 @@ isEnded (Reached b) = false
 isEnded Broken = false
 isEnded Ended = true
 
+-- The tests of a walk back k tables. "Look back stops at its first failing step."
+abbrev pub walkTests : Disc → ℕ → List Test
+walkTests d k = test 7 (not (isSome (newest d))) ∷ test 8 (isBroken (walked d k)) ∷ test 9 (isEnded (walked d k)) ∷ []
+
+-- The modification time of the table k saves back; none where the walk fails, which no call that is done meets.
+abbrev pub timeReached : Disc → Walk → List ℕ
+timeReached d (Reached b) = timeAt d b
+timeReached d Broken = []
+timeReached d Ended = []
+
+abbrev pub timeBack : Disc → ℕ → List ℕ
+timeBack d k = timeReached d (walked d k)
+
+-- 16, "a timestamp .. found breaks these limits": "after 9 when asking".
+abbrev pub timeWrong : Disc → ℕ → Test
+timeWrong d k = test 16 (not (valid (timeBack d k)))
+
 unfoldable pub tests : Disc → List ℕ → Call → List Test
 tests d l begin = basic d (ledgerLent l) ++ (test 6 (isSome (newest d)) ∷ [])
 tests d l mount = basic d (ledgerLent l) ++ (test 7 (not (isSome (newest d))) ∷ [])
 tests d l (write n block) = basic d (blockLent l block) ++ (unfit d l ∷ forbidden l ∷ writeTests (blanks d) (unpack l) n block)
 tests d l (release n) = basic d (ledgerLent l) ++ (unfit d l ∷ forbidden l ∷ test 10 (notInUse (unpack l) n) ∷ [])
 tests d l closePacket = basic d (ledgerLent l) ++ (unfit d l ∷ forbidden l ∷ [])
-tests d l commit = basic d (ledgerLent l) ++ (unfit d l ∷ forbidden l ∷ test 14 (ltb (blanks d) (links (unpack l) + 1)) ∷ [])
+tests d l (commit stamp) = basic d (stampLent l stamp) ++ (unfit d l ∷ forbidden l ∷ commitTests (blanks d) (unpack l) stamp)
 tests d l (read n block) =
     let v : Volume = unpack l in
     basic d (blockLent l block)
     ++ (unfit d l ∷ test 10 (notInUse v n) ∷ test 11 (not (eqb (kindAt d (getD (v .entries) n unused)) 1)) ∷ [])
-tests d l (lookBack k) =
-    basic d (ledgerLent l)
-    ++ (test 7 (not (isSome (newest d))) ∷ test 8 (isBroken (walked d k)) ∷ test 9 (isEnded (walked d k)) ∷ [])
+tests d l (lookBack k) = basic d (ledgerLent l) ++ walkTests d k
+tests d l (timeOf k answer) = basic d (answerLent l answer) ++ (walkTests d k ++ (timeWrong d k ∷ []))
 
 -- The outcome: 0 done, else the refusal.
 unfoldable pub outcome : Disc → List ℕ → Call → ℕ

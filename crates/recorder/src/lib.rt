@@ -1,1 +1,1 @@
-// The eight calls: which are refused, and what the others record.
+// The calls: which are refused, and what the others record.

@@ -5,9 +5,10 @@ use vat::table::SECTOR;
 use volume::Volume;
 ghost use mathlib.Core.Path.{_≡_};
 ghost use mathlib.Core.List.{[]};
+ghost use mathlib.Core.Option.{none, some};
 ghost use Prim.Native.Nat.{_*_};
 ghost use Rattle.disc.specs.Disc.{lent};
-ghost use Rattle.recorder.specs.Calls.{begin, mount, write, release, closePacket, commit, read, lookBack};
+ghost use Rattle.recorder.specs.Calls.{begin, mount, write, release, closePacket, commit, read, lookBack, timeOf};
 ghost use Rattle.recorder.specs.Effects.{left, after};
 
 // "A refusal's second number is 0".
@@ -90,17 +91,30 @@ pub extern "C" fn station_close_packet(image: &[u8], kinds: &[u8], ledger: &mut 
 
 #[no_mangle]
 pub extern "C" fn station_commit(image: &mut [u8], kinds: &mut [u8], ledger: &mut [u8]) -> u64
-    ensures { λ r. ⌜ left r (now (image .exit)) (now (kinds .exit)) (now (ledger .exit)) [] ≡ after (lent (now (image .entry)) (now (kinds .entry))) (now (ledger .entry)) commit ⌝ }
+    ensures { λ r. ⌜ left r (now (image .exit)) (now (kinds .exit)) (now (ledger .exit)) [] ≡ after (lent (now (image .entry)) (now (kinds .entry))) (now (ledger .entry)) (commit none) ⌝ }
 {
     let outcome = calls::admit::commit(image, kinds, ledger);
     if outcome != 0 {
         return refusal(outcome);
     }
-    let b = calls::effects::record_links(kinds, ledger);
-    let state = Volume::load(ledger);
-    calls::effects::record_table(image, kinds, state, b);
-    state.committed(b).store(ledger);
-    b as u64
+    let stamp = [0u8; 12];
+    calls::effects::save(image, kinds, ledger, &stamp) as u64
+}
+
+#[no_mangle]
+pub extern "C" fn station_commit_at(
+    image: &mut [u8],
+    kinds: &mut [u8],
+    ledger: &mut [u8],
+    stamp: &[u8],
+) -> u64
+    ensures { λ r. ⌜ left r (now (image .exit)) (now (kinds .exit)) (now (ledger .exit)) (now (stamp .entry)) ≡ after (lent (now (image .entry)) (now (kinds .entry))) (now (ledger .entry)) (commit (some (now (stamp .entry)))) ⌝ }
+{
+    let outcome = calls::admit::commit_at(image, kinds, ledger, stamp);
+    if outcome != 0 {
+        return refusal(outcome);
+    }
+    calls::effects::save(image, kinds, ledger, stamp) as u64
 }
 
 #[no_mangle]
@@ -133,4 +147,22 @@ pub extern "C" fn station_look_back(image: &[u8], kinds: &[u8], ledger: &mut [u8
     }
     calls::effects::show(image, ledger, plan, 2);
     plan.block as u64
+}
+
+#[no_mangle]
+pub extern "C" fn station_time_of(
+    image: &[u8],
+    kinds: &[u8],
+    ledger: &[u8],
+    k: u32,
+    answer: &mut [u8],
+) -> u64
+    ensures { λ r. ⌜ left r (now (image .entry)) (now (kinds .entry)) (now (ledger .entry)) (now (answer .exit)) ≡ after (lent (now (image .entry)) (now (kinds .entry))) (now (ledger .entry)) (timeOf k (now (answer .entry))) ⌝ }
+{
+    let plan = calls::admit::time_of(image, kinds, ledger, k, answer);
+    if plan.outcome != 0 {
+        return refusal(plan.outcome);
+    }
+    timestamp::tell(disc::tables::time_at(image, plan.block), answer);
+    0
 }

@@ -5,15 +5,18 @@ use native.Mathlib.Omega.{arith}
 use mathlib.Core.Path.{_≡_, refl, sym, ap, _∙_}
 use mathlib.Core.Bool.{true, _&&_}
 use mathlib.Core.List.{List, _++_}
-use lib.ListN.{length, replicate, length-replicate}
-use lib.Seq.{sets, length-sets}
+use mathlib.Core.Logic.{inl}
+use lib.Dec.{lit≤}
+use lib.ListN.{length, take, drop, replicate, length-replicate}
+use lib.Seq.{sets, length-sets, take-at}
 use Rattle.le.specs.Field.{Row, le, lay, holds, leWords}
-use Rattle.le.proofs.Bytes.{sets-append}
+use Rattle.le.proofs.Bytes.{drop-sets, drop-sets-after, part-sets-apart, sets-append}
 use Rattle.le.proofs.Fields.{length-le}
 use Rattle.le.proofs.Rows.{lay-append, holds-lay, holds-append}
 use Rattle.le.proofs.Runs.{length-leWords}
-use Rattle.vat.specs.Table.{sectorLength, limit, tableStart, regidAt, plainRows, lengthRows, tableName}
-use Rattle.vat.specs.Sector.{tableRegid, tableBytes, ownRows, stationAt, stationName, body}
+use Rattle.timestamp.specs.Timestamp.{stampLength}
+use Rattle.vat.specs.Table.{sectorLength, limit, tableStart, regidAt, plainRows, lengthRows, tableName, modifiedAt, modifiedOf}
+use Rattle.vat.specs.Sector.{tableRegid, tableBytes, ownRows, stationAt, stationName, accessAt, attributeAt, timed, body}
 use Rattle.vat.proofs.Frame.{and-left, and-right, Lengths, lengths}
 
 abbrev pub header : ℕ → ℕ → List Row
@@ -71,9 +74,37 @@ header-lengths b n s hb hn hs =
 pub header-laid : (b n : ℕ) (s : List ℕ) → lay (lay (lay s (plainRows b)) (lengthRows 0 n)) ownRows ≡ lay s (header b n)
 header-laid b n s = rw (lay-append (plainRows b) (lengthRows 0 n ++ ownRows) s, lay-append (lengthRows 0 n) ownRows (lay s (plainRows b)))
 
-pub length-body : (map : List ℕ) (previous : ℕ) → length (body map previous) ≡ sectorLength
+pub length-timed : (stamp s : List ℕ) → length (timed stamp s) ≡ length s
+unfolding timed
+length-timed stamp s =
+    length-sets (sets (sets s accessAt stamp) modifiedAt stamp) attributeAt stamp
+    ∙ length-sets (sets s accessAt stamp) modifiedAt stamp
+    ∙ length-sets s accessAt stamp
+
+pub length-body : (map : List ℕ) (previous : ℕ) (stamp : List ℕ) → length (body map previous stamp) ≡ sectorLength
 unfolding body
-length-body map previous =
-    length-sets (sets (replicate sectorLength 0) (tableStart 0) (tableBytes map previous)) stationAt stationName
+length-body map previous stamp =
+    length-timed stamp (sets (sets (replicate sectorLength 0) (tableStart 0) (tableBytes map previous)) stationAt stationName)
+    ∙ length-sets (sets (replicate sectorLength 0) (tableStart 0) (tableBytes map previous)) stationAt stationName
     ∙ length-sets (replicate sectorLength 0) (tableStart 0) (tableBytes map previous)
     ∙ length-replicate {A = ℕ} sectorLength 0
+
+-- the times end before the table
+pub behind-times : (stamp s : List ℕ) → length stamp ≡ stampLength → drop (tableStart 0) (timed stamp s) ≡ drop (tableStart 0) s
+unfolding timed
+behind-times stamp s long =
+    let t : List ℕ = sets s accessAt stamp in
+    let u : List ℕ = sets t modifiedAt stamp in
+    drop-sets-after stamp u attributeAt (tableStart 0) (omega arith)
+    ∙ drop-sets-after stamp t modifiedAt (tableStart 0) (omega arith)
+    ∙ drop-sets-after stamp s accessAt (tableStart 0) (omega arith)
+
+-- the modification time is the stamp
+pub time-stands : (stamp s : List ℕ) → length stamp ≡ stampLength → attributeAt ≤ length s → modifiedOf (timed stamp s) ≡ stamp
+unfolding timed modifiedOf
+time-stands stamp s long inside =
+    let t : List ℕ = sets s accessAt stamp in
+    let u : List ℕ = sets t modifiedAt stamp in
+    part-sets-apart stamp u attributeAt modifiedAt stampLength (inl (lit≤ tt))
+    ∙ ap (take stampLength) (drop-sets stamp t modifiedAt (omega (arith, length-sets s accessAt stamp)))
+    ∙ take-at stamp (drop (modifiedAt + length stamp) t) stampLength long

@@ -1,5 +1,5 @@
 -- The table sector, for every map, block, kind and sector:
---     reads-back       the sector recorded for a map, a previous table and block b is a table sector at b that holds exactly these
+--     reads-back       the sector recorded for a map, a previous table, a timestamp and block b is a table sector at b that holds exactly these
 --     at-one-block     a sector is a table sector at one block number at most, so the recorded one at no other (`not-elsewhere`)
 --     of-kind-1        a sector of any other kind is none
 --     tells            what is recognised stands below one sector's end behind attributes of a multiple of 4 bytes, and holds at most 458 entries,
@@ -20,13 +20,14 @@ use Rattle.le.specs.Bytes.{every, holdsText}
 use Rattle.le.specs.Field.{le, readLe, words, leWords, holds, lay}
 use Rattle.le.proofs.Bytes.{drop-sets, drop-sets-after}
 use Rattle.le.proofs.Fields.{length-le, read-le}
-use Rattle.le.proofs.Rows.{length-lay, holds-spared, holds-append, drop-lay}
+use Rattle.le.proofs.Rows.{length-lay, holds-spared, holds-append, drop-lay, part-lay}
 use Rattle.le.proofs.Runs.{length-leWords, drop-on, text-held, Words, words-read, length-words}
 use Rattle.tag.specs.Tag.{sealed}
-use Rattle.vat.specs.Table.{sectorLength, limit, unused, tableStart, tableLength, regidAt, plainRows, lengthRows, embedded, tableName, attributeLength, entryCount, wholeLength, entriesOf, previousOf, unusedOrBelow, framed, isTable}
+use Rattle.timestamp.specs.Timestamp.{stampLength}
+use Rattle.vat.specs.Table.{sectorLength, limit, unused, tableStart, tableLength, regidAt, plainRows, lengthRows, embedded, tableName, attributeLength, entryCount, wholeLength, entriesOf, previousOf, modifiedAt, modifiedOf, unusedOrBelow, framed, isTable}
 use Rattle.vat.specs.Sector.{tableRegid, tableBytes, ownRows, stationName, stationAt, body, sector}
 use Rattle.vat.proofs.Frame.{and-left, and-right, lengths, few-entries, Framed, framed-tells}
-use Rattle.vat.proofs.Record.{header, header-held, length-body}
+use Rattle.vat.proofs.Record.{header, header-held, length-timed, length-body, behind-times, time-stands}
 use Rattle.tag.proofs.Sums.{sealRows, seal-lays, sealed-seal}
 
 -- ---- what is recognised
@@ -144,35 +145,35 @@ unfolding tableBytes tableRegid tableName
 length-table map previous =
     rw (length-append (leWords map) (tableRegid ++ le 4 previous), length-append tableRegid (le 4 previous), length-leWords map, length-le 4 previous) (omega arith)
 
-module _ (map : List ℕ) (previous b : ℕ) (few : length map ≤ limit) (small : b < 4294967296) where
+module _ (map : List ℕ) (previous : ℕ) (stamp : List ℕ) (b : ℕ) (few : length map ≤ limit) (small : b < 4294967296) (timely : length stamp ≡ stampLength) where
   laid : List ℕ
-  laid = lay (body map previous) (header b (length map))
+  laid = lay (body map previous stamp) (header b (length map))
 
   length-laid : length laid ≡ sectorLength
   unfolding laid
-  length-laid = length-lay (header b (length map)) (body map previous) ∙ length-body map previous
+  length-laid = length-lay (header b (length map)) (body map previous stamp) ∙ length-body map previous stamp
 
-  sector-lays : sector map previous b ≡ lay laid (sealRows laid)
+  sector-lays : sector map previous stamp b ≡ lay laid (sealRows laid)
   unfolding sector laid
   sector-lays = seal-lays laid
 
   -- sealing spares the header
-  held : holds (sector map previous b) (header b (length map)) ≡ true
+  held : holds (sector map previous stamp b) (header b (length map)) ≡ true
   unfolding laid plainRows lengthRows ownRows
   held =
       ap (λ (l : List ℕ). holds l (header b (length map))) sector-lays
       ∙ holds-spared (header b (length map)) (sealRows laid) laid tt
-      ∙ header-held b (length map) (body map previous) small few (length-body map previous)
+      ∙ header-held b (length map) (body map previous stamp) small few (length-body map previous stamp)
 
-  pub length-sector : length (sector map previous b) ≡ sectorLength
+  pub length-sector : length (sector map previous stamp b) ≡ sectorLength
   length-sector = ap length sector-lays ∙ length-lay (sealRows laid) laid ∙ length-laid
 
-  sums-held : sealed (sector map previous b) ≡ true
+  sums-held : sealed (sector map previous stamp b) ≡ true
   unfolding sector laid
   sums-held = sealed-seal laid (omega (arith, length-laid))
 
   -- header and sums end before the table
-  table-stands : drop (tableStart 0) (sector map previous b) ≡ tableBytes map previous ++ drop (tableStart 0 + tableLength (length map)) (replicate sectorLength 0)
+  table-stands : drop (tableStart 0) (sector map previous stamp b) ≡ tableBytes map previous ++ drop (tableStart 0 + tableLength (length map)) (replicate sectorLength 0)
   unfolding laid plainRows lengthRows ownRows body stationName
   table-stands =
       let zeros : List ℕ = replicate sectorLength 0 in
@@ -180,117 +181,131 @@ module _ (map : List ℕ) (previous b : ℕ) (few : length map ≤ limit) (small
       let inside : tableStart 0 + length table ≤ length zeros = omega (arith, length-table map previous, length-replicate {A = ℕ} sectorLength 0) in
       ap (drop (tableStart 0)) sector-lays
       ∙ drop-lay (sealRows laid) laid (tableStart 0) tt
-      ∙ drop-lay (header b (length map)) (body map previous) (tableStart 0) tt
+      ∙ drop-lay (header b (length map)) (body map previous stamp) (tableStart 0) tt
+      ∙ behind-times stamp (sets (sets zeros (tableStart 0) table) stationAt stationName) timely
       ∙ drop-sets-after stationName (sets zeros (tableStart 0) table) stationAt (tableStart 0) (lit≤ tt)
       ∙ drop-sets table zeros (tableStart 0) inside
       ∙ ap (λ (k : ℕ). table ++ drop (tableStart 0 + k) zeros) (length-table map previous)
 
+  -- header and sums spare the times
+  dated : modifiedOf (sector map previous stamp b) ≡ stamp
+  unfolding laid plainRows lengthRows ownRows body modifiedOf
+  dated =
+      let s : List ℕ = sets (sets (replicate sectorLength 0) (tableStart 0) (tableBytes map previous)) stationAt stationName in
+      let long : length s ≡ sectorLength = sym (length-timed stamp s) ∙ length-body map previous stamp in
+      ap modifiedOf sector-lays
+      ∙ part-lay (sealRows laid) laid modifiedAt stampLength tt
+      ∙ part-lay (header b (length map)) (body map previous stamp) modifiedAt stampLength tt
+      ∙ time-stands stamp s timely (omega arith)
+
   -- the header's parts, one by one
-  plain-held : holds (sector map previous b) (plainRows b) ≡ true
+  plain-held : holds (sector map previous stamp b) (plainRows b) ≡ true
   plain-held =
-      let s : List ℕ = sector map previous b in
+      let s : List ℕ = sector map previous stamp b in
       and-left (holds s (plainRows b)) (holds s (lengthRows 0 (length map) ++ ownRows)) (sym (holds-append (plainRows b) (lengthRows 0 (length map) ++ ownRows) s) ∙ held)
 
-  rest-held : (holds (sector map previous b) (lengthRows 0 (length map)) && holds (sector map previous b) ownRows) ≡ true
+  rest-held : (holds (sector map previous stamp b) (lengthRows 0 (length map)) && holds (sector map previous stamp b) ownRows) ≡ true
   rest-held =
-      let s : List ℕ = sector map previous b in
+      let s : List ℕ = sector map previous stamp b in
       sym (holds-append (lengthRows 0 (length map)) ownRows s)
       ∙ and-right (holds s (plainRows b)) (holds s (lengthRows 0 (length map) ++ ownRows)) (sym (holds-append (plainRows b) (lengthRows 0 (length map) ++ ownRows) s) ∙ held)
 
-  lengths-held : holds (sector map previous b) (lengthRows 0 (length map)) ≡ true
-  lengths-held = and-left (holds (sector map previous b) (lengthRows 0 (length map))) (holds (sector map previous b) ownRows) rest-held
+  lengths-held : holds (sector map previous stamp b) (lengthRows 0 (length map)) ≡ true
+  lengths-held = and-left (holds (sector map previous stamp b) (lengthRows 0 (length map))) (holds (sector map previous stamp b) ownRows) rest-held
 
-  flags-held : embedded (sector map previous b) ≡ true
+  flags-held : embedded (sector map previous stamp b) ≡ true
   unfolding holds ownRows
   flags-held =
-      let s : List ℕ = sector map previous b in
+      let s : List ℕ = sector map previous stamp b in
       let tail : Bool = eqb (readLe 4 s 36) unused && (eqb (readLe 4 s 40) unused && (eqb (readLe 4 s 108) 1 && true)) in
       let most : Bool = eqb (readLe 2 s 24) 1 in
       let flags : Bool = eqb (readLe 2 s 34) 3 in
       let own : (most && (flags && tail)) ≡ true = and-right (holds s (lengthRows 0 (length map))) (holds s ownRows) rest-held in
       rw (eqb-true (readLe 2 s 34) 3 (and-left flags tail (and-right most (flags && tail) own)))
 
-  unattributed : attributeLength (sector map previous b) ≡ 0
+  unattributed : attributeLength (sector map previous stamp b) ≡ 0
   unfolding attributeLength
-  unattributed = lengths (sector map previous b) 0 (length map) lengths-held .attributes
+  unattributed = lengths (sector map previous stamp b) 0 (length map) lengths-held .attributes
 
-  counted : entryCount (sector map previous b) ≡ length map
+  counted : entryCount (sector map previous stamp b) ≡ length map
   unfolding entryCount
-  counted = omega (arith, lengths (sector map previous b) 0 (length map) lengths-held .descriptors)
+  counted = omega (arith, lengths (sector map previous stamp b) 0 (length map) lengths-held .descriptors)
 
   -- the parts of the table, each where it stands
-  regid-stands : drop (regidAt 0 (length map)) (sector map previous b) ≡ tableRegid ++ (le 4 previous ++ drop (tableStart 0 + tableLength (length map)) (replicate sectorLength 0))
+  regid-stands : drop (regidAt 0 (length map)) (sector map previous stamp b) ≡ tableRegid ++ (le 4 previous ++ drop (tableStart 0 + tableLength (length map)) (replicate sectorLength 0))
   unfolding tableBytes
   regid-stands =
       let zeros : List ℕ = drop (tableStart 0 + tableLength (length map)) (replicate sectorLength 0) in
-      drop-on (sector map previous b) (leWords map) (tableRegid ++ (le 4 previous ++ zeros)) (tableStart 0) (4 * length map)
+      drop-on (sector map previous stamp b) (leWords map) (tableRegid ++ (le 4 previous ++ zeros)) (tableStart 0) (4 * length map)
       (table-stands ∙ append-assoc (leWords map) (tableRegid ++ le 4 previous) zeros ∙ ap (λ (l : List ℕ). leWords map ++ l) (append-assoc tableRegid (le 4 previous) zeros))
       (length-leWords map)
 
-  named-held : holdsText (sector map previous b) (regidAt 0 (length map) + 1) tableName ≡ true
+  named-held : holdsText (sector map previous stamp b) (regidAt 0 (length map) + 1) tableName ≡ true
   unfolding tableRegid
   named-held =
       let zeros : List ℕ = drop (tableStart 0 + tableLength (length map)) (replicate sectorLength 0) in
       let suffix : List ℕ = 0x50 ∷ 0x01 ∷ 0 ∷ 0 ∷ 0 ∷ 0 ∷ 0 ∷ 0 ∷ [] in
       let behind : List ℕ = suffix ++ (le 4 previous ++ zeros) in
-      text-held tableName (sector map previous b) behind (regidAt 0 (length map) + 1)
-      (drop-on (sector map previous b) (0 ∷ []) (tableName ++ behind) (regidAt 0 (length map)) 1
+      text-held tableName (sector map previous stamp b) behind (regidAt 0 (length map) + 1)
+      (drop-on (sector map previous stamp b) (0 ∷ []) (tableName ++ behind) (regidAt 0 (length map)) 1
       (regid-stands ∙ ap (λ (l : List ℕ). 0 ∷ l) (append-assoc tableName suffix (le 4 previous ++ zeros))) refl)
 
   module _ (entries-below : every (unusedOrBelow b) map ≡ true) (previous-below : unusedOrBelow b previous ≡ true) where
-    listed : entriesOf (sector map previous b) ≡ map
+    listed : entriesOf (sector map previous stamp b) ≡ map
     unfolding entriesOf tableBytes
     listed =
         let zeros : List ℕ = drop (tableStart 0 + tableLength (length map)) (replicate sectorLength 0) in
-        ap₂ (λ (a k : ℕ). words k (sector map previous b) (tableStart a)) unattributed counted
-        ∙ words-read map (sector map previous b) ((tableRegid ++ le 4 previous) ++ zeros) (tableStart 0)
+        ap₂ (λ (a k : ℕ). words k (sector map previous stamp b) (tableStart a)) unattributed counted
+        ∙ words-read map (sector map previous stamp b) ((tableRegid ++ le 4 previous) ++ zeros) (tableStart 0)
         (table-stands ∙ append-assoc (leWords map) (tableRegid ++ le 4 previous) zeros) (all-fit b map small entries-below)
 
-    linked : previousOf (sector map previous b) ≡ previous
+    linked : previousOf (sector map previous stamp b) ≡ previous
     unfolding previousOf tableRegid tableName
     linked =
         let zeros : List ℕ = drop (tableStart 0 + tableLength (length map)) (replicate sectorLength 0) in
-        ap₂ (λ (a k : ℕ). readLe 4 (sector map previous b) (regidAt a k + 32)) unattributed counted
-        ∙ read-le 4 previous (sector map previous b) zeros (regidAt 0 (length map) + 32)
-        (drop-on (sector map previous b) tableRegid (le 4 previous ++ zeros) (regidAt 0 (length map)) 32 regid-stands refl)
+        ap₂ (λ (a k : ℕ). readLe 4 (sector map previous stamp b) (regidAt a k + 32)) unattributed counted
+        ∙ read-le 4 previous (sector map previous stamp b) zeros (regidAt 0 (length map) + 32)
+        (drop-on (sector map previous stamp b) tableRegid (le 4 previous ++ zeros) (regidAt 0 (length map)) 32 regid-stands refl)
         (fits b previous small previous-below)
 
-    framed-held : framed (sector map previous b) b ≡ true
+    framed-held : framed (sector map previous stamp b) b ≡ true
     unfolding framed
     framed-held =
         let short : ltb (tableStart 0 + tableLength (length map)) sectorLength ≡ true = lt-ltb (tableStart 0 + tableLength (length map)) sectorLength (omega arith) in
         rw (unattributed, counted, plain-held, flags-held, short, lengths-held, named-held, linked, previous-below)
 
-    recognised-here : isTable 1 (sector map previous b) b ≡ true
+    recognised-here : isTable 1 (sector map previous stamp b) b ≡ true
     unfolding isTable
     recognised-here =
-        let s : List ℕ = sector map previous b in
+        let s : List ℕ = sector map previous stamp b in
         let entries : every (unusedOrBelow b) (entriesOf s) ≡ true = ap (every (unusedOrBelow b)) listed ∙ entries-below in
         rw (eq-eqb (length s) sectorLength length-sector, framed-held, entries, sums-held)
 
--- the sector recorded for a map, a previous table and a block
-pub record ReadsBack (map : List ℕ) (previous b : ℕ) : Type 0 where
-  pub is-table : isTable 1 (sector map previous b) b ≡ true
-  pub attributes : attributeLength (sector map previous b) ≡ 0
-  pub count : entryCount (sector map previous b) ≡ length map
-  pub entries : entriesOf (sector map previous b) ≡ map
-  pub previous-table : previousOf (sector map previous b) ≡ previous
+-- the sector recorded for a map, a previous table, a timestamp and a block
+pub record ReadsBack (map : List ℕ) (previous : ℕ) (stamp : List ℕ) (b : ℕ) : Type 0 where
+  pub is-table : isTable 1 (sector map previous stamp b) b ≡ true
+  pub attributes : attributeLength (sector map previous stamp b) ≡ 0
+  pub count : entryCount (sector map previous stamp b) ≡ length map
+  pub entries : entriesOf (sector map previous stamp b) ≡ map
+  pub previous-table : previousOf (sector map previous stamp b) ≡ previous
+  pub modified : modifiedOf (sector map previous stamp b) ≡ stamp
 
-pub reads-back : (map : List ℕ) (previous b : ℕ) → length map ≤ limit → every (unusedOrBelow b) map ≡ true → unusedOrBelow b previous ≡ true → b < 4294967296
-    → ReadsBack map previous b
-reads-back map previous b few below before small =
+pub reads-back : (map : List ℕ) (previous : ℕ) (stamp : List ℕ) (b : ℕ) → length map ≤ limit → every (unusedOrBelow b) map ≡ true → unusedOrBelow b previous ≡ true → length stamp ≡ stampLength
+    → b < 4294967296 → ReadsBack map previous stamp b
+reads-back map previous stamp b few below before timely small =
     record {
-      is-table = recognised-here map previous b few small below before;
-      attributes = unattributed map previous b few small;
-      count = counted map previous b few small;
-      entries = listed map previous b few small below before;
-      previous-table = linked map previous b few small below before;
+      is-table = recognised-here map previous stamp b few small timely below before;
+      attributes = unattributed map previous stamp b few small timely;
+      count = counted map previous stamp b few small timely;
+      entries = listed map previous stamp b few small timely below before;
+      previous-table = linked map previous stamp b few small timely below before;
+      modified = dated map previous stamp b few small timely;
     }
 
 -- whatever the map, it is a table sector at no other block
-pub not-elsewhere : (map : List ℕ) (previous b : ℕ) → length map ≤ limit → b < 4294967296
-    → (kind b′ : ℕ) → (b′ ≡ b → ⊥) → isTable kind (sector map previous b) b′ ≡ false
-not-elsewhere map previous b few small kind b′ other =
-    let s : List ℕ = sector map previous b in
+pub not-elsewhere : (map : List ℕ) (previous : ℕ) (stamp : List ℕ) (b : ℕ) → length map ≤ limit → length stamp ≡ stampLength → b < 4294967296
+    → (kind b′ : ℕ) → (b′ ≡ b → ⊥) → isTable kind (sector map previous stamp b) b′ ≡ false
+not-elsewhere map previous stamp b few timely small kind b′ other =
+    let s : List ℕ = sector map previous stamp b in
     not-true (isTable kind s b′)
-    (λ e. other (sym (location s b′ (recognised kind s b′ e .frame .plain)) ∙ location s b (plain-held map previous b few small)))
+    (λ e. other (sym (location s b′ (recognised kind s b′ e .frame .plain)) ∙ location s b (plain-held map previous stamp b few small timely)))

@@ -5,7 +5,8 @@ use lib.ListN.{length, replicate}
 use lib.Seq.{sets}
 use Rattle.le.specs.Field.{Row, row, le, leWords, lay}
 use Rattle.tag.specs.Tag.{seal}
-use Rattle.vat.specs.Table.{sectorLength, unused, tableStart, plainRows, lengthRows, tableName}
+use Rattle.timestamp.specs.Timestamp.{stampLength}
+use Rattle.vat.specs.Table.{sectorLength, unused, tableStart, plainRows, lengthRows, tableName, modifiedAt}
 
 -- "table regid flags 0, suffix hex 50 01 and six zeros".
 unfoldable pub tableRegid : List ℕ
@@ -32,10 +33,23 @@ stationAt = 129
 unfoldable pub stationName : List ℕ
 stationName = 42 ∷ 66 ∷ 101 ∷ 110 ∷ 99 ∷ 104 ∷ 32 ∷ 83 ∷ 116 ∷ 97 ∷ 116 ∷ 105 ∷ 111 ∷ 110 ∷ []
 
--- The table and the name over zeros: "Everything else is zero, up to byte 2047."
-unfoldable pub body : List ℕ → ℕ → List ℕ
-body map previous = sets (sets (replicate sectorLength 0) (tableStart 0) (tableBytes map previous)) stationAt stationName
+-- A timestamp "as access, modification and attribute time"; of a commit without one there are zeros.
+abbrev pub accessAt : ℕ
+accessAt = 72
 
--- The sector for a map, a previous table and the block b that it is recorded at. "Our commit [..] records none" of the attributes.
-unfoldable pub sector : List ℕ → ℕ → ℕ → List ℕ
-sector map previous b = seal (lay (body map previous) (plainRows b ++ (lengthRows 0 (length map) ++ ownRows)))
+abbrev pub attributeAt : ℕ
+attributeAt = 96
+
+unfoldable pub timed : List ℕ → List ℕ → List ℕ
+timed stamp s = sets (sets (sets s accessAt stamp) modifiedAt stamp) attributeAt stamp
+
+abbrev pub noStamp : List ℕ
+noStamp = replicate stampLength 0
+
+-- The table, the name and the times over zeros: "Everything else is zero, up to byte 2047."
+unfoldable pub body : List ℕ → ℕ → List ℕ → List ℕ
+body map previous stamp = timed stamp (sets (sets (replicate sectorLength 0) (tableStart 0) (tableBytes map previous)) stationAt stationName)
+
+-- The sector for a map, a previous table, a timestamp and the block b that it is recorded at. "Our commit [..] records none" of the attributes.
+unfoldable pub sector : List ℕ → ℕ → List ℕ → ℕ → List ℕ
+sector map previous stamp b = seal (lay (body map previous stamp) (plainRows b ++ (lengthRows 0 (length map) ++ ownRows)))

@@ -1,13 +1,14 @@
--- A table sector (ECMA-167 4/14.9, UDF 1.50 2.2.10; document 01, 'The table sector at block b', and document 02 for the attributes): the ICB of
+-- A table sector (ECMA-167 4/14.9, UDF 1.50 2.2.10; document 01, 'The table sector at block b', and document 02 for attributes and times): the ICB of
 -- the virtual allocation table, with the table embedded behind extended attributes. What such a sector holds, and which sectors are such.
 use Prim.Native.Nat.{ℕ, _+_, _-_, _*_, _/_, _%_}
 use mathlib.Core.Bool.{Bool, _&&_, _||_}
 use mathlib.Core.List.{List, [], _∷_}
 use lib.Dec.{eqb, ltb}
-use lib.ListN.{length}
+use lib.ListN.{length, take, drop}
 use Rattle.le.specs.Bytes.{every, holdsText}
 use Rattle.le.specs.Field.{Row, row, readLe, holds, words}
 use Rattle.tag.specs.Tag.{sealed}
+use Rattle.timestamp.specs.Timestamp.{stampLength}
 
 -- A sector has 2048 bytes.
 abbrev pub sectorLength : ℕ
@@ -83,6 +84,13 @@ entriesOf s = words (entryCount s) s (tableStart (attributeLength s))
 
 unfoldable pub previousOf : List ℕ → ℕ
 previousOf s = readLe 4 s (regidAt (attributeLength s) (entryCount s) + 32)
+
+-- The modification time, at byte 84: a timestamp, of which the recognition asks nothing.
+abbrev pub modifiedAt : ℕ
+modifiedAt = 84
+
+unfoldable pub modifiedOf : List ℕ → List ℕ
+modifiedOf s = take stampLength (drop modifiedAt s)
 
 -- A block that a sector at block b may name: it is "FFFFFFFF or less than b".
 abbrev pub unusedOrBelow : ℕ → ℕ → Bool

@@ -1,5 +1,6 @@
 // The sector that commit records.
 use crate::table::ATTRIBUTES_AT;
+use crate::table::MODIFIED_AT;
 use crate::table::TABLE_NAME;
 use crate::table::UNUSED;
 ghost use mathlib.Core.Path.{_≡_};
@@ -8,7 +9,8 @@ ghost use lib.ListN.{length};
 ghost use lib.Seq.{sets};
 ghost use Rattle.le.specs.Field.{lay};
 ghost use Rattle.vat.specs.Table.{sectorLength, limit, tableStart, plainRows, lengthRows};
-ghost use Rattle.vat.specs.Sector.{tableBytes, ownRows, sector};
+ghost use Rattle.timestamp.specs.Timestamp.{stampLength};
+ghost use Rattle.vat.specs.Sector.{tableBytes, ownRows, timed, sector};
 
 const STATION_NAME: [u8; 14] = *b"*Bench Station";
 
@@ -61,15 +63,26 @@ fn put_table(s: &mut [u8], map: &[u32], previous: u32)
     le::put32(s, regid + 32, previous);
 }
 
-// The sector for a map, a previous table and the block b, into a lent buffer.
-pub fn record(s: &mut [u8], map: &[u32], previous: u32, b: u32)
-    requires { ⌜ (length (now s) ≡ sectorLength) × (length (now map) ≤ limit) ⌝ }
-    ensures { λ _. ⌜ now (s .exit) ≡ sector (now (map .entry)) previous b ⌝ }
+// The timestamp as access, modification and attribute time.
+fn put_times(s: &mut [u8], stamp: &[u8])
+    requires { ⌜ (length (now s) ≡ sectorLength) × (length (now stamp) ≡ stampLength) ⌝ }
+    ensures { λ _. ⌜ now (s .exit) ≡ timed (now (stamp .entry)) (now (s .entry)) ⌝ }
+{
+    le::run::put_text(s, 72, stamp);
+    le::run::put_text(s, MODIFIED_AT, stamp);
+    le::run::put_text(s, 96, stamp);
+}
+
+// The sector for a map, a previous table, a timestamp and the block b, into a lent buffer.
+pub fn record(s: &mut [u8], map: &[u32], previous: u32, stamp: &[u8], b: u32)
+    requires { ⌜ (length (now s) ≡ sectorLength) × (length (now map) ≤ limit) × (length (now stamp) ≡ stampLength) ⌝ }
+    ensures { λ _. ⌜ now (s .exit) ≡ sector (now (map .entry)) previous (now (stamp .entry)) b ⌝ }
 {
     let station = STATION_NAME;
     le::run::clear(s);
     put_table(s, map, previous);
     le::run::put_text(s, 129, &station);
+    put_times(s, stamp);
     put_plain(s, b);
     put_lengths(s, map.len() as u32);
     put_own(s);

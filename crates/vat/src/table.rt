@@ -17,6 +17,9 @@ pub const UNUSED: u32 = 4294967295;
 // Where the attributes start; the table, where there are none.
 pub const ATTRIBUTES_AT: usize = 176;
 
+// Where the modification time starts.
+pub const MODIFIED_AT: usize = 84;
+
 pub const TABLE_NAME: [u8; 23] = *b"*UDF Virtual Alloc Tbl\0";
 
 // The tag identifier first: nearly every sector that is no table is known by it.

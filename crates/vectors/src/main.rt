@@ -1,4 +1,4 @@
-// Runs the CRC and the table sector on outside vectors, and prints what it finds. What must come stands in the file `stdout`; an
+// Runs the CRC, the table sector and timestamps on outside vectors, and prints what it finds. What must come stands in the file `stdout`; an
 // independent program, tests/vectors.py, makes it.
 use vat::sector::record;
 use vat::table::UNUSED;
@@ -140,10 +140,51 @@ fn small_table() {
     let mut sector = [0u8; 2048];
     let map = [0, UNUSED, 299999, 3, 65537];
     ramp(&mut sector);
-    record(&mut sector, &map, 123456, 300000);
+    record(&mut sector, &map, 123456, &[0u8; 12], 300000);
     show_rows(&sector);
     show_tests(&sector);
     show_map(&sector);
+}
+
+// The same with a timestamp: 14:05:09.123456 on 15 November 2026, an hour ahead of UTC.
+fn dated_table() {
+    let mut sector = [0u8; 2048];
+    let map = [0, UNUSED, 299999, 3, 65537];
+    let stamp = [0x3C, 0x10, 0xEA, 0x07, 11, 15, 14, 5, 9, 12, 34, 56];
+    ramp(&mut sector);
+    record(&mut sector, &map, 123456, &stamp, 300000);
+    show_rows(&sector);
+    show_tests(&sector);
+    show_map(&sector);
+    show_stamp(&sector[84..96]);
+}
+
+// What is told of a timestamp: its minutes and its mark, or that it is wrong.
+fn show_stamp(s: &[u8]) {
+    if s.len() != 12 {
+        return;
+    }
+    if !timestamp::valid(s) {
+        say(b"stamp: wrong\n");
+        return;
+    }
+    let mut told = [0u8; 8];
+    timestamp::tell(s, &mut told);
+    say(b"stamp: ");
+    io::print_hex(STDOUT, le::read32(&told, 0) as u64, 8);
+    say(b" ");
+    io::print_hex(STDOUT, le::read32(&told, 4) as u64, 8);
+    say(b"\n");
+}
+
+// Half past midnight on 1 January 1970 with zone 60 and with none given; the last minute of 2099 at both ends of the zone; 29 February of 2000 and 2099.
+fn stamps() {
+    show_stamp(&[0x3C, 0x10, 0xB2, 0x07, 1, 1, 0, 30, 0, 0, 0, 0]);
+    show_stamp(&[0x01, 0x18, 0xB2, 0x07, 1, 1, 0, 30, 0, 0, 0, 0]);
+    show_stamp(&[0xA0, 0x15, 0x33, 0x08, 12, 31, 23, 59, 59, 99, 99, 99]);
+    show_stamp(&[0x60, 0x1A, 0x33, 0x08, 12, 31, 23, 59, 59, 99, 99, 99]);
+    show_stamp(&[0x00, 0x10, 0xD0, 0x07, 2, 29, 12, 0, 0, 0, 0, 0]);
+    show_stamp(&[0x00, 0x10, 0x33, 0x08, 2, 29, 12, 0, 0, 0, 0, 0]);
 }
 
 // The table sector `plain`, which has no attributes, with so many bytes of them before its table.
@@ -167,7 +208,7 @@ fn tables_behind() {
     let mut plain = [0u8; 2048];
     let mut sector = [0u8; 2048];
     let map = [0, UNUSED, 299999, 3, 65537];
-    record(&mut plain, &map, 123456, 300000);
+    record(&mut plain, &map, 123456, &[0u8; 12], 300000);
     put_behind(&mut sector, &plain, 220);
     show_rows(&sector);
     show_tests(&sector);
@@ -185,7 +226,7 @@ fn full_table() {
     let mut sector = [0u8; 2048];
     let mut map = [0u32; 458];
     fill(&mut map);
-    record(&mut sector, &map, UNUSED, 458);
+    record(&mut sector, &map, UNUSED, &[0u8; 12], 458);
     show_rows(&sector);
     show_test(1, &sector, 458);
     show_map(&sector);
@@ -196,4 +237,6 @@ fn main() {
     small_table();
     full_table();
     tables_behind();
+    dated_table();
+    stamps();
 }

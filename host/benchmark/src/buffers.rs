@@ -3,10 +3,13 @@
 
 use std::hint::black_box;
 
-use crate::tuned::{self, Sector, LEDGER, LIMIT, NONE, SECTOR};
+use crate::tuned::{self, Sector, Stamp, LEDGER, LIMIT, NONE, SECTOR, TIME};
 
 /// Sectors behind the recorded ones that the calls of one batch may record.
 pub const WINDOW: usize = 256;
+
+/// The time of every prepared table: 14:05 on 15 November 2026 with zone 60.
+pub const STAMP: Stamp = [60, 0x10, 0xEA, 0x07, 11, 15, 14, 5, 0, 0, 0, 0];
 
 /// Where the ledger has its last table and its mode.
 const LAST_VAT: usize = 1840;
@@ -17,6 +20,7 @@ pub struct Buffers {
     pub kinds: Vec<u8>,
     pub ledger: Vec<u8>,
     pub block: Vec<u8>,
+    pub answer: [u8; TIME],
     /// The ledger before each batch.
     prepared: Vec<u8>,
     recorded: usize,
@@ -38,6 +42,7 @@ impl Buffers {
             kinds: vec![0; sectors],
             ledger: vec![0xA5; LEDGER],
             block: vec![0x5A; SECTOR],
+            answer: [0x5A; TIME],
             prepared: vec![0xA5; LEDGER],
             recorded: 0,
             planted: Vec::new(),
@@ -71,7 +76,7 @@ impl Buffers {
             _ => (v * block / LIMIT) as u32,
         };
         let entries: Vec<u8> = (0..numbers).flat_map(|v| entry(v).to_le_bytes()).collect();
-        tuned::put_vat(self.sector(block), block as u32, &entries, previous);
+        tuned::put_vat(self.sector(block), block as u32, &entries, previous, &STAMP);
         self.planted.push(block);
     }
 
@@ -120,10 +125,11 @@ impl Buffers {
         }
     }
 
-    /// Sets back the image bytes and the block too.
+    /// Sets back the image bytes, the block and the answer too.
     pub fn set_back_all(&mut self) {
         self.set_back();
         self.block.fill(0x5A);
+        self.answer.fill(0x5A);
         for block in self.recorded..self.sectors().min(self.recorded + WINDOW) {
             put_plain(self.sector(block), block);
         }
@@ -133,7 +139,8 @@ impl Buffers {
     /// in one word always changes it.
     pub fn fingerprint(&self) -> u64 {
         let parts = [&self.image, &self.kinds, &self.ledger, &self.block];
-        parts.iter().fold(0, |sum, bytes| mix(sum, bytes))
+        let sum = parts.iter().fold(0, |sum, bytes| mix(sum, bytes));
+        mix(sum, &self.answer)
     }
 }
 

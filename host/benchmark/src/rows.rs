@@ -1,6 +1,6 @@
 //! The measured calls: what each is prepared with, and one call of its batch.
 
-use crate::buffers::{Buffers, WINDOW};
+use crate::buffers::{Buffers, STAMP, WINDOW};
 use crate::tuned::{LIMIT, NONE};
 use crate::version::Version;
 
@@ -61,7 +61,7 @@ const fn row(name: &'static str, prepare: fn(&mut Buffers), call: Call) -> Row {
 /// Close packet before the first commit: kinds and ledger, and no table.
 pub const CLOSE_PACKET: &str = "close packet, no table yet";
 
-pub static ROWS: [Row; 18] = [
+pub static ROWS: [Row; 20] = [
     row("begin, blank disc", blank, begin),
     row("begin, all data, no table", all_plain, begin).over_every_sector(),
     row("mount, clean", clean, mount),
@@ -76,10 +76,12 @@ pub static ROWS: [Row; 18] = [
     row("close packet", open, close_packet),
     row("commit, 0 numbers", open_empty, commit).recording(1),
     row("commit, 458 numbers", open, commit).recording(1),
+    row("commit at, 458 numbers", open, commit_at).recording(1),
     row("read, no table yet", open_without_vat, read),
     row("read", open, read),
     row("look back 1", two_vats, look_back_one),
     row("look back to the first", all_vats, look_back_all).over_every_sector(),
+    row("time of 0", clean, time_of_newest),
 ];
 
 fn blank(buffers: &mut Buffers) {
@@ -186,6 +188,11 @@ fn commit(version: &Version, b: &mut Buffers, _: usize) -> u64 {
     (version.commit)(&mut b.image, &mut b.kinds, &mut b.ledger)
 }
 
+/// The same with a timestamp.
+fn commit_at(version: &Version, b: &mut Buffers, _: usize) -> u64 {
+    (version.commit_at)(&mut b.image, &mut b.kinds, &mut b.ledger, &STAMP)
+}
+
 /// 64 numbers in turn, whose sectors stay in the cache.
 fn read(version: &Version, b: &mut Buffers, i: usize) -> u64 {
     (version.read)(&b.image, &b.kinds, &b.ledger, i as u32, &mut b.block)
@@ -199,4 +206,9 @@ fn look_back_one(version: &Version, b: &mut Buffers, _: usize) -> u64 {
 fn look_back_all(version: &Version, b: &mut Buffers, _: usize) -> u64 {
     let k = b.sectors() as u32 - 1;
     (version.look_back)(&b.image, &b.kinds, &mut b.ledger, k)
+}
+
+/// The time of the table that a mount finds at once.
+fn time_of_newest(version: &Version, b: &mut Buffers, _: usize) -> u64 {
+    (version.time_of)(&b.image, &b.kinds, &b.ledger, 0, &mut b.answer)
 }

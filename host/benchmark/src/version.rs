@@ -1,4 +1,4 @@
-//! The two versions of the eight calls, with the same signatures.
+//! The two versions of the ten calls, with the same signatures.
 
 use crate::tuned;
 use station::raw;
@@ -6,10 +6,11 @@ use station::raw;
 type Plain = fn(&[u8], &[u8], &mut [u8]) -> u64;
 type Numbered = fn(&[u8], &[u8], &mut [u8], u32) -> u64;
 type Committing = fn(&mut [u8], &mut [u8], &mut [u8]) -> u64;
+type CommittingAt = fn(&mut [u8], &mut [u8], &mut [u8], &[u8]) -> u64;
 type Writing = fn(&mut [u8], &mut [u8], &mut [u8], u32, &[u8]) -> u64;
 type Reading = fn(&[u8], &[u8], &[u8], u32, &mut [u8]) -> u64;
 
-/// Eight functions. They are called through pointers, so that neither version
+/// Ten functions. They are called through pointers, so that neither version
 /// is compiled into the loop that measures it.
 pub struct Version {
     pub begin: Plain,
@@ -18,8 +19,10 @@ pub struct Version {
     pub release: Numbered,
     pub close_packet: Plain,
     pub commit: Committing,
+    pub commit_at: CommittingAt,
     pub read: Reading,
     pub look_back: Numbered,
+    pub time_of: Reading,
 }
 
 /// The recording core, through the package `station`.
@@ -30,8 +33,10 @@ pub const CORE: Version = Version {
     release: raw::release,
     close_packet: raw::close_packet,
     commit: raw::commit,
+    commit_at: raw::commit_at,
     read: raw::read,
     look_back: raw::look_back,
+    time_of: raw::time_of,
 };
 
 /// The version written for the comparison.
@@ -42,6 +47,8 @@ pub const TUNED: Version = Version {
     release: tuned::release,
     close_packet: tuned::close_packet,
     commit: tuned::commit,
+    commit_at: tuned::commit_at,
     read: tuned::read,
     look_back: tuned::look_back,
+    time_of: tuned::time_of,
 };

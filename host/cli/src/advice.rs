@@ -8,6 +8,8 @@ const BLOCK_LENGTH: &str =
 const FULL: &str = "Take another disc: this one is full, and its last finished save stays.";
 const FULL_FOR_WRITES: &str =
     "Commit what is written and take another disc: a write leaves 8 sectors free.";
+const NO_SUCH_TIME: &str =
+    "Give a real date from 1970 to 2099, a time up to 23:59:59 and a zone up to 24:00, or save without a time.";
 
 /// The advice where the call makes no difference.
 pub fn of(refusal: Refusal) -> &'static str {
@@ -39,6 +41,17 @@ pub fn of(refusal: Refusal) -> &'static str {
         Refusal::WouldBeVat => {
             "Change the block: as it is, the next mount would take it for a save."
         }
+        Refusal::BadTimestamp => {
+            "Ask for another save: this one carries no time, or an impossible one; list --times shows which carry one."
+        }
+    }
+}
+
+/// The advice for a commit.
+pub fn of_commit(refusal: Refusal) -> &'static str {
+    match refusal {
+        Refusal::BadTimestamp => NO_SUCH_TIME,
+        _ => of(refusal),
     }
 }
 

@@ -5,9 +5,10 @@ use std::ffi::{OsStr, OsString};
 use std::os::unix::ffi::OsStrExt;
 use std::path::Path;
 
-use station::MOST_SECTORS;
+use station::{Timestamp, MOST_SECTORS};
 
 use crate::failure::Failure;
+use crate::stamps;
 use crate::syntax::Syntax;
 
 /// What the operator wants of a command.
@@ -152,6 +153,21 @@ impl Arguments {
         number.ok_or_else(|| {
             let most = u32::MAX;
             self.wrong(format!("{name} is a number from 0 to {most}, not '{text}'"))
+        })
+    }
+
+    /// Behind an option that may be missing.
+    pub fn option_time(&self, option: &str) -> Result<Option<Timestamp>, Failure> {
+        let Some(word) = self.value(option) else {
+            return Ok(None);
+        };
+        let text = word.to_string_lossy();
+        let time = stamps::parse(&text);
+        time.map(Some).ok_or_else(|| {
+            let example = stamps::EXAMPLE;
+            self.wrong(format!(
+                "{option} is a time such as {example}, not '{text}'"
+            ))
         })
     }
 

@@ -1,5 +1,5 @@
-//! A new disc, and the eight calls. Each answers only after its files are kept
-//! and free for the next command.
+//! A new disc, and the calls of the core. Each answers only after its files are
+//! kept and free for the next command.
 
 use std::path::Path;
 
@@ -13,7 +13,8 @@ use crate::making::make_disc;
 use crate::map::Map;
 use crate::session::{Lent, Session};
 use crate::surroundings::{say, Surroundings};
-use crate::writing::{is_stream, record_table, Writing};
+use crate::times::Time;
+use crate::writing::{is_stream, Saving, Writing};
 
 pub fn new(given: &Arguments, around: &mut Surroundings) -> Done {
     let sectors = given.sectors(1)?;
@@ -65,11 +66,18 @@ pub fn close(given: &Arguments, around: &mut Surroundings) -> Done {
     say(around, "packet closed\n")
 }
 
+/// Tells the time too, if the save carries one: nobody can change it any more.
 pub fn commit(given: &Arguments, around: &mut Surroundings) -> Done {
+    let saving = Saving::of(given)?;
     let mut session = Session::open(given.path(0), Lent::Kept, around)?;
-    let table = record_table(&mut session)?;
+    let table = saving.record(&mut session)?;
+    let (image, kinds) = session.disc.lent();
+    let time = match station::time_of(image, kinds, &session.ledger, 0) {
+        Ok(told) => format!("{}\n", Time::of(&session.disc, table, told)),
+        Err(_) => String::new(),
+    };
     session.keep_both()?;
-    say(around, format!("saved, table at block {table}\n"))
+    say(around, format!("saved, table at block {table}\n{time}"))
 }
 
 pub fn read(given: &Arguments, around: &mut Surroundings) -> Done {
@@ -99,4 +107,16 @@ pub fn look_back(given: &Arguments, around: &mut Surroundings) -> Done {
     session.keep_ledger()?;
     let text = format!("looking only, {k} back, table at block {table}\n{map}\n");
     say(around, text)
+}
+
+/// The ledger is the command's own, and no file is changed.
+pub fn time(given: &Arguments, around: &mut Surroundings) -> Done {
+    let k = given.number(1)?;
+    let mut session = Session::open(given.path(0), Lent::New, around)?;
+    let (image, kinds) = session.disc.lent();
+    let told = station::time_of(image, kinds, &session.ledger, k)?;
+    let table = station::look_back(image, kinds, &mut session.ledger, k)?;
+    let time = Time::of(&session.disc, table, told);
+    drop(session);
+    say(around, format!("{k} back: {time}\n"))
 }

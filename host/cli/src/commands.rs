@@ -26,7 +26,7 @@ const fn command(
     Command { syntax, run }
 }
 
-static COMMANDS: [Command; 14] = [
+static COMMANDS: [Command; 15] = [
     command(&syntax::NEW, calls::new),
     command(&syntax::BEGIN, calls::begin),
     command(&syntax::MOUNT, calls::mount),
@@ -36,6 +36,7 @@ static COMMANDS: [Command; 14] = [
     command(&syntax::COMMIT, calls::commit),
     command(&syntax::READ, calls::read),
     command(&syntax::LOOK_BACK, calls::look_back),
+    command(&syntax::TIME, calls::time),
     command(&syntax::LIST, list),
     command(&syntax::IMPORT, import),
     command(&syntax::EXPORT, export),

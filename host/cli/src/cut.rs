@@ -9,10 +9,16 @@ use crate::failure::{Done, Failure};
 use crate::session::{Lent, Session};
 use crate::surroundings::{say, Surroundings};
 use crate::syntax::{Syntax, COMMIT, WRITE};
-use crate::writing::{record_table, Writing};
+use crate::writing::{Saving, Writing};
 
 /// An unreadable sector, and how many of its bytes were recorded.
 const TORN: (u8, usize) = (3, SECTOR / 2);
+
+/// The call that is cut.
+enum Call {
+    Write(Writing),
+    Commit(Saving),
+}
 
 /// Makes the call whole in memory, and keeps of it what the cut leaves.
 pub fn cut(given: &Arguments, around: &mut Surroundings) -> Done {
@@ -23,14 +29,14 @@ pub fn cut(given: &Arguments, around: &mut Surroundings) -> Done {
         Asked::Help => return say(around, command.help),
         Asked::Run(inner) => inner,
     };
-    let writing = match command.name {
-        "write" => Some(Writing::of(&inner, around)?),
-        _ => None,
+    let call = match command.name {
+        "write" => Call::Write(Writing::of(&inner, around)?),
+        _ => Call::Commit(Saving::of(&inner)?),
     };
     let mut session = Session::open(inner.path(0), Lent::Kept, around)?;
-    match writing {
-        Some(writing) => writing.record(&mut session)?,
-        None => record_table(&mut session)?,
+    match call {
+        Call::Write(writing) => writing.record(&mut session)?,
+        Call::Commit(saving) => saving.record(&mut session)?,
     };
     let sectors = session.disc.newly_recorded().count();
     check(command, kept, torn, sectors)?;

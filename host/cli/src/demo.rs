@@ -31,7 +31,7 @@ enum Step {
 
 use Step::{Plain, Read, Remark, Write};
 
-static STEPS: [Step; 31] = [
+static STEPS: [Step; 32] = [
     Remark("A blank disc of 31 sectors; two runs, three saves."),
     Plain("new run.disc 31"),
     Plain("begin run.disc"),
@@ -54,8 +54,9 @@ static STEPS: [Step; 31] = [
     Read(1),
     Read(0),
     Remark("One commit makes the disc clean, for readers that look less far back."),
-    Plain("commit run.disc"),
-    Plain("list run.disc"),
+    Remark("This save carries its time; those before it have none."),
+    Plain("commit run.disc --at 2026-11-15T16:20+01:00"),
+    Plain("list run.disc --times"),
     Remark("The first save is still there."),
     Plain("look-back run.disc 3"),
     Read(0),

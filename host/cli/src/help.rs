@@ -14,6 +14,7 @@ Usage: station COMMAND DISC ...
   commit DISC           save: record the table
   read DISC V           the block that number V names
   look-back DISC K      show the save K before the newest, looking only
+  time DISC K           when the save K before the newest was made
   list DISC             every save, newest first
   import IMAGE DISC     make a disc file of another deck's raw image
   export DISC IMAGE     give the raw sectors back
@@ -25,7 +26,7 @@ Usage: station COMMAND DISC ...
 DISC is a file; its ledger is kept beside it in DISC.ledger. Until a commit,
 only the ledger knows where a written block lies.
 
-Exit status: 0 done; 1 to 15 the refusal's number; 64 wrong command line; 65
+Exit status: 0 done; 1 to 16 the refusal's number; 64 wrong command line; 65
 the file is no disc, or no raw image; 66 a file cannot be read; 73 a file
 cannot be written; 74 the answer cannot be told.
 ";
@@ -80,10 +81,18 @@ seven link sectors.
 ";
 
 pub const COMMIT: &str = "\
-Usage: station commit DISC
+Usage: station commit DISC [--at TIME | --now]
 
 Saves: records the table sector, and tells its block. From then on a mount
-shows this save, whatever is cut later.
+shows this save, whatever is cut later. With a time, the save carries it from
+then on, and it is told too. Refused with 16 if no save can carry it: it is a
+real date from 1970 to 2099, up to 23:59:59, in a zone of up to 24:00.
+
+  --at TIME   the time on a clock and its zone, as 2026-11-15T14:05+01:00. The
+              zone is how far the clock is ahead of UTC (+) or behind it (-);
+              Z is UTC itself. Without a zone, the save says that it was not
+              given. Seconds may follow the minutes, with up to six decimals
+  --now       the time on this machine's clock, and the zone that it is set to
 ";
 
 pub const READ: &str = "\
@@ -102,13 +111,25 @@ Shows the save K before the newest; K 0 is the newest. Then read shows that
 save's blocks, and nothing can be recorded until a mount.
 ";
 
+pub const TIME: &str = "\
+Usage: station time DISC K
+
+When the save K before the newest was made; K 0 is the newest. Tells the time on
+the clock that it carries, with the clock's zone, and the same in UTC, in whole
+minutes. A time whose zone was not given is taken as UTC. Refused with 16 if the
+save carries no time. Changes nothing.
+";
+
 pub const LIST: &str = "\
-Usage: station list DISC
+Usage: station list DISC [--times]
 
 Every save, newest first: steps back, the table's block, the size, and how many
 numbers are in use. The last line is clean, dirty, or broken if the saves
 before cannot be reached (exit status 8). If a mount is refused, only 'refused'
 and the number. Changes nothing.
+
+  --times   also when each save was made: on the clock that it carries, and in
+            UTC; 'no zone' where none was given, 'no time' where it has none
 ";
 
 pub const IMPORT: &str = "\
@@ -135,7 +156,7 @@ disc.
 
 pub const CUT: &str = "\
 Usage: station cut J [--torn] write DISC V [--from FILE] [--pad]
-       station cut J [--torn] commit DISC
+       station cut J [--torn] commit DISC [--at TIME | --now]
 
 What a power cut leaves of this write or commit: the first J of the sectors
 that it would record, and no ledger. Changes the disc file; try it on a copy. A

@@ -1,28 +1,33 @@
-//! `station`: a disc kept in a file, and on it the eight calls of the recording
-//! core, the listing, a simulated power cut, and raw images for other decks.
+//! `station`: a disc kept in a file, and on it the calls of the recording core,
+//! the listing, a simulated power cut, and raw images for other decks.
 //!
 //! The program keeps no rule of the disc itself: it lends files to the core and
 //! tells what the core answers. Each room uses only those below it:
 //!
 //! - `commands`: the command line;
 //! - `calls`, `cut`, `demo`, `images`, `listing`: what the commands do;
-//! - `writing`: the two calls that record, whole or to be cut;
+//! - `writing`: the calls that record, whole or to be cut;
 //! - `session`: disc and ledger of one command;
 //! - `keeping`: the order in which they are kept;
 //! - `surroundings`: the streams and the disk that a command is given;
 //! - `disk`: the steps of keeping, on files;
 //! - `making`: a file where there is none, a disc's or another;
 //! - `files`: names, locks, and replacing a file in one step;
+//! - `times`: when a save was made, in words;
 //! - `form`: the disc file's form; `map`: what the ledger says;
 //! - `arguments`, `syntax`, `help`, `nearly`: the words of a command line;
-//! - `mapping`, `lock`: what is asked of the system;
+//! - `stamps`: the time that a save is to carry; `calendar`: dates;
+//! - `mapping`, `lock`, `clock`: what is asked of the system;
 //! - `failure`, `advice`: what can go wrong, in words and as an exit status.
 
 #![deny(unsafe_code)]
 
 mod advice;
 mod arguments;
+mod calendar;
 mod calls;
+#[allow(unsafe_code)]
+mod clock;
 mod commands;
 #[cfg(test)]
 mod crashes;
@@ -44,8 +49,10 @@ mod map;
 mod mapping;
 mod nearly;
 mod session;
+mod stamps;
 mod surroundings;
 mod syntax;
+mod times;
 mod writing;
 
 use std::env;

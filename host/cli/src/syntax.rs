@@ -15,6 +15,7 @@ pub struct Syntax {
 /// What may follow an option.
 const NAME: Option<&str> = Some("a name");
 const NUMBER: Option<&str> = Some("a number");
+const TYPED_TIME: Option<&str> = Some("a time");
 
 /// A command without options.
 const fn plain(
@@ -40,13 +41,20 @@ pub static WRITE: Syntax = Syntax {
 };
 pub static RELEASE: Syntax = plain("release", &["DISC", "V"], help::RELEASE);
 pub static CLOSE: Syntax = plain("close", &["DISC"], help::CLOSE);
-pub static COMMIT: Syntax = plain("commit", &["DISC"], help::COMMIT);
+pub static COMMIT: Syntax = Syntax {
+    options: &[("--at", TYPED_TIME), ("--now", None)],
+    ..plain("commit", &["DISC"], help::COMMIT)
+};
 pub static READ: Syntax = Syntax {
     options: &[("--to", NAME)],
     ..plain("read", &["DISC", "V"], help::READ)
 };
 pub static LOOK_BACK: Syntax = plain("look-back", &["DISC", "K"], help::LOOK_BACK);
-pub static LIST: Syntax = plain("list", &["DISC"], help::LIST);
+pub static TIME: Syntax = plain("time", &["DISC", "K"], help::TIME);
+pub static LIST: Syntax = Syntax {
+    options: &[("--times", None)],
+    ..plain("list", &["DISC"], help::LIST)
+};
 pub static IMPORT: Syntax = Syntax {
     options: &[("--start", NUMBER), ("--sectors", NUMBER)],
     ..plain("import", &["IMAGE", "DISC"], help::IMPORT)

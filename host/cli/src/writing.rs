@@ -1,17 +1,19 @@
-//! The two calls that record, write and commit, up to what is to be kept of them:
-//! all, or what a cut leaves.
+//! The calls that record, write and commit, up to what is to be kept of them: all,
+//! or what a cut leaves.
 
 use std::ffi::OsStr;
 use std::fs::{self, File};
 use std::path::Path;
 
-use station::SECTOR;
+use station::{Timestamp, SECTOR};
 
 use crate::advice;
 use crate::arguments::Arguments;
+use crate::clock;
 use crate::failure::Failure;
 use crate::files::read_at_most;
 use crate::session::Session;
+use crate::stamps;
 use crate::surroundings::Surroundings;
 
 /// The block for a write, and where it is to go.
@@ -54,11 +56,46 @@ impl Writing {
     }
 }
 
-/// The table's block.
-pub fn record_table(session: &mut Session) -> Result<u32, Failure> {
-    let (image, kinds) = session.disc.lent_to_record();
-    let table = station::commit(image, kinds, &mut session.ledger)?;
-    Ok(table)
+/// Which time a save carries.
+pub enum Saving {
+    Without,
+    At(Timestamp),
+    Now,
+}
+
+impl Saving {
+    pub fn of(given: &Arguments) -> Result<Saving, Failure> {
+        match (given.option_time("--at")?, given.has("--now")) {
+            (None, false) => Ok(Saving::Without),
+            (Some(time), false) => Ok(Saving::At(time)),
+            (None, true) => Ok(Saving::Now),
+            (Some(_), true) => {
+                let fault = "a save has one time: give --at or --now, not both";
+                Err(given.wrong(fault.into()))
+            }
+        }
+    }
+
+    /// The clock is asked in the session, where no other command can save between
+    /// its answer and this save.
+    fn stamp(&self) -> Option<Timestamp> {
+        match self {
+            Saving::Without => None,
+            Saving::At(time) => Some(*time),
+            Saving::Now => Some(stamps::of_clock(&clock::now())),
+        }
+    }
+
+    /// The table's block.
+    pub fn record(&self, session: &mut Session) -> Result<u32, Failure> {
+        let (image, kinds) = session.disc.lent_to_record();
+        let ledger = &mut session.ledger;
+        let table = match self.stamp() {
+            None => station::commit(image, kinds, ledger),
+            Some(stamp) => station::commit_at(image, kinds, ledger, &stamp.to_bytes()),
+        };
+        table.map_err(|refusal| Failure::Refused(refusal, advice::of_commit(refusal)))
+    }
 }
 
 /// `-` as a file's name means the stream.

@@ -182,7 +182,8 @@ fn only_what_is_recorded_is_written() {
     let file = || fs::metadata(folder.path("run.disc")).expect("the disc");
     let before = file();
     let lines = "mount run.disc;release run.disc 1;close run.disc;look-back run.disc 1;\
-                 read run.disc 1;list run.disc;mount run.disc;write run.disc 9;begin run.disc";
+                 read run.disc 1;time run.disc 0;list run.disc --times;mount run.disc;\
+                 write run.disc 9;begin run.disc";
     for line in lines.split(';') {
         folder.run(line.trim());
         let now = file();

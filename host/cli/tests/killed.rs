@@ -7,11 +7,13 @@ use common::{padded, Folder};
 use station::SECTOR;
 
 /// One line for each call that reads the ledger.
-const LINES: [&str; 7] = [
+const LINES: [&str; 9] = [
     "write run.disc 0",
     "release run.disc 0",
     "close run.disc",
     "commit run.disc",
+    "commit run.disc --at 2026-11-15T14:05+01:00",
+    "commit run.disc --now",
     "read run.disc 0",
     "cut 0 commit run.disc",
     "cut 0 write run.disc 0",

@@ -12,8 +12,9 @@ use station::Refusal;
 
 const PAGE: &str = include_str!("../../../docs/OPERATORS.md");
 
-/// The number and who causes it, as document 01 groups them.
-const REFUSALS: [(Refusal, &str); 15] = [
+/// The number and who causes it, as document 01 groups them; of 16, whose time it
+/// is.
+const REFUSALS: [(Refusal, &str); 16] = [
     (Refusal::DiscSize, "the host program"),
     (Refusal::LentLength, "the host program"),
     (Refusal::DiscUnsound, "the disc"),
@@ -29,6 +30,7 @@ const REFUSALS: [(Refusal, &str); 15] = [
     (Refusal::AboveLimit, "the operator"),
     (Refusal::NoRoom, "the recording"),
     (Refusal::WouldBeVat, "the recording"),
+    (Refusal::BadTimestamp, "the operator, or the disc"),
 ];
 
 /// The lines of all fenced blocks marked `console`, in order.
@@ -72,6 +74,7 @@ fn the_table_has_every_refusal() {
         assert!(row.contains(&format!(" | {whose} | ")), "{row}");
         assert!(row.contains(advice::of(refusal)), "{row}");
         assert!(row.contains(advice::of_write(refusal, b"short")), "{row}");
+        assert!(row.contains(advice::of_commit(refusal)), "{row}");
     }
 }
 

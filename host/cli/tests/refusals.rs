@@ -1,6 +1,6 @@
 //! Every refusal that the program can meet: its number as the exit status, its
-//! cause in document 01's words and one sentence of advice on standard error,
-//! and no file changed.
+//! cause in the documents' words and one sentence of advice on standard error, and
+//! no file changed.
 //!
 //! 1 cannot be met: a disc file with no sectors, too many, or another length is
 //! no disc (exit status 65), and only the listing tells it as 1.
@@ -65,7 +65,7 @@ fn number_3_a_recorded_sector_after_a_blank_one() {
     for line in ["begin", "mount", "close", "commit"] {
         refused(&folder, &format!("{line} run.disc"), 3);
     }
-    for line in ["release", "read", "look-back"] {
+    for line in ["release", "read", "look-back", "time"] {
         refused(&folder, &format!("{line} run.disc 0"), 3);
     }
     refused_with(&folder, "write run.disc 0", &BLOCK, 3);
@@ -91,7 +91,12 @@ fn number_4_a_ledger_that_is_missing_or_of_another_disc() {
 fn number_5_recording_while_looking_only() {
     let folder = Folder::example();
     folder.done("look-back run.disc 0");
-    for line in ["close run.disc", "commit run.disc", "release run.disc 1"] {
+    for line in [
+        "close run.disc",
+        "commit run.disc",
+        "commit run.disc --now",
+        "release run.disc 1",
+    ] {
         assert!(refused(&folder, line, 5).contains("Mount the disc"));
     }
     refused_with(&folder, "write run.disc 0", &BLOCK, 5);
@@ -104,16 +109,21 @@ fn numbers_6_and_7_begin_and_mount_at_the_wrong_time() {
     let folder = Folder::begun(31);
     refused(&folder, "mount run.disc", 7);
     refused(&folder, "look-back run.disc 0", 7);
+    refused(&folder, "time run.disc 0", 7);
 }
 
 #[test]
 fn numbers_8_and_9_looking_too_far_back() {
     let folder = Folder::example();
-    refused(&folder, "look-back run.disc 3", 9);
-    refused(&folder, "look-back run.disc 4294967295", 9);
+    for line in ["look-back run.disc", "time run.disc"] {
+        refused(&folder, &format!("{line} 3"), 9);
+        refused(&folder, &format!("{line} 4294967295"), 9);
+    }
     folder.set_kind(3, b'3');
-    refused(&folder, "look-back run.disc 1", 8);
-    refused(&folder, "look-back run.disc 7", 8);
+    for line in ["look-back run.disc", "time run.disc"] {
+        refused(&folder, &format!("{line} 1"), 8);
+        refused(&folder, &format!("{line} 7"), 8);
+    }
     folder.done("look-back run.disc 0");
 }
 
@@ -180,7 +190,9 @@ fn number_14_no_room() {
     assert!(advice.starts_with("Commit what is written"), "{advice}");
     folder.done("close run.disc");
     assert_eq!(folder.done("commit run.disc"), "saved, table at block 8\n");
-    assert!(refused(&folder, "commit run.disc", 14).starts_with("Take another disc"));
+    for line in ["commit run.disc", "commit run.disc --now"] {
+        assert!(refused(&folder, line, 14).starts_with("Take another disc"));
+    }
 }
 
 /// A table sector of block 0, written as a block at 0, and at 1.
@@ -194,4 +206,14 @@ fn number_15_a_block_that_would_be_a_save() {
     refused_with(&folder, "write other.disc 0", &table, 15);
     folder.done_with("write other.disc 0", &BLOCK);
     folder.done_with("write other.disc 1", &table);
+}
+
+/// "A timestamp given or found breaks these limits."
+#[test]
+fn number_16_a_time_that_there_is_not() {
+    let folder = Folder::example();
+    let advice = refused(&folder, "commit run.disc --at 2099-02-29T14:05Z", 16);
+    assert!(advice.starts_with("Give a real date"), "{advice}");
+    let advice = refused(&folder, "time run.disc 0", 16);
+    assert!(advice.starts_with("Ask for another save"), "{advice}");
 }

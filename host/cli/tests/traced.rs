@@ -211,7 +211,11 @@ fn the_order_of_the_medium() {
     let ledger = ["write", "fchmod", "fsync"];
     let recorded = ["pwrite64", "fdatasync", "pwrite64", "fdatasync"];
     let named = ["rename", "fsync", "write"];
-    for line in ["write run.disc 0", "commit run.disc"] {
+    for line in [
+        "write run.disc 0",
+        "commit run.disc",
+        "commit run.disc --now",
+    ] {
         let whole = [&ledger[..], &recorded, &named].concat();
         assert_eq!(calls_of(&folder, line), whole, "{line}");
     }
@@ -219,13 +223,20 @@ fn the_order_of_the_medium() {
         let alone = [&ledger[..], &named].concat();
         assert_eq!(calls_of(&folder, line), alone, "{line}");
     }
-    assert_eq!(calls_of(&folder, "read run.disc 1"), ["write"]);
+    for line in [
+        "read run.disc 1",
+        "time run.disc 0",
+        "list run.disc --times",
+    ] {
+        assert_eq!(calls_of(&folder, line), ["write"], "{line}");
+    }
 }
 
 /// The command lines, each on the example with its packet closed.
-const LINES: [(&str, usize); 8] = [
+const LINES: [(&str, usize); 9] = [
     ("write run.disc 0", 9),
     ("commit run.disc", 9),
+    ("commit run.disc --at 2026-11-15T14:05+01:00", 9),
     ("mount run.disc", 5),
     ("release run.disc 1", 5),
     ("close run.disc", 5),

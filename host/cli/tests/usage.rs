@@ -8,7 +8,7 @@ use std::process::Command;
 
 use common::{Folder, STATION};
 
-const COMMANDS: [&str; 14] = [
+const COMMANDS: [&str; 15] = [
     "new",
     "begin",
     "mount",
@@ -18,6 +18,7 @@ const COMMANDS: [&str; 14] = [
     "commit",
     "read",
     "look-back",
+    "time",
     "list",
     "import",
     "export",
@@ -59,6 +60,9 @@ comit run.disc | there is no command comit: did you mean commit? |
 lookback run.disc 0 | there is no command lookback: did you mean look-back? |
 realese run.disc 1 | there is no command realese: did you mean release? |
 umount run.disc | there is no command umount: did you mean mount? |
+tiem run.disc 0 | there is no command tiem: did you mean time? |
+times run.disc 0 | there is no command times: did you mean time? |
+now run.disc | there is no command now: did you mean new? |
 eject run.disc | there is no command eject |
 --quiet mount run.disc | there is no option --quiet |
 mount --quick run.disc | mount has no option --quick | mount
@@ -73,6 +77,22 @@ write run.disc 0 --pad --pad | --pad is given twice | write
 mount | mount needs DISC | mount
 write run.disc | write needs V | write
 look-back run.disc | look-back needs K | look-back
+time run.disc | time needs K | time
+time run.disc 0 --utc | time has no option --utc | time
+commit run.disc --at | --at needs a time behind it | commit
+commit run.disc --at 2026-11-15 | --at is a time such as 2026-11-15T14:05+01:00, not '2026-11-15' | commit
+commit run.disc --at 2026-11-15 14:05 | commit has no use for 14:05 | commit
+commit run.disc --at 2026-11-15T14:05 --at 2026-11-15T14:06 | --at is given twice | commit
+commit run.disc --now 14:05 | commit has no use for 14:05 | commit
+commit run.disc --now=14:05 | --now takes no value | commit
+commit run.disc --now --now | --now is given twice | commit
+commit run.disc --now --at 2026-11-15T14:05 | a save has one time: give --at or --now, not both | commit
+commit run.disc --times | commit has no option --times | commit
+list run.disc --time | list has no option --time | list
+list run.disc --times=utc | --times takes no value | list
+write run.disc 0 --now | write has no option --now | write
+cut 0 commit run.disc --now --at 2026-11-15T14:05 | a save has one time: give --at or --now, not both | commit
+cut 0 --now commit run.disc | cut has no option --now | cut
 new run.disc | new needs SECTORS | new
 import deck.img | import needs DISC | import
 import deck.img deck.disc | import needs --start | import
@@ -111,7 +131,7 @@ fn numbers_are_checked() {
         "99999999999999999999",
         "١",
     ] {
-        for line in ["write", "release", "read", "look-back"] {
+        for line in ["write", "release", "read", "look-back", "time"] {
             let told = folder.fails(&format!("{line} run.disc {number}"), 64);
             assert!(told.contains("a number from 0 to 4294967295"), "{told}");
         }

@@ -1,11 +1,12 @@
 //! "Each call answers an outcome (0 done, else a refusal) and a second number."
 
-/// "Refusals, by who causes them": each with document 01's number.
+/// "Refusals, by who causes them": each with its number in the documents.
 #[derive(Clone, Copy, Debug, PartialEq, Eq)]
 pub enum Refusal {
     /// "no sectors, more than 360,000, or image length is not 2048 × kinds length"
     DiscSize = 1,
-    /// "a lent block is not 2048 bytes, or a lent ledger is not 1,848"
+    /// "a lent block is not 2048 bytes, or a lent ledger is not 1,848"; "A lent
+    /// timestamp or answer of another length gives 2" (document 02)
     LentLength = 2,
     /// "a kind above 3, or a recorded sector after a blank one"
     DiscUnsound = 3,
@@ -33,6 +34,8 @@ pub enum Refusal {
     NoRoom = 14,
     /// "the lent block would be a table sector at the block it is about to take"
     WouldBeVat = 15,
+    /// "a timestamp given or found breaks these limits" (document 02)
+    BadTimestamp = 16,
 }
 
 /// The two numbers.

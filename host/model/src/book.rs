@@ -3,6 +3,9 @@
 //!
 //! "It gets nothing from the ledger, and from the disc only the page of a
 //! mount at the start." [`Fed`] is all that it sees.
+//!
+//! Beside each page stands the timestamp that it was saved with: what is told of
+//! "k saves back" (document 02) turns on it, and nothing else does.
 
 use std::rc::Rc;
 
@@ -10,6 +13,7 @@ use crate::answer::Answer;
 use crate::calls::Call;
 use crate::disc::Disc;
 use crate::table::{Vat, NONE, SECTOR};
+use crate::time::{Stamp, NO_STAMP};
 
 /// "what it reads: 2048 bytes or 11"
 #[derive(Clone, Debug, PartialEq, Eq)]
@@ -37,13 +41,16 @@ pub struct Snapshot {
 pub struct History {
     pub pages: Vec<Snapshot>,
     pub draft: Option<Snapshot>,
+    /// The modification time of each page's table, whatever it is.
+    pub stamps: Vec<Stamp>,
 }
 
 /// "The book is fed each call with its v or k, a write's lent block, and the
-/// two numbers answered".
+/// two numbers answered"; and of a commit that has one, its timestamp.
 #[derive(Clone, Copy)]
 pub struct Fed<'a> {
     pub call: Call,
+    /// A write's block, or a commit's timestamp.
     pub written: Option<&'a [u8]>,
     pub ending: Ending,
 }
@@ -54,6 +61,14 @@ pub struct Fed<'a> {
 pub enum Ending {
     Answered(Answer),
     Cut { vat_kept: bool },
+}
+
+impl Fed<'_> {
+    /// What a commit records as its times: a plain one zeros.
+    fn stamp(&self) -> Stamp {
+        let given = self.written.filter(|_| self.call == Call::CommitAt);
+        given.map_or(NO_STAMP, |stamp| stamp.try_into().unwrap_or(NO_STAMP))
+    }
 }
 
 impl Snapshot {
@@ -115,14 +130,17 @@ impl History {
         History {
             pages: Vec::new(),
             draft: Some(Snapshot::default()),
+            stamps: Vec::new(),
         }
     }
 
     /// Start: "after mount one page, the table found, [...] and a copy as draft".
-    pub fn mounted(page: Snapshot) -> History {
+    pub fn mounted(disc: &Disc, vat: &Vat) -> History {
+        let page = Snapshot::found(disc, vat);
         History {
             draft: Some(page.clone()),
             pages: vec![page],
+            stamps: vec![vat.modified],
         }
     }
 
@@ -131,12 +149,17 @@ impl History {
         self.pages.iter().rev().nth(k)
     }
 
+    /// The timestamp of that page.
+    pub fn stamp_back(&self, k: usize) -> Option<&Stamp> {
+        self.stamps.iter().rev().nth(k)
+    }
+
     /// "Read, close packet, any refused call: no change."
     pub fn feed(&mut self, fed: &Fed) {
         match fed.ending {
             Ending::Answered(answer) if answer.is_done() => self.done(fed, answer.second),
             Ending::Answered(_) => {}
-            Ending::Cut { vat_kept } => self.cut(fed.call, vat_kept),
+            Ending::Cut { vat_kept } => self.cut(fed, vat_kept),
         }
     }
 
@@ -154,22 +177,27 @@ impl History {
                 }
             }
             (Call::Release(v), Some(draft)) => draft.release(v),
-            (Call::Commit, _) => self.save(),
+            (Call::Commit | Call::CommitAt, _) => self.save(fed),
             (Call::Write(_) | Call::Release(_), None) => {}
             (Call::Read(_) | Call::ClosePacket, _) => {}
+            // "counts as a refused one" (document 02)
+            (Call::TimeOf(_), _) => {}
         }
     }
 
     /// "a commit whose table sector was kept makes its page; then no draft"
-    fn cut(&mut self, call: Call, vat_kept: bool) {
-        if call == Call::Commit && vat_kept {
-            self.save();
+    fn cut(&mut self, fed: &Fed, vat_kept: bool) {
+        if vat_kept && matches!(fed.call, Call::Commit | Call::CommitAt) {
+            self.save(fed);
         }
         self.draft = None;
     }
 
     /// "a copy of the draft is the newest page"
-    fn save(&mut self) {
-        self.pages.extend(self.draft.clone());
+    fn save(&mut self, fed: &Fed) {
+        if let Some(page) = self.draft.clone() {
+            self.pages.push(page);
+            self.stamps.push(fed.stamp());
+        }
     }
 }

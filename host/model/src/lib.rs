@@ -1,4 +1,4 @@
-//! An independent model of document 01: the disc, the ledger, the eight calls
+//! An independent model of document 01: the disc, the ledger, the ten calls
 //! and the book that the cut rule speaks of. It is written from the text of
 //! documents 01 and 02 alone and shares nothing with the recording core, so that
 //! the two can be held against each other.
@@ -12,10 +12,11 @@
 //!
 //! - [`fields`]: little-endian fields;
 //! - [`answer`]: the two numbers that each call answers, and the refusals;
+//! - [`time`]: timestamps, their limits, and the minutes that they tell;
 //! - [`table`]: the table sector at block b;
 //! - [`disc`]: image and kinds, the newest table, the walk back, recording;
 //! - [`ledger`]: the volume's working state and when it fits the disc;
-//! - [`calls`]: the eight calls;
+//! - [`calls`]: the ten calls;
 //! - [`book`]: pages and draft, what the cut rule promises.
 //!
 //! [`Volume`]: ledger::Volume
@@ -31,3 +32,4 @@ pub mod disc;
 pub mod fields;
 pub mod ledger;
 pub mod table;
+pub mod time;

@@ -5,6 +5,7 @@
 //! [`vat_sector`] is the sector that commit records.
 
 use crate::fields::{put, u16_at, u32_at, u64_at};
+use crate::time::{Stamp, NO_STAMP};
 
 /// "the image, 2048 bytes a sector"
 pub const SECTOR: usize = 2048;
@@ -18,6 +19,11 @@ pub const LIMIT: usize = 458;
 /// Byte 16: where the CRC starts, behind the tag.
 const BODY: usize = 16;
 
+/// ECMA-167 4/14.9: access time, modification time, attribute time.
+const ACCESSED: usize = 72;
+const MODIFIED: usize = 84;
+const ATTRIBUTED: usize = 96;
+
 /// Byte 176: where the extended attributes start, and behind them the table.
 const ATTRIBUTES: usize = 176;
 
@@ -28,11 +34,13 @@ const VAT_NAME: [u8; 23] = *b"*UDF Virtual Alloc Tbl\0";
 const IMPLEMENTATION_NAME: [u8; 14] = *b"*Bench Station";
 
 /// What a table sector holds: "entries of 32 bits, a 32-byte regid, the
-/// previous table's block".
+/// previous table's block"; and before them its "modification time" (document
+/// 02), whatever it is.
 #[derive(Clone, Debug, PartialEq, Eq)]
 pub struct Vat {
     pub map: Vec<u32>,
     pub previous: u32,
+    pub modified: Stamp,
 }
 
 /// "The table length is 4 × N + 36 exactly."
@@ -159,6 +167,7 @@ fn held(sector: &[u8; SECTOR], layout: Layout) -> Vat {
             .map(|v| u32_at(sector, layout.table() + 4 * v))
             .collect(),
         previous: u32_at(sector, layout.previous()),
+        modified: std::array::from_fn(|at| sector[MODIFIED + at]),
     }
 }
 
@@ -179,8 +188,17 @@ fn has_crc(sector: &[u8; SECTOR], layout: Layout) -> bool {
 /// "What commit records" at block b, for at most 458 entries; of attributes
 /// "Our commit [...] records none" (document 02).
 pub fn vat_sector(b: u32, map: &[u32], previous: u32) -> [u8; SECTOR] {
+    stamped_vat_sector(b, map, previous, &NO_STAMP)
+}
+
+/// "A second form of commit takes a 12-byte ECMA-167 timestamp and records it as
+/// access, modification and attribute time" (document 02).
+pub fn stamped_vat_sector(b: u32, map: &[u32], previous: u32, stamp: &Stamp) -> [u8; SECTOR] {
     let mut sector = [0; SECTOR];
     put_file_entry(&mut sector, table_length(map.len()));
+    for time in [ACCESSED, MODIFIED, ATTRIBUTED] {
+        put(&mut sector, time, stamp);
+    }
     put_table(&mut sector, map, previous);
     seal(&mut sector, b);
     sector

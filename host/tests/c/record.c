@@ -1,7 +1,7 @@
 /*
  * Records on a small disc through the C header: begin, writes, commits, a
- * closed packet, and then what mount, read and look back show of it. Exits 0 if
- * every answer is right, and names the first that is not.
+ * closed packet, and then what mount, read, look back and time of show of it.
+ * Exits 0 if every answer is right, and names the first that is not.
  */
 #include <stdio.h>
 #include <stdlib.h>
@@ -15,6 +15,14 @@ static uint8_t image[SECTORS * STATION_SECTOR];
 static uint8_t kinds[SECTORS];
 static uint8_t ledger[STATION_LEDGER];
 static uint8_t block[STATION_SECTOR];
+static uint8_t told[STATION_TIME];
+
+/* 00:30 on 1 January 1970, by a clock 60 minutes ahead of UTC. */
+static const uint8_t half_past[STATION_STAMP] = {60, 0x10, 0xB2, 0x07, 1, 1, 0, 30};
+
+/* The same without a zone, and in a month that no year has. */
+static const uint8_t zoneless[STATION_STAMP] = {0x01, 0x18, 0xB2, 0x07, 1, 1, 0, 30};
+static const uint8_t no_month[STATION_STAMP] = {60, 0x10, 0xB2, 0x07, 13, 1, 0, 30};
 
 /* The medium, and how many of its sectors are burned. */
 static uint8_t burned_image[SECTORS * STATION_SECTOR];
@@ -53,11 +61,26 @@ static uint64_t read_number(uint32_t v)
     return station_read(LENT, v, block, sizeof block);
 }
 
-static uint32_t entry(size_t at)
+static uint64_t commit_at(const uint8_t *stamp)
 {
-    const uint8_t *bytes = ledger + 4 * at;
+    return station_commit_at(LENT, stamp, STATION_STAMP);
+}
+
+static uint64_t time_of(uint32_t k)
+{
+    memset(told, 0xC7, sizeof told);
+    return station_time_of(LENT, k, told, sizeof told);
+}
+
+static uint32_t number(const uint8_t *bytes)
+{
     return (uint32_t)bytes[0] | (uint32_t)bytes[1] << 8 | (uint32_t)bytes[2] << 16 |
            (uint32_t)bytes[3] << 24;
+}
+
+static uint32_t entry(size_t at)
+{
+    return number(ledger + 4 * at);
 }
 
 /* Burns what was recorded since the last time, in ascending order: whenever this
@@ -87,10 +110,11 @@ static void record(void)
     burn();
     expect("release 0", station_release(LENT, 0), STATION_DONE, 0);
     expect("release 0 again", station_release(LENT, 0), STATION_NOT_IN_USE, 0);
-    expect("commit", station_commit(LENT), STATION_DONE, 3);
+    expect("commit at no month", commit_at(no_month), STATION_BAD_TIMESTAMP, 0);
+    expect("commit at half past", commit_at(half_past), STATION_DONE, 3);
     burn();
     expect("close packet", station_close_packet(LENT), STATION_DONE, 0);
-    expect("commit", station_commit(LENT), STATION_DONE, 11);
+    expect("commit without a zone", commit_at(zoneless), STATION_DONE, 11);
     burn();
     hold("seven links", memcmp(kinds, "\1\1\1\1\2\2\2\2\2\2\2\1\0", 13) == 0);
 }
@@ -128,6 +152,18 @@ static void look_back(void)
     expect("look back 3", station_look_back(LENT, 3), STATION_CHAIN_ENDED, 0);
 }
 
+static void tell_the_times(void)
+{
+    memset(ledger, 0xA5, sizeof ledger);
+    expect("time of 0", time_of(0), STATION_DONE, 0);
+    hold("30 minutes, marked", number(told) == 30 && number(told + 4) == 1);
+    expect("time of 1", time_of(1), STATION_DONE, 0);
+    hold("-30 minutes, not marked", (int32_t)number(told) == -30 && number(told + 4) == 0);
+    expect("time of a plain commit", time_of(2), STATION_BAD_TIMESTAMP, 0);
+    hold("a refusal leaves the answer", number(told) == 0xC7C7C7C7u);
+    expect("time of 3", time_of(3), STATION_CHAIN_ENDED, 0);
+}
+
 static void lend_wrongly(void)
 {
     uint64_t short_image =
@@ -135,6 +171,8 @@ static void lend_wrongly(void)
     uint64_t short_ledger = station_mount(DISC, ledger, sizeof ledger - 1);
     expect("an image too short", short_image, STATION_DISC_SIZE, 0);
     expect("a ledger too short", short_ledger, STATION_LENT_LENGTH, 0);
+    expect("a stamp too short", station_commit_at(LENT, half_past, 11), STATION_LENT_LENGTH, 0);
+    expect("an answer too short", station_time_of(LENT, 0, told, 7), STATION_LENT_LENGTH, 0);
     kinds[30] = 4;
     expect("a kind above 3", station_mount(LENT), STATION_DISC_UNSOUND, 0);
     kinds[30] = 0;
@@ -146,7 +184,8 @@ int main(void)
     take_the_burned_disc();
     mount_and_read();
     look_back();
+    tell_the_times();
     lend_wrongly();
-    puts("recorded, mounted, read and looked back");
+    puts("recorded, mounted, read, looked back and told the times");
     return 0;
 }

@@ -1,11 +1,13 @@
 //! Document 01's claim after a list: what mount, look back and read then show
-//! is what the book has.
+//! is what the book has; and, by document 02, the time of each save is the one
+//! that it was made with.
 
 use station_model::answer::Answer;
 use station_model::book::{Content, History, Snapshot};
 use station_model::calls::Call;
 use station_model::ledger::{Volume, LEDGER};
 use station_model::table::{LIMIT, NONE, SECTOR};
+use station_model::time::{Moment, Stamp, TIME};
 
 use super::core::Core;
 use super::random::Random;
@@ -20,14 +22,14 @@ pub fn compare(core: &Core, history: &History, random: &mut Random) -> Result<()
         Some(page) => shows(&mut copy, Call::Mount, page, random)?,
     }
     for k in 0..history.pages.len() {
-        let page = history
-            .page_back(k)
-            .expect("k is below the number of pages");
+        let page = history.page_back(k).zip(history.stamp_back(k));
+        let (page, stamp) = page.expect("k is below the number of pages");
         shows(&mut copy, Call::LookBack(k as u32), page, random)?;
+        tells(&mut copy, k as u32, Ok(stamp), random)?;
     }
     let untouched = copy.image[..] == core.image[..] && copy.kinds[..] == core.kinds[..];
     check(untouched, || {
-        "mount, look back and read changed the disc".into()
+        "mount, look back, read and time of changed the disc".into()
     })
 }
 
@@ -41,6 +43,34 @@ fn mount_finds_nothing(copy: &mut Core, random: &mut Random) -> Result<(), Strin
     })?;
     check(copy.ledger[..] == before, || {
         "a refused mount changed the ledger".into()
+    })?;
+    tells(copy, 0, Err(7), random)
+}
+
+/// Time of k, lent any ledger, tells the save's own time, or 16 if that breaks the
+/// limits; where there is no save, it answers this refusal. It leaves the ledger,
+/// and a refusal the lent answer too.
+fn tells(
+    copy: &mut Core,
+    k: u32,
+    stamp: Result<&Stamp, u32>,
+    random: &mut Random,
+) -> Result<(), String> {
+    let ledger = random.bytes(LEDGER);
+    copy.ledger.copy_from_slice(&ledger);
+    let before: [u8; TIME] = random.next().to_le_bytes();
+    let mut shown = before;
+    let answer = copy.call_lent(Call::TimeOf(k), &mut shown);
+    let moment = stamp.and_then(|stamp| Moment::told_by(stamp).ok_or(16));
+    let (expected, bytes) = match moment {
+        Ok(moment) => (Answer::done(0), moment.to_bytes()),
+        Err(refusal) => (refused(refusal), before),
+    };
+    check(answer == expected && shown == bytes, || {
+        format!("time of {k} answers {answer:?}, {shown:?}; the book has {expected:?}, {bytes:?}")
+    })?;
+    check(copy.ledger[..] == ledger, || {
+        format!("time of {k} changed the ledger")
     })
 }
 

@@ -1,38 +1,60 @@
-//! Every call on a built station, each with the numbers and blocks that lie at
-//! a bound.
+//! Every call on a built station, each with the numbers, blocks and timestamps
+//! that lie at a bound.
 
 use station_model::calls::Call;
 use station_model::disc::BLANK;
 use station_model::fields::u32_at;
 use station_model::ledger::LEDGER;
 use station_model::table::{vat_sector, LIMIT, NONE, SECTOR};
+use station_model::time::NO_STAMP;
 
 use super::forge::vat_behind;
 use super::pair::Pair;
-use super::station::Station;
+use super::stamps::{ANSWER, HALF_PAST};
+use super::station::{done, Station};
 
 pub const BLOCK: [u8; SECTOR] = [0x5A; SECTOR];
 
 /// One block written and saved: data at 0, its table at 1, a packet open.
 pub fn saved(sectors: usize) -> Station {
     let mut station = Station::begun(sectors);
-    assert_eq!(station.write(0, &BLOCK).packed(), 0);
-    assert_eq!(station.call(Call::Commit).packed(), 1);
+    assert_eq!(station.write(0, &BLOCK), done(0));
+    assert_eq!(station.call(Call::Commit), done(1));
     station
+}
+
+/// The same, saved with a timestamp.
+pub fn saved_at(sectors: usize) -> Station {
+    let mut station = Station::begun(sectors);
+    assert_eq!(station.write(0, &BLOCK), done(0));
+    assert_eq!(station.commit_at(&HALF_PAST), done(1));
+    station
+}
+
+/// What a call may be lent beside the three buffers.
+pub fn fourth(call: Call) -> &'static [u8] {
+    match call {
+        Call::CommitAt => &HALF_PAST,
+        Call::TimeOf(_) => &ANSWER,
+        _ => &BLOCK,
+    }
 }
 
 /// Makes each call on the station as it is, one after the other, and compares.
 pub fn every_call(station: &Station) {
     let mut pair = Pair::shifted(station, station.image.len() / SECTOR);
     let blocks = blocks(station);
+    let stamps = [HALF_PAST.to_vec(), NO_STAMP.to_vec()];
     for call in calls(station) {
         let lent = match call {
             Call::Write(_) => &blocks[..],
             Call::Read(_) => &blocks[..1],
+            Call::CommitAt => &stamps[..],
+            Call::TimeOf(_) => &[ANSWER.to_vec()],
             _ => &[Vec::new()],
         };
-        for block in lent {
-            if pair.call(call, block).is_done() {
+        for buffer in lent {
+            if pair.call(call, buffer).is_done() {
                 pair.take_back(station);
             }
         }
@@ -49,11 +71,13 @@ fn calls(station: &Station) -> Vec<Call> {
     numbers.sort_unstable();
     numbers.dedup();
     let steps = (0..station.kinds.len().min(8) as u32 + 2).chain([NONE]);
-    let mut calls = vec![Call::Begin, Call::Mount, Call::ClosePacket, Call::Commit];
+    let mut calls = vec![Call::Begin, Call::Mount, Call::ClosePacket];
+    calls.extend([Call::Commit, Call::CommitAt]);
     calls.extend(numbers.iter().map(|v| Call::Release(*v)));
     calls.extend(numbers.iter().map(|v| Call::Read(*v)));
     calls.extend(numbers.iter().map(|v| Call::Write(*v)));
-    calls.extend(steps.map(Call::LookBack));
+    calls.extend(steps.clone().map(Call::LookBack));
+    calls.extend(steps.map(Call::TimeOf));
     calls
 }
 

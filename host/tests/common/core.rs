@@ -34,56 +34,58 @@ impl Core {
         }
     }
 
-    /// Any of the eight, with the block that a write or read is lent.
-    pub fn perform(&mut self, call: Call, block: &mut [u8]) -> u64 {
-        self.perform_short(call, block, Short::default())
+    /// Any of the ten, with the fourth buffer that some are lent.
+    pub fn perform(&mut self, call: Call, buffer: &mut [u8]) -> u64 {
+        self.perform_short(call, buffer, Short::default())
     }
 
     /// The same with the last bytes of some buffers not lent.
-    pub fn perform_short(&mut self, call: Call, block: &mut [u8], short: Short) -> u64 {
+    pub fn perform_short(&mut self, call: Call, buffer: &mut [u8], short: Short) -> u64 {
         let image = all_but(&mut self.image, short.image);
         let kinds = all_but(&mut self.kinds, short.kinds);
         let ledger = all_but(&mut self.ledger, short.ledger);
         match call {
             Call::Begin => raw::begin(image, kinds, ledger),
             Call::Mount => raw::mount(image, kinds, ledger),
-            Call::Write(v) => raw::write(image, kinds, ledger, v, block),
+            Call::Write(v) => raw::write(image, kinds, ledger, v, buffer),
             Call::Release(v) => raw::release(image, kinds, ledger, v),
             Call::ClosePacket => raw::close_packet(image, kinds, ledger),
             Call::Commit => raw::commit(image, kinds, ledger),
-            Call::Read(v) => raw::read(image, kinds, ledger, v, block),
+            Call::CommitAt => raw::commit_at(image, kinds, ledger, buffer),
+            Call::Read(v) => raw::read(image, kinds, ledger, v, buffer),
             Call::LookBack(k) => raw::look_back(image, kinds, ledger, k),
+            Call::TimeOf(k) => raw::time_of(image, kinds, ledger, k, buffer),
         }
     }
 
-    /// The same with a copy of the block, between canaries too. A canary that
+    /// The same with a copy of the buffer, between canaries too. A canary that
     /// was changed ends the test.
-    pub fn call_lent(&mut self, call: Call, block: &mut [u8]) -> Answer {
-        self.call_short(call, block, Short::default())
+    pub fn call_lent(&mut self, call: Call, buffer: &mut [u8]) -> Answer {
+        self.call_short(call, buffer, Short::default())
     }
 
-    pub fn call_short(&mut self, call: Call, block: &mut [u8], short: Short) -> Answer {
-        let mut lent = Guarded::holding(block, 0);
+    pub fn call_short(&mut self, call: Call, buffer: &mut [u8], short: Short) -> Answer {
+        let mut lent = Guarded::holding(buffer, 0);
         let answer = self.perform_short(call, &mut lent, short);
         if let Some(struck) = self.struck(&lent) {
             panic!("{call:?} on the core wrote outside: {struck}");
         }
-        block.copy_from_slice(&lent);
+        buffer.copy_from_slice(&lent);
         unpacked(answer)
     }
 
-    /// A call that is lent no block.
+    /// A call that is lent no fourth buffer.
     pub fn call(&mut self, call: Call) -> Answer {
         self.call_lent(call, &mut [])
     }
 
     /// The buffer outside which the core wrote, and where.
-    pub fn struck(&self, block: &Guarded) -> Option<String> {
+    pub fn struck(&self, fourth: &Guarded) -> Option<String> {
         let buffers = [
             ("image", &self.image),
             ("kinds", &self.kinds),
             ("ledger", &self.ledger),
-            ("block", block),
+            ("fourth buffer", fourth),
         ];
         buffers
             .iter()

@@ -7,6 +7,7 @@ use station_model::ledger::{Volume, LEDGER, READ_ONLY};
 use station_model::table::{crc, seal, table_length, vat_sector, LIMIT, NONE, SECTOR};
 
 use super::random::Random;
+use super::stamps::{put_modified, stamp};
 use super::station::Station;
 
 /// Byte 176, where extended attributes start, and behind them the table.
@@ -89,7 +90,8 @@ pub fn disc_of_chains(random: &mut Random, sectors: usize) -> Station {
         let kind = if random.one_in(12) { UNREADABLE } else { DATA };
         let map = vec![NONE; random.below(3)];
         let attributes = attributes(random, map.len());
-        let sector = vat_behind(&attributes, location, &map, previous);
+        let mut sector = vat_behind(&attributes, location, &map, previous);
+        put_modified(&mut sector, location, &stamp(random));
         station.put_sector(block, kind, &sector);
     }
     station
@@ -147,6 +149,9 @@ pub fn valid_vat(random: &mut Random, block: u32) -> [u8; SECTOR] {
     if random.one_in(2) {
         foreign_fields(random, &mut sector);
         seal(&mut sector, block);
+    }
+    if random.one_in(2) {
+        put_modified(&mut sector, block, &stamp(random));
     }
     sector
 }
@@ -292,6 +297,16 @@ pub fn block(random: &mut Random, image: &[u8], recorded: u32) -> Vec<u8> {
     }
 }
 
+/// What a call needs beside the three buffers: a block to write or to read into,
+/// a timestamp, or an answer to fill.
+pub fn buffer(random: &mut Random, call: Call, image: &[u8], recorded: u32) -> Vec<u8> {
+    match call {
+        Call::Write(_) => block(random, image, recorded),
+        Call::CommitAt => stamp(random).to_vec(),
+        _ => vec![random.next() as u8; call.lent_length().unwrap_or(0)],
+    }
+}
+
 /// What a lost ledger may hold: random bytes, one byte throughout, what it
 /// held before, or a state that fits the disc.
 pub fn lost_ledger(random: &mut Random, disc: &Disc, before: &[u8]) -> Vec<u8> {
@@ -362,14 +377,16 @@ pub fn number(random: &mut Random, bound: usize) -> u32 {
 
 /// Any call, with numbers near those that mean something.
 pub fn call(random: &mut Random, size: usize, tables: usize) -> Call {
-    match random.below(20) {
+    match random.below(24) {
         0 => Call::Begin,
         1 => Call::Mount,
         2..=7 => Call::Write(number(random, size)),
         8..=9 => Call::Release(number(random, size)),
         10 => Call::ClosePacket,
-        11..=13 => Call::Commit,
-        14..=16 => Call::Read(number(random, size)),
-        _ => Call::LookBack(number(random, tables)),
+        11..=12 => Call::Commit,
+        13..=14 => Call::CommitAt,
+        15..=17 => Call::Read(number(random, size)),
+        18..=20 => Call::LookBack(number(random, tables)),
+        _ => Call::TimeOf(number(random, tables)),
     }
 }

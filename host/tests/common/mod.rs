@@ -14,5 +14,6 @@ pub mod guarded;
 pub mod pair;
 pub mod random;
 pub mod recogniser;
+pub mod stamps;
 pub mod station;
 pub mod tally;

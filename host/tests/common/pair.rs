@@ -1,5 +1,6 @@
 //! The core beside the model: each call is made on both, and the answer and
-//! every byte of image, kinds, ledger and block afterwards are compared.
+//! every byte of image, kinds, ledger and the fourth buffer afterwards are
+//! compared.
 
 use std::cell::Cell;
 use std::fmt::Write;
@@ -27,8 +28,9 @@ const COMPARED_WHOLE: usize = 64;
 pub struct Pair {
     model: Station,
     core: Core,
-    block: Vec<u8>,
-    core_block: Guarded,
+    /// The block, timestamp or answer that some calls are lent.
+    buffer: Vec<u8>,
+    core_buffer: Guarded,
     case: Option<usize>,
     shift: usize,
     turn: usize,
@@ -39,7 +41,7 @@ pub struct Pair {
 struct Before {
     kinds: Vec<u8>,
     ledger: Vec<u8>,
-    block: Vec<u8>,
+    buffer: Vec<u8>,
 }
 
 impl Pair {
@@ -52,8 +54,8 @@ impl Pair {
         Pair {
             model: station.clone(),
             core: Core::holding(station, shift),
-            block: Vec::new(),
-            core_block: Guarded::holding(&[], shift),
+            buffer: Vec::new(),
+            core_buffer: Guarded::holding(&[], shift),
             case: None,
             shift,
             turn: 0,
@@ -72,8 +74,9 @@ impl Pair {
         &self.model
     }
 
-    pub fn block(&self) -> &[u8] {
-        &self.block
+    /// The fourth buffer as the last call left it.
+    pub fn buffer(&self) -> &[u8] {
+        &self.buffer
     }
 
     pub fn into_station(self) -> Station {
@@ -110,22 +113,22 @@ impl Pair {
         self.lend_ledger(&station.ledger);
     }
 
-    /// The call with a copy of the block on either side. A difference ends the
-    /// test with all that is needed to see it again.
-    pub fn call(&mut self, call: Call, block: &[u8]) -> Answer {
+    /// The call with a copy of the fourth buffer on either side. A difference
+    /// ends the test with all that is needed to see it again.
+    pub fn call(&mut self, call: Call, buffer: &[u8]) -> Answer {
         let before = Before {
             kinds: self.model.kinds.clone(),
             ledger: self.model.ledger.clone(),
-            block: block.to_vec(),
+            buffer: buffer.to_vec(),
         };
-        self.lend_block(block);
+        self.lend_buffer(buffer);
         let Station {
             image,
             kinds,
             ledger,
         } = &mut self.model;
-        let expected = perform(image, kinds, ledger, &mut self.block, call);
-        let answer = self.core.perform(call, &mut self.core_block);
+        let expected = perform(image, kinds, ledger, &mut self.buffer, call);
+        let answer = self.core.perform(call, &mut self.core_buffer);
         if let Some(difference) = self.difference(expected, answer) {
             panic!("{}", self.report(call, &before, &difference));
         }
@@ -134,13 +137,13 @@ impl Pair {
         expected
     }
 
-    fn lend_block(&mut self, block: &[u8]) {
-        self.block.clear();
-        self.block.extend_from_slice(block);
-        if self.core_block.len() == block.len() {
-            self.core_block.copy_from_slice(block);
+    fn lend_buffer(&mut self, buffer: &[u8]) {
+        self.buffer.clear();
+        self.buffer.extend_from_slice(buffer);
+        if self.core_buffer.len() == buffer.len() {
+            self.core_buffer.copy_from_slice(buffer);
         } else {
-            self.core_block = Guarded::holding(block, self.shift / 7);
+            self.core_buffer = Guarded::holding(buffer, self.shift / 7);
         }
     }
 
@@ -150,12 +153,12 @@ impl Pair {
             return Some(format!("the model answers {expected:?}, the core {core:?}"));
         }
         let (model, core) = (&self.model, &self.core);
-        let struck = core.struck(&self.core_block);
+        let struck = core.struck(&self.core_buffer);
         struck
             .map(|place| format!("the core wrote outside: {place}"))
             .or_else(|| first_difference("ledger", 0, &model.ledger, &core.ledger))
             .or_else(|| first_difference("kinds", 0, &model.kinds, &core.kinds))
-            .or_else(|| first_difference("block", 0, &self.block, &self.core_block))
+            .or_else(|| first_difference("fourth buffer", 0, &self.buffer, &self.core_buffer))
             .or_else(|| self.image_difference())
     }
 
@@ -192,14 +195,14 @@ impl Pair {
         }
         let _ = write!(
             text,
-            "\nlent: image {}, kinds {}, ledger {}, block {} bytes\nkinds {}\nledger {}\nblock {}",
+            "\nlent: image {}, kinds {}, ledger {}, fourth {} bytes\nkinds {}\nledger {}\nfourth {}",
             self.model.image.len(),
             before.kinds.len(),
             before.ledger.len(),
-            before.block.len(),
+            before.buffer.len(),
             hex(&before.kinds),
             hex(&before.ledger),
-            hex(&before.block),
+            hex(&before.buffer),
         );
         text
     }

@@ -4,11 +4,13 @@
 use station_model::answer::Answer;
 use station_model::calls::{effect, Call, Effect, Lent};
 use station_model::disc::{fail_power, Disc};
+use station_model::fields::u32_at;
 use station_model::ledger::{Volume, LEDGER};
 use station_model::table::SECTOR;
 
 use super::core::Core;
 use super::pair::Pair;
+use super::stamps::{Told, ANSWER};
 
 #[derive(Clone, PartialEq)]
 pub struct Station {
@@ -57,21 +59,37 @@ impl Station {
         self.image[block as usize * SECTOR..][..SECTOR].copy_from_slice(bytes);
     }
 
-    /// A call that is lent no block.
+    /// A call that is lent no fourth buffer.
     pub fn call(&mut self, call: Call) -> Answer {
         self.call_lent(call, &mut [])
     }
 
-    pub fn call_lent(&mut self, call: Call, block: &mut [u8]) -> Answer {
+    pub fn call_lent(&mut self, call: Call, buffer: &mut [u8]) -> Answer {
         let mut pair = Pair::holding(self);
-        let answer = pair.call(call, block);
-        block.copy_from_slice(pair.block());
+        let answer = pair.call(call, buffer);
+        buffer.copy_from_slice(pair.buffer());
         *self = pair.into_station();
         answer
     }
 
     pub fn write(&mut self, v: u32, block: &[u8]) -> Answer {
         self.call_lent(Call::Write(v), &mut block.to_vec())
+    }
+
+    pub fn commit_at(&mut self, stamp: &[u8]) -> Answer {
+        self.call_lent(Call::CommitAt, &mut stamp.to_vec())
+    }
+
+    /// What is told of the save k back; a refusal leaves the lent answer as it was.
+    pub fn time_of(&mut self, k: u32) -> Told {
+        let mut answer = ANSWER;
+        let numbers = self.call_lent(Call::TimeOf(k), &mut answer);
+        assert_eq!(numbers.second, 0);
+        if numbers.is_done() {
+            return Ok((u32_at(&answer, 0) as i32, u32_at(&answer, 4)));
+        }
+        assert_eq!(answer, ANSWER);
+        Err(numbers.outcome)
     }
 
     /// A read into a block of the given byte.
@@ -82,24 +100,24 @@ impl Station {
     }
 
     /// What the call would do, if it is not refused.
-    pub fn effect(&self, call: Call, block: &[u8]) -> Option<Effect> {
+    pub fn effect(&self, call: Call, buffer: &[u8]) -> Option<Effect> {
         let lent = Lent {
             image: &self.image,
             kinds: &self.kinds,
             ledger: &self.ledger,
-            block,
+            buffer,
         };
         effect(&lent, call).ok()
     }
 
     /// The call cut after j sectors, of those that the core records and of those
     /// that the model does; the discs left are compared, and the ledger is lost.
-    pub fn cut(&mut self, call: Call, block: &[u8], j: usize, torn: Option<&[u8; SECTOR]>) {
+    pub fn cut(&mut self, call: Call, buffer: &[u8], j: usize, torn: Option<&[u8; SECTOR]>) {
         let mut core = Core::holding(self, 0);
         let mut whole = core.clone();
-        whole.call_lent(call, &mut block.to_vec());
+        whole.call_lent(call, &mut buffer.to_vec());
         core.cut(&whole, j, torn);
-        let sectors = self.effect(call, block).map_or(Vec::new(), |e| e.sectors);
+        let sectors = self.effect(call, buffer).map_or(Vec::new(), |e| e.sectors);
         fail_power(&mut self.image, &mut self.kinds, &sectors, j, torn);
         let same = core.image[..] == self.image && core.kinds[..] == self.kinds;
         assert!(same, "core and model differ, {call:?} cut after {j}");

@@ -6,14 +6,32 @@ use station_model::answer::Answer;
 use station_model::book::History;
 use station_model::calls::Call;
 
+/// The calls, in the order of their columns.
+const NAMES: [&str; 10] = [
+    "begin",
+    "mount",
+    "write",
+    "release",
+    "close",
+    "commit",
+    "commit at",
+    "read",
+    "look",
+    "time of",
+];
+const CALLS: usize = NAMES.len();
+
+/// Done, and refusals 1 to 16.
+const OUTCOMES: usize = 17;
+
 #[derive(Default)]
 pub struct Tally {
     pub lists: usize,
     started_by_mount: usize,
     most_pages: usize,
-    done: [usize; 8],
-    cut: [usize; 8],
-    refused: [usize; 16],
+    done: [usize; CALLS],
+    cut: [usize; CALLS],
+    refused: [usize; OUTCOMES],
     cut_after: [usize; 9],
     /// Cuts tried beside the lists.
     pub beside: usize,
@@ -53,7 +71,7 @@ impl Tally {
     /// list's discs are sound (3), and a draft at the limit is rare (13).
     pub fn covers_all(&self) -> bool {
         let met = |count: &usize| *count > 0;
-        let refusals = (1..16).filter(|refusal| ![3, 13].contains(refusal));
+        let refusals = (1..OUTCOMES).filter(|refusal| ![3, 13].contains(refusal));
         self.done.iter().all(met)
             && self.cut.iter().all(met)
             && self.cut_after.iter().all(met)
@@ -69,12 +87,9 @@ impl fmt::Display for Tally {
         writeln!(out, "{} lists, {mounted} started by mount", self.lists)?;
         writeln!(out, "{} pages in the longest book", self.most_pages)?;
         writeln!(out, "{} calls may not follow a cut", self.skipped)?;
-        writeln!(
-            out,
-            "begin, mount, write, release, close, commit, read, look"
-        )?;
+        writeln!(out, "{}", NAMES.join(", "))?;
         writeln!(out, "  done {:?}, cut {:?}", self.done, self.cut)?;
-        writeln!(out, "refusals 1 to 15: {:?}", &self.refused[1..])?;
+        writeln!(out, "refusals 1 to 16: {:?}", &self.refused[1..])?;
         write!(out, "cut after 0 to 8 sectors: {:?}", self.cut_after)
     }
 }
@@ -87,25 +102,29 @@ fn column(call: Call) -> usize {
         Call::Release(_) => 3,
         Call::ClosePacket => 4,
         Call::Commit => 5,
-        Call::Read(_) => 6,
-        Call::LookBack(_) => 7,
+        Call::CommitAt => 6,
+        Call::Read(_) => 7,
+        Call::LookBack(_) => 8,
+        Call::TimeOf(_) => 9,
     }
 }
 
 /// How often each call answered each outcome.
 #[derive(Clone, Default)]
-pub struct Outcomes([[usize; 16]; 8]);
+pub struct Outcomes([[usize; OUTCOMES]; CALLS]);
 
-/// The refusals of each call, as document 01 has them.
-const POSSIBLE: [&[usize]; 8] = [
+/// The outcomes of each call, as documents 01 and 02 have them.
+const POSSIBLE: [&[usize]; CALLS] = [
     &[0, 1, 2, 3, 6],
     &[0, 1, 2, 3, 7],
     &[0, 1, 2, 3, 4, 5, 12, 13, 14, 15],
     &[0, 1, 2, 3, 4, 5, 10],
     &[0, 1, 2, 3, 4, 5],
     &[0, 1, 2, 3, 4, 5, 14],
+    &[0, 1, 2, 3, 4, 5, 14, 16],
     &[0, 1, 2, 3, 4, 10, 11],
     &[0, 1, 2, 3, 7, 8, 9],
+    &[0, 1, 2, 3, 7, 8, 9, 16],
 ];
 
 impl Outcomes {
@@ -130,7 +149,7 @@ impl Outcomes {
     pub fn cover(&self, aimed_at: &[usize], least: usize) -> bool {
         let mut rows = self.0.iter().zip(POSSIBLE);
         rows.all(|(row, possible)| {
-            (0..16).all(|outcome| match possible.contains(&outcome) {
+            (0..OUTCOMES).all(|outcome| match possible.contains(&outcome) {
                 true => row[outcome] >= least || !aimed_at.contains(&outcome),
                 false => row[outcome] == 0,
             })
@@ -140,12 +159,9 @@ impl Outcomes {
 
 impl fmt::Display for Outcomes {
     fn fmt(&self, out: &mut fmt::Formatter) -> fmt::Result {
-        let names = [
-            "begin", "mount", "write", "release", "close", "commit", "read", "look",
-        ];
-        writeln!(out, "{} calls compared; outcomes 0 to 15:", self.calls())?;
-        for (name, row) in names.iter().zip(&self.0) {
-            writeln!(out, "{name:>8} {row:?}")?;
+        writeln!(out, "{} calls compared; outcomes 0 to 16:", self.calls())?;
+        for (name, row) in NAMES.iter().zip(&self.0) {
+            writeln!(out, "{name:>9} {row:?}")?;
         }
         Ok(())
     }

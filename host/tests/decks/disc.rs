@@ -2,7 +2,7 @@
 //! what stands in front of them (recognition, volume descriptors, anchor) is
 //! kept only to hand the whole to another reader.
 
-use station::{Refusal, LEDGER, SECTOR};
+use station::{Refusal, SaveTime, Timestamp, LEDGER, SECTOR};
 
 use super::descriptors::{partition, u32_at, NONE};
 
@@ -133,6 +133,25 @@ impl Disc {
             Ok(block) => block as usize,
             Err(refusal) => panic!("commit is refused: {}", refusal.number()),
         }
+    }
+
+    /// The same with a timestamp.
+    pub fn commit_at(&mut self, stamp: Timestamp) -> usize {
+        let Disc {
+            image,
+            kinds,
+            ledger,
+            ..
+        } = self;
+        match station::commit_at(image, kinds, ledger, &stamp.to_bytes()) {
+            Ok(block) => block as usize,
+            Err(refusal) => panic!("commit at is refused: {}", refusal.number()),
+        }
+    }
+
+    /// When the save k back was made.
+    pub fn time_of(&self, k: u32) -> Result<SaveTime, Refusal> {
+        station::time_of(&self.image, &self.kinds, &self.ledger, k)
     }
 
     pub fn release(&mut self, v: u32) {

@@ -2,7 +2,7 @@
 //! tells where it found the table, and the name of the file set, which it reads
 //! through the table: so it shows both the table's place and its entries.
 
-use station::SECTOR;
+use station::{Timestamp, SECTOR};
 
 use super::descriptors::{entries, name_file_set, renamed_file_set};
 use super::disc::Disc;
@@ -63,24 +63,31 @@ fn udfinfo_finds_our_first_table() {
     }
 }
 
-/// A disc mounted by the writer's own table, behind its attributes, and saved on:
-/// udfinfo shows the new save, and look back shows the writer's.
+/// A disc mounted by the writer's own table, behind its attributes, and saved on
+/// with a timestamp: udfinfo shows the new save, look back shows the writer's, and
+/// each save tells its own time.
 #[test]
 fn a_mounted_disc_of_the_writer_is_continued() {
     for recipe in EDITION_150 {
         let mut disc = taken_over(&written_by_mkudffs(recipe));
         let writers = writers_vat(&disc);
         let map = disc.map();
+        let writers_time = disc.time_of(0);
         let renamed = renamed_file_set(disc.sector(map[0] as usize), "ours", 0);
         let block = disc.write(0, &renamed);
-        let table = disc.commit();
+        let table = disc.commit_at(Timestamp::midnight(1970, 1, 2));
         assert_eq!((block, table), (writers + 8, writers + 9), "{recipe:?}");
         let report = assert_both_find(&disc, table);
         report.expect("fsid", "ours");
         report.expect_no_complaint();
+        let ours = disc.time_of(0).expect("our time");
+        assert_eq!((ours.minutes, ours.zone_given), (1440, true));
+        assert!(writers_time.is_ok(), "{recipe:?}");
+        assert_eq!(disc.time_of(1), writers_time, "{recipe:?}");
         assert_eq!(disc.look_back(1), Ok(writers), "{recipe:?}");
         assert_eq!(disc.map(), map, "{recipe:?}");
         assert_eq!(outcome(disc.look_back(2)), 9, "{recipe:?}");
+        assert_eq!(outcome(disc.time_of(2)), 9, "{recipe:?}");
     }
 }
 

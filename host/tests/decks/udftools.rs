@@ -48,8 +48,13 @@ pub struct Recipe(
 );
 
 /// The bytes that `mkudffs` records: everything up to the last sector that it
-/// writes, its VAT ICB.
+/// writes, its VAT ICB. Its clock shows UTC.
 pub fn written_by_mkudffs(recipe: Recipe) -> Vec<u8> {
+    written_in_zone(recipe, "UTC0")
+}
+
+/// The same on a machine in another time zone, as the variable TZ names it.
+pub fn written_in_zone(recipe: Recipe, zone: &str) -> Vec<u8> {
     let Recipe(medium, revision, blocks, options) = recipe;
     let folder = Folder::new();
     let file = folder.0.join("disc.img");
@@ -59,7 +64,7 @@ pub fn written_by_mkudffs(recipe: Recipe) -> Vec<u8> {
     command.arg(format!("--media-type={medium}"));
     command.arg(format!("--udfrev={revision}"));
     command.args(options).arg(&file).arg(blocks.to_string());
-    let output = run(&mut command);
+    let output = run(command.env("TZ", zone));
     let told = told(&output);
     assert!(
         output.status.success(),

@@ -2,15 +2,16 @@
 //! it finds on them, and what keeps it from taking another edition's for one.
 
 use std::fmt::Debug;
+use std::time::{SystemTime, UNIX_EPOCH};
 
-use station::SECTOR;
+use station::{Timestamp, SECTOR};
 use station_model::table::recognise;
 
 use super::descriptors::{
     attributes, entries, put, rows_not_kept, seal, seal_over, u16_at, with_attributes, NONE,
 };
 use super::disc::Disc;
-use super::udftools::{written_by_mkudffs, Recipe};
+use super::udftools::{written_by_mkudffs, written_in_zone, Recipe};
 use super::{
     assert_both_find, outcome, writers_vat, EDITION_150, EDITION_150_FULL, EDITION_200,
     EDITION_200_PLAIN,
@@ -21,6 +22,7 @@ use super::{
 fn assert_no_table(disc: &mut Disc, case: impl Debug) {
     assert_eq!(outcome(disc.mount()), 7, "mount, {case:?}");
     assert_eq!(outcome(disc.look_back(0)), 7, "look back, {case:?}");
+    assert_eq!(outcome(disc.time_of(0)), 7, "time of, {case:?}");
     assert_eq!(outcome(disc.begin()), 0, "begin, {case:?}");
     assert_eq!(disc.map(), [], "map after begin, {case:?}");
     assert_eq!(disc.last_vat(), None, "last table after begin, {case:?}");
@@ -99,6 +101,55 @@ fn assert_writers_map(disc: &Disc, icb: &[u8], recipe: Recipe) {
         let shown = disc.read(v as u32).expect("a number in use");
         assert!(shown == disc.sector(*block as usize), "{v}, {recipe:?}");
     }
+}
+
+/// Time zones as TZ names them, and the minutes that their clocks are ahead of
+/// UTC. They have no daylight saving time: where a zone has one, mkudffs 2.3 writes
+/// that zone all year, also beside a clock without it.
+const ZONES: [(&str, i16); 8] = [
+    ("UTC0", 0),
+    ("XXX-1", 60),
+    ("XXX-5:45", 345),
+    ("XXX-14", 840),
+    ("XXX-24", 1440),
+    ("XXX3:30", -210),
+    ("XXX12", -720),
+    ("XXX24", -1440),
+];
+
+/// The machine's clock: whole minutes from 1 January 1970 UTC.
+fn minutes_now() -> i32 {
+    let since = SystemTime::now().duration_since(UNIX_EPOCH);
+    (since.expect("a clock after 1970").as_secs() / 60) as i32
+}
+
+/// The writer records when it made the disc, by the clock of its own zone; what is
+/// told of it is the minute in which it ran, and the time in its table is that of
+/// its zone.
+#[test]
+fn the_writers_table_tells_when_it_was_made() {
+    let plain = EDITION_150.into_iter().chain(EDITION_150_FULL);
+    let in_utc = plain.map(|recipe| (recipe, ZONES[0]));
+    for (recipe, (name, zone)) in in_utc.chain(ZONES.map(|zone| (EDITION_150[1], zone))) {
+        let before = minutes_now();
+        let disc = Disc::of_volume(&written_in_zone(recipe, name));
+        let after = minutes_now();
+        let told = disc.time_of(0).expect("a time that keeps the limits");
+        assert!(told.zone_given, "{name}, {recipe:?}");
+        let made = before..=after;
+        assert!(made.contains(&told.minutes), "{told:?}, {name}, {recipe:?}");
+        let modified = modified(disc.sector(writers_vat(&disc)));
+        assert_eq!(modified.zone, Some(zone), "{name}, {recipe:?}");
+        let of_the_day = 60 * i32::from(modified.hour) + i32::from(modified.minute);
+        let local = (told.minutes + i32::from(zone)).rem_euclid(24 * 60);
+        assert_eq!(of_the_day, local, "{name}, {recipe:?}");
+    }
+}
+
+/// The modification time of a file entry (ECMA-167 4/14.9.13: byte 84).
+fn modified(icb: &[u8]) -> Timestamp {
+    let bytes = icb[84..].first_chunk();
+    Timestamp::from_bytes(*bytes.expect("a whole file entry"))
 }
 
 /// From UDF 2.00 on the table is of another edition: tag identifier 266 with the

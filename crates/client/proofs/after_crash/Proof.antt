@@ -25,10 +25,10 @@ returns c =
     let h = c .before .before .before .before in
     let s = start-of h in
     let y : Day = morning (s .args .image .now) (s .args .kinds .now) (s .args .ledger .now) in (
-      λ x fresh old new ok stopped long whole.
-          given (storing-reads x fresh ok (s .args .v) old new y (s .args .out .now) (omega arith) long whole stopped) (h .show .ensures .0) (h .show .ensures .1),
-      λ x fresh old new call j ok stopped long whole.
-          given (marking-reads x fresh ok (s .args .v) old new y (s .args .out .now) (omega arith) long whole call j stopped) (h .show .ensures .0) (h .show .ensures .1),
+      λ x fresh stamp old new ok stopped long whole.
+          given (storing-reads x fresh ok (s .args .v) stamp old new y (s .args .out .now) (omega arith) long whole stopped) (h .show .ensures .0) (h .show .ensures .1),
+      λ x fresh stamp old new call j ok stopped long whole.
+          given (marking-reads x fresh ok (s .args .v) stamp old new y (s .args .out .now) (omega arith) long whole call j stopped) (h .show .ensures .0) (h .show .ensures .1),
     )
 
 pub after-crash-spec : {M : Type 1} → statement M

@@ -1,6 +1,7 @@
 -- `client::forget` meets its contract: a mount, a release, and a commit.
 -- Assumes nothing.
 use mathlib.Core.Path.{_≡_, _∙_}
+use mathlib.Core.Option.{none}
 use mathlib.Core.List.{List, [], _∷_}
 use Rattle.recorder.specs.Calls.{Call, mount, release, commit}
 use Rattle.client.specs.Day.{Day, ended, morning, day}
@@ -67,7 +68,7 @@ returns : tie.Need-returns
 returns c =
     let o = first-call (c .before) in
     let s = start-of o in
-    stops (X s) (first-part s) (release (s .args .v) ∷ commit ∷ []) (begun o) (c .if1 .taken)
+    stops (X s) (first-part s) (release (s .args .v) ∷ commit none ∷ []) (begun o) (c .if1 .taken)
 
 station-release-requires : tie.Need-station-release-requires
 station-release-requires c κs = search needs
@@ -85,7 +86,7 @@ returns-2 : tie.Need-returns-2
 returns-2 c =
     let b = second-call (c .before) in
     let s = start-back b in
-    stops (X s) (second-part s) (commit ∷ []) (followed b) (c .if2 .taken)
+    stops (X s) (second-part s) (commit none ∷ []) (followed b) (c .if2 .taken)
 
 station-commit-requires : tie.Need-station-commit-requires
 station-commit-requires c κs = search needs
@@ -106,7 +107,7 @@ returns-3 c =
     let b = second-call (e .before) in
     let o = first-call (first-test b .before) in
     let s = start-of o in
-    one (start-of o .args .image .now) (start-of o .args .kinds .now) (b .station-release .last .1 .1 .0) commit (l .station-commit .ensures) ∙ goes-on (X s) (second-part s) [] (followed b) commit (e .if2 .left)
+    one (start-of o .args .image .now) (start-of o .args .kinds .now) (b .station-release .last .1 .1 .0) (commit none) (l .station-commit .ensures) ∙ goes-on (X s) (second-part s) [] (followed b) (commit none) (e .if2 .left)
 
 pub forget-spec : {M : Type 1} → statement M
 forget-spec =

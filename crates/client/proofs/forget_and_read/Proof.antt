@@ -1,6 +1,7 @@
 -- `client::forget_and_read` meets its contract: a release that is saved, then the newest save is shown.
 -- Assumes nothing.
 use mathlib.Core.Path.{sym, ap, _∙_}
+use mathlib.Core.Option.{none}
 use mathlib.Core.List.{List, [], _∷_}
 use native.Mathlib.Omega.{arith}
 use Rattle.recorder.specs.Calls.{Call, mount, release, commit, read}
@@ -30,7 +31,7 @@ abbrev last-call : tie.After-slice-known9 → tie.After-show
 last-call c = c .before .before .before .before
 
 abbrev first-part : tie.Start → List Call
-first-part s = mount ∷ release (s .args .v) ∷ commit ∷ []
+first-part s = mount ∷ release (s .args .v) ∷ commit none ∷ []
 
 forget-requires : tie.Need-forget-requires
 forget-requires c κs = search needs
@@ -77,7 +78,7 @@ returns-2 c =
       l .show .ensures .0 ∙ goes-on (X s) (first-part s) (read (s .args .v) (s .args .out .now) ∷ []) (o .forget .ensures) mount (e .if1 .left),
       λ a long.
           given (released-reads (X s) (omega arith) (s .args .v) a y (s .args .out .now)
-          (record { ok = omega arith; there = ap (λ (d : Day). d .disc) (sym (o .forget .ensures)); ledger-long = o .forget .kept .1 .1 .0 ∙ first-long (X s) mount (release (s .args .v) ∷ commit ∷ []) (omega arith) a; block-long = long }))
+          (record { ok = omega arith; there = ap (λ (d : Day). d .disc) (sym (o .forget .ensures)); ledger-long = o .forget .kept .1 .1 .0 ∙ first-long (X s) mount (release (s .args .v) ∷ commit none ∷ []) (omega arith) a; block-long = long }))
           (l .show .ensures .0) (l .show .ensures .1),
     )
 

@@ -1,6 +1,7 @@
 -- `client::save` meets its contract: a write, then a commit.
 -- Assumes nothing.
 use mathlib.Core.Path.{_≡_, _∙_}
+use mathlib.Core.Option.{none}
 use mathlib.Core.List.{List, [], _∷_}
 use Rattle.recorder.specs.Calls.{Call, write, commit}
 use Rattle.client.specs.Day.{Day, ended, morning, day, opening}
@@ -49,7 +50,7 @@ returns : tie.Need-returns
 returns c =
     let o = tested (c .before) in
     let s = start-of o in
-    stops (X s) (first-part s) (commit ∷ []) (begun o) (c .if1 .taken)
+    stops (X s) (first-part s) (commit none ∷ []) (begun o) (c .if1 .taken)
 
 station-commit-requires : tie.Need-station-commit-requires
 station-commit-requires c κs = search needs
@@ -69,7 +70,7 @@ returns-2 c =
     let e = test-of l in
     let o = tested (e .before) in
     let s = start-of o in
-    one (o .write-first .last .0) (o .write-first .last .1 .0) (o .write-first .last .1 .1 .0) (commit) (l .station-commit .ensures) ∙ goes-on (X s) (first-part s) [] (begun o) (commit) (e .if1 .left)
+    one (o .write-first .last .0) (o .write-first .last .1 .0) (o .write-first .last .1 .1 .0) (commit none) (l .station-commit .ensures) ∙ goes-on (X s) (first-part s) [] (begun o) (commit none) (e .if1 .left)
 
 pub save-spec : {M : Type 1} → statement M
 save-spec =

@@ -1,6 +1,7 @@
 -- `client::save_and_mount` meets its contract: a save, then a mount.
 -- Assumes nothing.
 use mathlib.Core.Path.{_≡_, _∙_}
+use mathlib.Core.Option.{none}
 use mathlib.Core.List.{List, [], _∷_}
 use native.Mathlib.Omega.{arith}
 use Rattle.recorder.specs.Calls.{Call, mount, write, commit}
@@ -30,7 +31,7 @@ last-call c = c .before .before
 
 -- the first part of the day
 abbrev first-part : tie.Start → List Call
-first-part s = opening (s .args .fresh) ∷ write (s .args .v) (s .args .block .now) ∷ commit ∷ []
+first-part s = opening (s .args .fresh) ∷ write (s .args .v) (s .args .block .now) ∷ commit none ∷ []
 
 begun : (c : tie.After-save) → ended (c .save .result) (c .save .last .0) (c .save .last .1 .0) (c .save .last .1 .1 .0) ≡ day (X (start-of c)) (first-part (start-of c))
 begun c = c .save .ensures

@@ -1,6 +1,7 @@
 -- `client::save_and_read` meets its contract: a save and a mount, then a read.
 -- Assumes nothing.
 use mathlib.Core.Path.{_≡_, ap, _∙_}
+use mathlib.Core.Option.{none}
 use mathlib.Core.List.{List, [], _∷_}
 use native.Mathlib.Omega.{arith}
 use Rattle.recorder.specs.Calls.{Call, mount, write, commit, read}
@@ -18,7 +19,7 @@ abbrev X : tie.Start → Day
 X s = morning (s .args .image .now) (s .args .kinds .now) (s .args .ledger .now)
 
 abbrev saved : tie.Start → List Call
-saved s = opening (s .args .fresh) ∷ write (s .args .v) (s .args .block .now) ∷ commit ∷ []
+saved s = opening (s .args .fresh) ∷ write (s .args .v) (s .args .block .now) ∷ commit none ∷ []
 
 -- the places: the call that the test is about, the test, the last call
 abbrev start-of : tie.After-save-and-mount → tie.Start
@@ -35,7 +36,7 @@ last-call c = c .before .before
 
 -- the first part of the day
 abbrev first-part : tie.Start → List Call
-first-part s = opening (s .args .fresh) ∷ write (s .args .v) (s .args .block .now) ∷ commit ∷ mount ∷ []
+first-part s = opening (s .args .fresh) ∷ write (s .args .v) (s .args .block .now) ∷ commit none ∷ mount ∷ []
 
 begun : (c : tie.After-save-and-mount) → ended (c .save-and-mount .result) (c .save-and-mount .last .0) (c .save-and-mount .last .1 .0) (c .save-and-mount .last .1 .1 .0) ≡ day (X (start-of c)) (first-part (start-of c))
 begun c = c .save-and-mount .ensures .0
@@ -83,7 +84,7 @@ returns-2 c =
     let s = start-of o in
     let both = one (o .save-and-mount .last .0) (o .save-and-mount .last .1 .0) (o .save-and-mount .last .1 .1 .0) (read (s .args .v) (s .args .out .now)) (l .station-read .ensures) ∙ goes-on (X s) (first-part s) [] (begun o) (read (s .args .v) (s .args .out .now)) (e .if1 .left) in (
       both,
-      λ a long. given-behind (X s) (saved s) (saved-reads (X s) (s .args .fresh) (omega arith) (s .args .v) (s .args .block .now) a (s .args .out .now) long) both (begun o) (ap (λ (y : After). y .block) (l .station-read .ensures)),
+      λ a long. given-behind (X s) (saved s) (saved-reads (X s) (s .args .fresh) (omega arith) (s .args .v) (s .args .block .now) a (s .args .out .now) long) both (begun o) (ap (λ (y : After). y .buffer) (l .station-read .ensures)),
     )
 
 pub save-and-read-spec : {M : Type 1} → statement M

@@ -1,6 +1,7 @@
 -- `client::save_apart` meets its contract: a write, a packet closed, and a commit.
 -- Assumes nothing.
 use mathlib.Core.Path.{_≡_, _∙_}
+use mathlib.Core.Option.{none}
 use mathlib.Core.List.{List, [], _∷_}
 use Rattle.recorder.specs.Calls.{Call, write, closePacket, commit}
 use Rattle.client.specs.Day.{Day, ended, morning, day}
@@ -67,7 +68,7 @@ returns : tie.Need-returns
 returns c =
     let o = first-call (c .before) in
     let s = start-of o in
-    stops (X s) (first-part s) (closePacket ∷ commit ∷ []) (begun o) (c .if1 .taken)
+    stops (X s) (first-part s) (closePacket ∷ commit none ∷ []) (begun o) (c .if1 .taken)
 
 station-close-packet-requires : tie.Need-station-close-packet-requires
 station-close-packet-requires c κs = search needs
@@ -85,7 +86,7 @@ returns-2 : tie.Need-returns-2
 returns-2 c =
     let b = second-call (c .before) in
     let s = start-back b in
-    stops (X s) (second-part s) (commit ∷ []) (followed b) (c .if2 .taken)
+    stops (X s) (second-part s) (commit none ∷ []) (followed b) (c .if2 .taken)
 
 station-commit-requires : tie.Need-station-commit-requires
 station-commit-requires c κs = search needs
@@ -106,7 +107,7 @@ returns-3 c =
     let b = second-call (e .before) in
     let o = first-call (first-test b .before) in
     let s = start-of o in
-    one (o .station-write .last .0) (o .station-write .last .1 .0) (b .station-close-packet .last .1 .1 .0) commit (l .station-commit .ensures) ∙ goes-on (X s) (second-part s) [] (followed b) commit (e .if2 .left)
+    one (o .station-write .last .0) (o .station-write .last .1 .0) (b .station-close-packet .last .1 .1 .0) (commit none) (l .station-commit .ensures) ∙ goes-on (X s) (second-part s) [] (followed b) (commit none) (e .if2 .left)
 
 pub save-apart-spec : {M : Type 1} → statement M
 save-apart-spec =

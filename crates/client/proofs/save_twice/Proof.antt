@@ -2,6 +2,7 @@
 -- Assumes nothing.
 use Prim.Native.Nat.{ℕ}
 use mathlib.Core.Path.{_≡_, refl, sym, ap, _∙_}
+use mathlib.Core.Option.{none}
 use mathlib.Core.List.{List, [], _∷_, _++_}
 use native.Mathlib.Omega.{arith}
 use lib.ListN.{length}
@@ -52,10 +53,10 @@ second-of c = second-save (second-test c .before)
 
 -- the day up to each of them
 abbrev once : tie.Start → List Call
-once s = opening (s .args .fresh) ∷ write (s .args .v) (s .args .x .now) ∷ commit ∷ []
+once s = opening (s .args .fresh) ∷ write (s .args .v) (s .args .x .now) ∷ commit none ∷ []
 
 abbrev again : tie.Start → List Call
-again s = write (s .args .v) (s .args .y .now) ∷ closePacket ∷ commit ∷ []
+again s = write (s .args .v) (s .args .y .now) ∷ closePacket ∷ commit none ∷ []
 
 abbrev twice : tie.Start → List Call
 twice s = once s ++ again s
@@ -71,7 +72,7 @@ saved-again : (c : tie.After-save-apart)
 saved-again c =
     let o = first-of c in
     let s = start-of o in
-    c .save-apart .ensures ∙ goes-on (X s) (once s) (closePacket ∷ commit ∷ []) (saved o) (write (s .args .v) (s .args .y .now)) (first-test c .if1 .left)
+    c .save-apart .ensures ∙ goes-on (X s) (once s) (closePacket ∷ commit none ∷ []) (saved o) (write (s .args .v) (s .args .y .now)) (first-test c .if1 .left)
 
 looked : (c : tie.After-show-back)
     → ended (c .show-back .result) (second-of c .save-apart .last .0) (second-of c .save-apart .last .1 .0) (c .show-back .last .1 .1 .0) ≡ day (X (start-of (first-of (second-of c)))) (twice (start-of (first-of (second-of c))) ++ showing-old (start-of (first-of (second-of c))))
@@ -89,7 +90,7 @@ later c m out a same long =
     record {
       ok = omega arith;
       there = ap (λ (d : Day). d .disc) (sym (saved-again c));
-      ledger-long = same ∙ c .save-apart .kept .1 .1 .0 ∙ o .save .kept .1 .1 .0 ∙ first-long (X s) (opening (s .args .fresh)) (write (s .args .v) (s .args .x .now) ∷ commit ∷ again s) (omega arith) a;
+      ledger-long = same ∙ c .save-apart .kept .1 .1 .0 ∙ o .save .kept .1 .1 .0 ∙ first-long (X s) (opening (s .args .fresh)) (write (s .args .v) (s .args .x .now) ∷ commit none ∷ again s) (omega arith) a;
       block-long = long;
     }
 
@@ -100,7 +101,7 @@ older c a long =
     let s = start-of (first-of b) in
     let m : List ℕ = b .save-apart .last .1 .1 .0 in
     given
-    (long-ago-reads (X s) (s .args .fresh) (omega arith) (s .args .v) (s .args .x .now) (again s) a (morning (b .save-apart .last .0) (b .save-apart .last .1 .0) m) (s .args .old .now) (later b m (s .args .old .now) a refl long))
+    (long-ago-reads (X s) (s .args .fresh) (omega arith) (s .args .v) none (s .args .x .now) (again s) a (morning (b .save-apart .last .0) (b .save-apart .last .1 .0) m) (s .args .old .now) (later b m (s .args .old .now) a refl long))
     (c .show-back .ensures .0) (c .show-back .ensures .1)
 
 save-requires : tie.Need-save-requires

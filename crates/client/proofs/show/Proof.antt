@@ -65,7 +65,7 @@ returns-2 c =
     let s = start-of o in
     let both = one (s .args .image .now) (s .args .kinds .now) (o .station-mount .last .1 .1 .0) (read (s .args .v) (s .args .out .now)) (l .station-read .ensures) ∙ goes-on (X s) (first-part s) [] (begun o) (read (s .args .v) (s .args .out .now)) (e .if1 .left) in (
       both,
-      λ a. ap (λ (y : After). y .block) (l .station-read .ensures) ∙ ap (λ (y : Day). readAt y (s .args .v) (s .args .out .now)) (begun o),
+      λ a. ap (λ (y : After). y .buffer) (l .station-read .ensures) ∙ ap (λ (y : Day). readAt y (s .args .v) (s .args .out .now)) (begun o),
     )
 
 pub show-spec : {M : Type 1} → statement M

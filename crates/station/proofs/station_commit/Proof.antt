@@ -1,26 +1,14 @@
 -- `station::station_commit` meets its contract.
 -- Assumes nothing.
-use Prim.Native.Nat.{ℕ, _*_, _≤_, _<_}
-use native.Mathlib.Omega.{arith}
-use mathlib.Core.Path.{_≡_, sym, ap, ap₂, _∙_, subst}
+use Prim.Native.Nat.{ℕ}
+use mathlib.Core.Path.{_≡_, sym, ap, _∙_}
 use mathlib.Core.List.{List, []}
-use lib.ListN.{length}
-use Rattle.disc.specs.Disc.{Disc, lent, recorded}
-use Rattle.volume.specs.Volume.{ledgerLength, unpack, pack}
+use mathlib.Core.Option.{none}
+use Rattle.disc.specs.Disc.{Disc, lent}
+use Rattle.recorder.specs.Calls.{commit}
 use Rattle.recorder.specs.Refusals.{outcome}
 use Rattle.recorder.specs.Effects.{left}
-use lib.ListN.{set}
-use Rattle.vat.specs.Table.{sectorLength, limit}
-use Rattle.disc.specs.Disc.{stored}
-use Rattle.disc.proofs.Recording.{length-links, leading-le}
-use Rattle.volume.specs.declared.Volume.{Volume}
-use Rattle.volume.specs.Volume.{mapOf}
-use Rattle.recorder.specs.Refusals.{links, target}
-use Rattle.vat.specs.Sector.{sector}
-use Rattle.volume.specs.Volume.{committed}
-use Rattle.recorder.specs.Calls.{commit}
-use Rattle.recorder.proofs.Done.{ledger-accepted, CommitDone, commit-done}
-use Rattle.calls.proofs.Left.{same-left, refused-left, linkedKinds, commit-left}
+use Rattle.calls.proofs.Left.{same-left, refused-left, commit-saves, commit-left}
 use borrow.Author.Needs.{needs}
 use Rattle.station.proofs.station_commit.Statement.{statement}
 use Rattle.station.proofs.station_commit.Tie as tie
@@ -32,20 +20,11 @@ entered c = c .before .before .before .before .before .before .before
 abbrev start-of : tie.Else1 → tie.Start
 start-of c = entered (c .before)
 
-abbrev admitted : tie.After-record-links → tie.Else1
-admitted c = c .before .before .before
+abbrev admitted : tie.After-save → tie.Else1
+admitted c = c .before .before .before .before .before
 
-abbrev after-links : tie.After-load-arg → tie.After-record-links
-after-links c = c .before .before .before
-
-abbrev after-load : tie.After-record-table-arg2 → tie.After-load
-after-load c = c .before .before
-
-abbrev after-table : tie.After-slice-known6 → tie.After-record-table
-after-table c = c .before .before .before .before
-
-abbrev load-of : tie.After-slice-known6 → tie.After-load
-load-of c = after-load (after-table c .before)
+abbrev after-save : tie.After-slice-known6 → tie.After-save
+after-save c = c .before .before .before .before .before .before
 
 -- the disc and the ledger
 abbrev D : tie.Start → Disc
@@ -54,24 +33,8 @@ D s = lent (s .args .image .now) (s .args .kinds .now)
 abbrev L : tie.Start → List ℕ
 L s = s .args .ledger .now
 
-done : (c : tie.Else1) → let s = start-of c in outcome (D s) (L s) commit ≡ 0
+done : (c : tie.Else1) → let s = start-of c in outcome (D s) (L s) (commit none) ≡ 0
 done c = sym (c .before .commit .ensures) ∙ c .if1 .left
-
-told : (c : tie.Else1) → let s = start-of c in CommitDone (D s) (L s)
-told c = let s = start-of c in commit-done (D s) (L s) (done c)
-
--- the block that is taken lies on the disc
-within : (c : tie.Else1) → let s = start-of c in target (unpack (L s)) < length (D s .kinds)
-within c = omega (arith, told c .room, told c .fit .same-recorded, leading-le (D (start-of c) .kinds))
-
-accepted : (c : tie.Else1) → length (L (start-of c)) ≡ ledgerLength
-accepted c = let s = start-of c in ledger-accepted (D s) (L s) commit (done c)
-
--- links leave as many kinds
-linked : (c : tie.After-record-links) → length (c .record-links .last .0) ≡ length (D (start-of (admitted c)) .kinds)
-linked c =
-    let s = start-of (admitted c) in
-    ap length (c .record-links .ensures .1) ∙ length-links (links (unpack (L s))) (D s .kinds) (unpack (L s) .recorded)
 
 commit-requires : tie.Need-commit-requires
 commit-requires c κs = search needs
@@ -92,28 +55,13 @@ returns : tie.Need-returns
 returns c =
     let j = c .before .before in let s = entered j in
     ap (λ (a : ℕ). left a (D s .image) (D s .kinds) (L s) []) (c .refusal .ensures)
-    ∙ refused-left (D s) (L s) commit (j .commit .result) (j .commit .ensures) (c .before .if1 .taken)
+    ∙ refused-left (D s) (L s) (commit none) (j .commit .result) (j .commit .ensures) (c .before .if1 .taken)
 
-record-links-requires : tie.Need-record-links-requires
-record-links-requires c κs = let e = c .before .before in (accepted e, omega (arith, within e), told e .sound-disc .few)
+slice-aggregate-save : tie.Need-slice-aggregate-save
+slice-aggregate-save c = search needs
 
-load-requires : tie.Need-load-requires
-load-requires c κs = accepted (admitted (after-links c))
-
-record-table-requires : tie.Need-record-table-requires
-record-table-requires c κs =
-    let m = after-load c in let r = after-links (m .before) in let e = admitted r in let s = start-of e in
-    let same : length (r .record-links .last .0) ≡ length (D s .kinds) = linked r in
-    let taken : r .record-links .result < length (r .record-links .last .0) = omega (arith, same, within e, r .record-links .ensures .0) in
-    (told e .sound-disc .whole ∙ ap (λ (n : ℕ). sectorLength * n) (sym same), taken, subst (λ (v : Volume). v .size ≤ limit) (sym (m .load .ensures)) (told e .fit .few))
-
-committed-requires : tie.Need-committed-requires
-committed-requires c κs =
-    let r = after-links (load-of c .before) in let e = admitted r in
-    omega (arith, r .record-links .ensures .0, within e, told e .sound-disc .few)
-
-store-requires : tie.Need-store-requires
-store-requires c κs = accepted (admitted (after-links (load-of (c .before .before) .before)))
+save-requires : tie.Need-save-requires
+save-requires c κs = let e = c .before .before .before .before in let s = start-of e in commit-saves (D s) (L s) none (done e)
 
 cast-result : tie.Need-cast-result
 cast-result c = search needs
@@ -129,20 +77,9 @@ same-length-6 c = search needs
 
 returns-2 : tie.Need-returns-2
 returns-2 c =
-    let t = c .before .before in let w = t .before .before in let p = after-table (w .before) in let m = after-load (p .before) in
-    let r = after-links (m .before) in let e = admitted r in let s = start-of e in
-    let l : List ℕ = L s in
-    let b : ℕ = r .record-links .result in
-    let v : Volume = unpack l in
-    let at : b ≡ target v = r .record-links .ensures .0 in
-    let state : m .load .result ≡ v = m .load .ensures in
-    let image : p .record-table .last .0 ≡ stored (D s .image) (sectorLength * target v) (sector (mapOf v) (v .last) (target v)) =
-    p .record-table .ensures .0 ∙ ap₂ (λ (u : Volume) (n : ℕ). stored (D s .image) (sectorLength * n) (sector (mapOf u) (u .last) n)) state at in
-    let kinds : p .record-table .last .1 .0 ≡ set (linkedKinds (D s) l) (target v) 1 =
-    p .record-table .ensures .1 ∙ ap₂ (λ (ks : List ℕ) (n : ℕ). set ks n 1) (r .record-links .ensures .1) at in
-    let ledger : t .store .last .1 .0 ≡ pack (committed (target v) v) =
-    t .store .ensures ∙ ap pack (w .committed .ensures ∙ ap₂ committed at state) in
-    same-left at image kinds ledger ∙ commit-left (D s) l (done e)
+    let v = after-save c in let e = admitted v in let s = start-of e in
+    let r = v .save .ensures in
+    same-left (r .0) (r .1) (r .2) (r .3) ∙ commit-left (D s) (L s) none (done e)
 
 pub station-commit-spec : {M : Type 1} → statement M
 station-commit-spec =
@@ -154,11 +91,8 @@ station-commit-spec =
     same-length-2
     same-length-3
     returns
-    record-links-requires
-    load-requires
-    record-table-requires
-    committed-requires
-    store-requires
+    slice-aggregate-save
+    save-requires
     cast-result
     same-length-4
     same-length-5

@@ -3,7 +3,7 @@
 /// The second number, or the first refusal, in the order of tests, that applies.
 pub type Answer = Result<u32, Refusal>;
 
-/// "Refusals, by who causes them": each with document 01's number.
+/// "Refusals, by who causes them": each with its number in the documents.
 #[derive(Clone, Copy)]
 pub enum Refusal {
     DiscSize = 1,
@@ -21,6 +21,7 @@ pub enum Refusal {
     AboveLimit = 13,
     NoRoom = 14,
     WouldBeVat = 15,
+    BadTimestamp = 16,
 }
 
 /// "the pair is one 64-bit number: outcome × 4,294,967,296 + second number";

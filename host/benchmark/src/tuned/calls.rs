@@ -1,11 +1,12 @@
-//! The eight calls, each with its refusals in the order of its tests.
+//! The ten calls, each with its refusals in the order of its tests.
 
 use super::answer::{refuse, Answer, Refusal};
 use super::disc::{Disc, DATA, LINK};
 use super::fields::u32_at;
-use super::ledger::{self, put_u32, Ledger};
+use super::ledger::{self, put_u32, Ledger, LEDGER};
 use super::ledger::{IDLE, LAST_VAT, MODE, PACKET_OPEN, READ_ONLY, RECORDED, SIZE};
 use super::table::{put_vat, recognise, Sector, LIMIT, NONE};
+use super::time::{told, Stamp, NO_STAMP, TIME};
 
 /// "Write needs links + 1 + 8 blank sectors": room kept for links and a commit.
 const RESERVE: usize = 8;
@@ -96,12 +97,35 @@ pub fn close_packet(image: &[u8], kinds: &[u8], ledger: &mut [u8]) -> Answer {
     Ok(0)
 }
 
-/// "records the table sector, which becomes the last table"; "commit [needs]
-/// links + 1" blank sectors; "previous = the ledger's last table".
+/// "records the table sector, which becomes the last table"
 pub fn commit(image: &mut [u8], kinds: &mut [u8], ledger: &mut [u8]) -> Answer {
     let disc = Disc::lent(image, kinds)?;
     let ledger = lent_ledger(ledger)?;
     let recorded = ledger::writable(ledger, &disc)?;
+    save(image, kinds, ledger, recorded, &NO_STAMP)
+}
+
+/// "A second form of commit takes a 12-byte ECMA-167 timestamp"; 16 "is tested
+/// after 5" (document 02).
+pub fn commit_at(image: &mut [u8], kinds: &mut [u8], ledger: &mut [u8], stamp: &[u8]) -> Answer {
+    let disc = Disc::lent(image, kinds)?;
+    let ledger = lent_ledger(ledger)?;
+    let stamp: &Stamp = stamp.try_into().map_err(|_| Refusal::LentLength)?;
+    let recorded = ledger::writable(ledger, &disc)?;
+    refuse(told(stamp).is_none(), Refusal::BadTimestamp)?;
+    save(image, kinds, ledger, recorded, stamp)
+}
+
+/// Either form of commit: "links + 1" blank sectors; "previous = the ledger's last
+/// table".
+#[inline(always)]
+fn save(
+    image: &mut [u8],
+    kinds: &mut [u8],
+    ledger: &mut Ledger,
+    recorded: usize,
+    stamp: &Stamp,
+) -> Answer {
     let links = ledger::links(ledger, recorded);
     let place = recorded + links;
     refuse(kinds.len() - recorded < links + 1, Refusal::NoRoom)?;
@@ -112,6 +136,7 @@ pub fn commit(image: &mut [u8], kinds: &mut [u8], ledger: &mut [u8]) -> Answer {
         place as u32,
         entries,
         previous,
+        stamp,
     );
     put_u32(ledger, LAST_VAT, place as u32);
     open_packet(ledger, place);
@@ -126,6 +151,20 @@ pub fn read(image: &[u8], kinds: &[u8], ledger: &[u8], v: u32, block: &mut [u8])
     ledger::fitting(ledger, &disc)?;
     let place = ledger::block_of(ledger, v).ok_or(Refusal::NotInUse)?;
     *block = *disc.data(place).ok_or(Refusal::Unreadable)?;
+    Ok(0)
+}
+
+/// "tells, for k saves back, the modification time" (document 02). The ledger's
+/// length is tested, and "The ledger is not read".
+pub fn time_of(image: &[u8], kinds: &[u8], ledger: &[u8], k: u32, answer: &mut [u8]) -> Answer {
+    let disc = Disc::lent(image, kinds)?;
+    refuse(ledger.len() != LEDGER, Refusal::LentLength)?;
+    let answer: &mut [u8; TIME] = answer.try_into().map_err(|_| Refusal::LentLength)?;
+    let recorded = disc.recorded()?;
+    let newest = disc.newest_vat(recorded).ok_or(Refusal::NoVat)?;
+    let found = disc.walk_back(newest, k)?;
+    let moment = told(&found.vat.modified()).ok_or(Refusal::BadTimestamp)?;
+    *answer = moment.to_bytes();
     Ok(0)
 }
 

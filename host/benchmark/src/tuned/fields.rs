@@ -2,7 +2,7 @@
 
 /// The bytes of a field; a place that is a constant costs no test.
 #[inline(always)]
-fn field<const N: usize>(bytes: &[u8], at: usize) -> [u8; N] {
+pub fn field<const N: usize>(bytes: &[u8], at: usize) -> [u8; N] {
     let mut field = [0; N];
     field.copy_from_slice(&bytes[at..at + N]);
     field

@@ -1,14 +1,15 @@
-//! A tuned version of document 01's eight calls, for the comparison alone.
+//! A tuned version of the documents' ten calls, for the comparison alone.
 //!
 //! Written to be fast in safe Rust for plain x86-64, with the same contract as
 //! the recording core: the 64-bit answer and every lent byte. No call allocates.
 //!
 //! - [`fields`]: little-endian fields;
 //! - [`crc`]: the sum, sixteen bytes at a time;
+//! - [`time`]: timestamps, their limits, and the minutes that they tell;
 //! - [`table`]: the table sector at block b, recognised and made;
 //! - [`disc`]: one pass over the kinds, the newest table, the walk back;
 //! - [`ledger`]: the volume's working state, and when it fits the disc;
-//! - [`calls`]: the eight calls; [`answer`]: their two numbers.
+//! - [`calls`]: the ten calls; [`answer`]: their two numbers.
 
 #![forbid(unsafe_code)]
 
@@ -19,12 +20,14 @@ mod disc;
 mod fields;
 mod ledger;
 mod table;
+mod time;
 
 use answer::packed;
 
 pub use crc::{crc, CRC_FORM};
 pub use ledger::LEDGER;
 pub use table::{put_vat, Sector, LIMIT, NONE, SECTOR};
+pub use time::{Stamp, TIME};
 
 pub fn begin(image: &[u8], kinds: &[u8], ledger: &mut [u8]) -> u64 {
     packed(calls::begin(image, kinds, ledger))
@@ -50,10 +53,18 @@ pub fn commit(image: &mut [u8], kinds: &mut [u8], ledger: &mut [u8]) -> u64 {
     packed(calls::commit(image, kinds, ledger))
 }
 
+pub fn commit_at(image: &mut [u8], kinds: &mut [u8], ledger: &mut [u8], stamp: &[u8]) -> u64 {
+    packed(calls::commit_at(image, kinds, ledger, stamp))
+}
+
 pub fn read(image: &[u8], kinds: &[u8], ledger: &[u8], v: u32, block: &mut [u8]) -> u64 {
     packed(calls::read(image, kinds, ledger, v, block))
 }
 
 pub fn look_back(image: &[u8], kinds: &[u8], ledger: &mut [u8], k: u32) -> u64 {
     packed(calls::look_back(image, kinds, ledger, k))
+}
+
+pub fn time_of(image: &[u8], kinds: &[u8], ledger: &[u8], k: u32, answer: &mut [u8]) -> u64 {
+    packed(calls::time_of(image, kinds, ledger, k, answer))
 }

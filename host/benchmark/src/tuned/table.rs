@@ -3,7 +3,8 @@
 use std::ops::Range;
 
 use super::crc::crc;
-use super::fields::{put, u16_at, u32_at, u64_at};
+use super::fields::{field, put, u16_at, u32_at, u64_at};
+use super::time::Stamp;
 
 /// "the image, 2048 bytes a sector"
 pub const SECTOR: usize = 2048;
@@ -21,6 +22,10 @@ const TAG: u32 = 261 | 2 << 16;
 /// Byte 16: where the CRC starts, behind the tag.
 const BODY: usize = 16;
 
+/// Access, modification and attribute time.
+const TIMES: [usize; 3] = [72, MODIFIED, 96];
+const MODIFIED: usize = 84;
+
 /// Bytes 0 to 175: the head. Behind it the attributes, if any, and the table.
 const HEAD: usize = 176;
 
@@ -31,11 +36,20 @@ const TAIL: usize = 36;
 const VAT_NAME: [u8; 23] = *b"*UDF Virtual Alloc Tbl\0";
 
 /// What a table sector holds: its entries, four bytes each, and the previous
-/// table's block.
+/// table's block; and the sector itself, for its time.
 #[derive(Clone, Copy)]
 pub struct Vat<'a> {
     pub entries: &'a [u8],
     pub previous: u32,
+    sector: &'a Sector,
+}
+
+impl Vat<'_> {
+    /// Its "modification time", whatever it is.
+    #[inline(always)]
+    pub fn modified(&self) -> Stamp {
+        field(self.sector, MODIFIED)
+    }
 }
 
 /// "A sector of kind 1 is a table sector exactly if all of this holds". Nearly
@@ -68,7 +82,11 @@ fn recognise_tagged(sector: &Sector, b: u32) -> Option<Vat<'_>> {
         && is_none_or_below(previous, b)
         && all_none_or_below(entries, b)
         && u16_at(sector, 8) == crc(&sector[BODY..table.end]);
-    holds.then_some(Vat { entries, previous })
+    holds.then_some(Vat {
+        entries,
+        previous,
+        sector,
+    })
 }
 
 /// Bytes 4, 5 and 12: "sum of bytes 0 to 3 and 5 to 15, modulo 256; zero",
@@ -149,13 +167,16 @@ const fn common_head() -> [u8; HEAD] {
 }
 
 /// Makes the table sector of block b, at most 458 entries, where it is recorded.
-pub fn put_vat(sector: &mut Sector, b: u32, entries: &[u8], previous: u32) {
+pub fn put_vat(sector: &mut Sector, b: u32, entries: &[u8], previous: u32, stamp: &Stamp) {
     let length = entries.len() + TAIL;
     sector[..HEAD].copy_from_slice(&COMMON_HEAD);
     put(sector, 10, &(160 + length as u16).to_le_bytes());
     put(sector, 12, &b.to_le_bytes());
     put(sector, 56, &(length as u64).to_le_bytes());
     put(sector, 172, &(length as u32).to_le_bytes());
+    for at in TIMES {
+        put(sector, at, stamp);
+    }
     let (map, rest) = sector[HEAD..].split_at_mut(entries.len());
     map.copy_from_slice(entries);
     put_tail(rest, previous);

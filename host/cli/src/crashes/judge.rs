@@ -102,12 +102,12 @@ pub fn lists_as_proved(left: &State, disc: &Disc) {
     input.write_all(&left.disc).expect("it reads a whole disc");
     drop(input);
     let output = running.wait_with_output().expect("an answer");
-    assert_eq!(listing(disc).0.as_bytes(), output.stdout);
+    assert_eq!(listing(disc, false).0.as_bytes(), output.stdout);
 }
 
 /// A row for each page, with its size and how many numbers are in use.
 fn lists(disc: &Disc, book: &History, clean: bool) {
-    let (text, refusal) = listing(disc);
+    let (text, refusal) = listing(disc, false);
     if book.pages.is_empty() {
         assert_eq!(
             (text.as_str(), refusal),

@@ -215,6 +215,15 @@ impl Folder {
         folder
     }
 
+    /// With these saves, made in this order, each at the time that is typed.
+    pub fn saved_at(sectors: usize, times: &[&str]) -> Folder {
+        let folder = Folder::begun(sectors);
+        for time in times {
+            folder.done(&format!("commit run.disc --at {time}"));
+        }
+        folder
+    }
+
     /// Document 01's example: "begin, write 0, commit, write 1, release 0,
     /// commit, close packet, commit".
     pub fn example() -> Folder {

@@ -18,7 +18,7 @@ use Rattle.calls.proofs.effects.record_table.Tie as tie
 
 -- the entry of the function
 abbrev start-of : tie.After-entries2 → tie.Start
-start-of c = c .before .before .before .before .before .before
+start-of c = c .before .before .before .before .before .before .before
 
 entries-long : (c : tie.After-entries2) → length (start-of c .args .state .entries) ≡ 458
 entries-long c = search needs
@@ -71,13 +71,13 @@ returns c =
     let at : ℕ = sectorLength * a .b in
     let v : Volume = a .state in
     let size : v .size - 0 ≡ v .size = omega arith in
-    let made : r .«record» .last .0 ≡ sector (mapOf v) (v .last) (a .b) =
-    r .«record» .ensures ∙ ap (λ (k : ℕ). sector (take k (v .entries)) (v .last) (a .b)) size in
+    let made : r .«record» .last .0 ≡ sector (mapOf v) (v .last) (a .stamp .now) (a .b) =
+    r .«record» .ensures ∙ ap (λ (k : ℕ). sector (take k (v .entries)) (v .last) (a .stamp .now) (a .b)) size in
     let few : length (mapOf v) ≤ limit = rw (length-take-le (v .size) (v .entries) (omega (arith, entries-long e, s .pre .2))) (s .pre .2) in
     let small : a .b < 4294967296 = omega (arith, s .pre .1) in
     let long : (at + sectorLength) - at ≡ sectorLength = omega arith in (
       ap₂ (λ (k : ℕ) (l : List ℕ). take at image ++ (l ++ drop k (drop at image))) long made
-          ∙ stored-part image (sector (mapOf v) (v .last) (a .b)) at sectorLength (length-sector (mapOf v) (v .last) (a .b) few small),
+          ∙ stored-part image (sector (mapOf v) (v .last) (a .stamp .now) (a .b)) at sectorLength (length-sector (mapOf v) (v .last) (a .stamp .now) (a .b) few small (s .pre .3)),
       refl,
     )
 

@@ -1,4 +1,4 @@
--- `vat::sector::record` meets its contract: zeros, the table, the name, the header and the sums, in this order.
+-- `vat::sector::record` meets its contract: zeros, the table, the name, the times, the header and the sums, in this order.
 -- Assumes nothing.
 use Prim.Native.Nat.{ℕ}
 use native.Mathlib.Omega.{arith}
@@ -10,7 +10,7 @@ use Rattle.le.specs.Field.{lay}
 use Rattle.le.proofs.Rows.{length-lay}
 use Rattle.tag.specs.Tag.{seal}
 use Rattle.vat.specs.Table.{tableStart, plainRows, lengthRows}
-use Rattle.vat.specs.Sector.{ownRows, tableBytes, stationAt, stationName, body, sector}
+use Rattle.vat.specs.Sector.{ownRows, tableBytes, stationAt, stationName, timed, body, sector}
 use Rattle.vat.proofs.Frame.{Lengths}
 use Rattle.vat.proofs.Record.{header, header-lengths, header-laid, length-body}
 use borrow.Author.Needs.{needs}
@@ -27,8 +27,11 @@ after-lengths c = after-own c .before .before .before .before
 abbrev after-plain : tie.After-seal-arg → tie.After-put-plain
 after-plain c = after-lengths c .before .before .before .before
 
+abbrev after-times : tie.After-seal-arg → tie.After-put-times
+after-times c = after-plain c .before .before .before .before
+
 abbrev after-station : tie.After-seal-arg → tie.After-put-text
-after-station c = after-plain c .before .before .before .before
+after-station c = after-times c .before .before .before .before
 
 abbrev after-table : tie.After-seal-arg → tie.After-put-table
 after-table c = after-station c .before .before .before .before .before
@@ -37,26 +40,27 @@ abbrev after-clear : tie.After-seal-arg → tie.After-clear
 after-clear c = after-table c .before .before .before .before
 
 abbrev start-of : tie.After-seal-arg → tie.Start
-start-of c = after-clear c .before .before .before .before
+start-of c = after-clear c .before .before .before .before .before
 
--- zeros, the table and the station's name make the body
-filled : (c : tie.After-seal-arg) → let s = start-of c in after-station c .put-text .last .0 ≡ body (s .args .map .now) (s .args .previous)
+-- zeros, the table, the station's name and the times make the body
+filled : (c : tie.After-seal-arg) → let s = start-of c in after-times c .put-times .last .0 ≡ body (s .args .map .now) (s .args .previous) (s .args .stamp .now)
 unfolding body stationName
 filled c =
     let s = start-of c in let a = s .args in
     let zeros = after-clear c .clear .ensures ∙ ap (λ (n : ℕ). replicate n 0) (s .pre .0) in
     let table = after-table c .put-table .ensures ∙ ap (λ (l : List ℕ). sets l (tableStart 0) (tableBytes (a .map .now) (a .previous))) zeros in
-    after-station c .put-text .ensures ∙ ap (λ (l : List ℕ). sets l stationAt stationName) table
+    let named = after-station c .put-text .ensures ∙ ap (λ (l : List ℕ). sets l stationAt stationName) table in
+    after-times c .put-times .ensures ∙ ap (timed (a .stamp .now)) named
 
 -- what is sealed: the header laid over the body
 laid : (c : tie.After-seal-arg)
-    → let s = start-of c in after-own c .put-own .last .0 ≡ lay (body (s .args .map .now) (s .args .previous)) (header (s .args .b) (length (s .args .map .now)))
+    → let s = start-of c in after-own c .put-own .last .0 ≡ lay (body (s .args .map .now) (s .args .previous) (s .args .stamp .now)) (header (s .args .b) (length (s .args .map .now)))
 laid c =
     let a = start-of c .args in
     let n : ℕ = length (a .map .now) in
     let plain = after-plain c .put-plain .ensures ∙ ap (λ (l : List ℕ). lay l (plainRows (a .b))) (filled c) in
     let lengths = after-lengths c .put-lengths .ensures ∙ ap (λ (l : List ℕ). lay l (lengthRows 0 n)) plain in
-    after-own c .put-own .ensures ∙ ap (λ (l : List ℕ). lay l ownRows) lengths ∙ header-laid (a .b) n (body (a .map .now) (a .previous))
+    after-own c .put-own .ensures ∙ ap (λ (l : List ℕ). lay l ownRows) lengths ∙ header-laid (a .b) n (body (a .map .now) (a .previous) (a .stamp .now))
 
 clear-requires : tie.Need-clear-requires
 clear-requires c κs = search needs
@@ -69,6 +73,9 @@ slice-aggregate-put-text c = search needs
 
 put-text-requires : tie.Need-put-text-requires
 put-text-requires c κs = search needs
+
+put-times-requires : tie.Need-put-times-requires
+put-times-requires c κs = search needs
 
 put-plain-requires : tie.Need-put-plain-requires
 put-plain-requires c κs = search needs
@@ -86,9 +93,9 @@ seal-requires : tie.Need-seal-requires
 seal-requires c κs =
     let p = start-of c in let a = p .args in
     let n : ℕ = length (a .map .now) in
-    let s : List ℕ = body (a .map .now) (a .previous) in
-    let told : Lengths (lay s (header (a .b) n)) 0 n = header-lengths (a .b) n s (p .fits .b .fits) (p .pre .1) (length-body (a .map .now) (a .previous)) in
-    rw (laid c) (omega (arith, told .summed, p .pre .1, length-lay (header (a .b) n) s, length-body (a .map .now) (a .previous)))
+    let s : List ℕ = body (a .map .now) (a .previous) (a .stamp .now) in
+    let told : Lengths (lay s (header (a .b) n)) 0 n = header-lengths (a .b) n s (p .fits .b .fits) (p .pre .1) (length-body (a .map .now) (a .previous) (a .stamp .now)) in
+    rw (laid c) (omega (arith, told .summed, p .pre .1, length-lay (header (a .b) n) s, length-body (a .map .now) (a .previous) (a .stamp .now)))
 
 same-length : tie.Need-same-length
 same-length c = search needs
@@ -105,6 +112,7 @@ record-spec =
     put-table-requires
     slice-aggregate-put-text
     put-text-requires
+    put-times-requires
     put-plain-requires
     cast-put-lengths
     put-lengths-requires

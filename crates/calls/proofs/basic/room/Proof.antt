@@ -1,0 +1,57 @@
+-- `calls::basic::room` meets its contract: the blank sectors against the links and one more.
+-- Assumes nothing.
+use Prim.Native.Nat.{ℕ, _+_, _-_}
+use native.Mathlib.Omega.{arith}
+use mathlib.Core.Path.{_≡_, sym, _∙_}
+use mathlib.Core.Bool.{true, false}
+use mathlib.Core.List.{List, []}
+use lib.Dec.{ltb}
+use lib.ListN.{length}
+use borrow.Author.Tests.{le-ltb, lt-ltb}
+use Rattle.volume.specs.Volume.{unpack}
+use Rattle.recorder.specs.Refusals.{links}
+use Rattle.recorder.proofs.Done.{stop, skip, none-left, links-few}
+use borrow.Author.Needs.{needs}
+use Rattle.calls.proofs.basic.room.Statement.{statement}
+use Rattle.calls.proofs.basic.room.Tie as tie
+
+-- the entry of the function
+abbrev start-of : tie.After-links → tie.Start
+start-of c = c .before .before .before .before
+
+-- what is blank, and what a commit needs
+abbrev blank : tie.Start → ℕ
+blank s = length (s .args .kinds .now) - unpack (s .args .ledger .now) .recorded
+
+abbrev needed : tie.Start → ℕ
+needed s = links (unpack (s .args .ledger .now)) + 1
+
+cast-blank : tie.Need-cast-blank
+cast-blank c = search needs
+
+recorded-requires : tie.Need-recorded-requires
+recorded-requires c κs = search needs
+
+sub-blank : tie.Need-sub-blank
+sub-blank c = search needs
+
+links-requires : tie.Need-links-requires
+links-requires c κs = search needs
+
+add-if1 : tie.Need-add-if1
+add-if1 c = omega (arith, c .links .ensures, links-few (unpack (start-of c .args .ledger .now)))
+
+returns : tie.Need-returns
+returns c =
+    let n = c .before in let s = start-of n in
+    sym (stop 14 (ltb (blank s) (needed s)) [] (lt-ltb (blank s) (needed s) (omega (arith, n .before .recorded .ensures, n .links .ensures, c .if1 .taken))))
+
+returns-2 : tie.Need-returns-2
+returns-2 c =
+    let n = c .before in let s = start-of n in
+    sym (skip 14 (ltb (blank s) (needed s)) [] (le-ltb (blank s) (needed s) (omega (arith, n .before .recorded .ensures, n .links .ensures, c .if1 .left))) ∙ none-left)
+
+pub room-spec : {M : Type 1} → statement M
+room-spec =
+    tie.close
+    (tie.spec cast-blank recorded-requires sub-blank links-requires add-if1 returns returns-2)

@@ -1,0 +1,38 @@
+-- `client::told_long_ago` meets its contract: the time that many saves back is told.
+-- Assumes nothing.
+use Prim.Native.Nat.{ℕ}
+use mathlib.Core.Path.{refl, sym, subst₂}
+use mathlib.Core.List.{List}
+use mathlib.Core.Option.{none, some}
+use Rattle.vat.specs.Sector.{noStamp}
+use Rattle.disc.specs.Disc.{Disc}
+use Rattle.history.specs.Times.{TellsTime}
+use Rattle.client.proofs.Times.{told-since, right-stamp, time-given, no-time-given}
+use borrow.Author.Needs.{needs}
+use Rattle.client.proofs.told_long_ago.Statement.{statement}
+use Rattle.client.proofs.told_long_ago.Tie as tie
+
+abbrev start-of : tie.After-station-time-of → tie.Start
+start-of c = c .before .before .before .before .before .before
+
+station-time-of-requires : tie.Need-station-time-of-requires
+station-time-of-requires c κs = search needs
+
+same-length : tie.Need-same-length
+same-length c = search needs
+
+returns : tie.Need-returns
+returns c =
+    let h = c .before .before in
+    let a = start-of h .args in (
+      λ x fresh before since stamp ok all counted there long whole.
+          time-given (a .image .now) (a .kinds .now) (a .ledger .now) (a .k) (a .answer .now) long whole (h .station-time-of .ensures) stamp
+          (subst₂ (λ (d : Disc) (n : ℕ). TellsTime d n stamp) (sym there) counted (told-since x fresh ok before since (some stamp) all))
+          (right-stamp x fresh ok before since (some stamp) all stamp refl),
+      λ x fresh before since ok all counted there long whole.
+          no-time-given (a .image .now) (a .kinds .now) (a .ledger .now) (a .k) (a .answer .now) long whole (h .station-time-of .ensures)
+          (subst₂ (λ (d : Disc) (n : ℕ). TellsTime d n noStamp) (sym there) counted (told-since x fresh ok before since none all)),
+    )
+
+pub told-long-ago-spec : {M : Type 1} → statement M
+told-long-ago-spec = tie.close (tie.spec station-time-of-requires same-length returns)

@@ -1,0 +1,4 @@
+pub mod Dates
+pub mod Signed
+pub mod Stamps
+pub mod Theorems
