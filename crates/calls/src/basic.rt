@@ -1,4 +1,4 @@
-// The tests that several calls begin with, in document 01's order. 0 says that none of them applies.
+// The tests that several calls share, in the documents' order. 0 says that none of them applies.
 use crate::Plan;
 use crate::refused;
 use disc::Walk;

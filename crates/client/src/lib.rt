@@ -1,4 +1,4 @@
-// A host program's days, on lent buffers of any length and content, proved from what the calls promise and from the claim about power cuts.
+// A host program's days, on lent buffers of any length and content, proved from what the calls promise and from the claims about power cuts and times.
 // A day is some calls in a row, the first refusal ends it, and the answer is that of the last call made. The first promise of a function that makes such a
 // day says just that, with every byte of the disc and of the ledger; the other is what its host wants of it: what was saved is read back. The functions at
 // the end look at a disc that an earlier day left: theirs is for every such day.

@@ -12,7 +12,7 @@ use lib.ListN.{length, getD, take, drop, drop-of-length-le}
 use lib.Seq.{drop-cons, getD-take, length-take-le}
 use borrow.Author.Tests.{eq-eqb, ne-eqb, eqb-true, eqb-false, ltb-true, ltb-false, lt-ltb, le-leb}
 use Rattle.le.specs.Bytes.{every}
-use Rattle.vat.proofs.Frame.{and-left, and-right}
+use Rattle.le.proofs.Rows.{and-left, and-right}
 use Rattle.disc.specs.Disc.{counted, leading, inOrder}
 use Rattle.disc.proofs.Recording.{blankFrom, blank-kind}
 

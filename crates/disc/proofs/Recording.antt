@@ -12,8 +12,8 @@ use lib.ListN.{length, getD, take, drop, set, replicate, length-set, length-appe
 use lib.Seq.{getD-set-same, getD-set-other, drop-set-lt, take-append-le, drop-append-le, take-at, drop-at, drop-drop, length-take-le}
 use borrow.Author.Tests.{eq-eqb, ne-eqb, eqb-true, ltb-true, ltb-false, leb-true, lt-ltb, le-leb}
 use Rattle.le.specs.Bytes.{every}
+use Rattle.le.proofs.Rows.{and-left, and-right}
 use Rattle.vat.specs.Table.{sectorLength}
-use Rattle.vat.proofs.Frame.{and-left, and-right}
 use Rattle.disc.specs.Disc.{Disc, lent, mostSectors, sized, counted, leading, recorded, inOrder, kindAt, sectorAt, Sector, link, plain, torn, stored, put, puts}
 
 -- ---- the kinds

@@ -14,8 +14,8 @@ use lib.ListN.{length, take, replicate, length-replicate}
 use lib.Seq.{take-append-le, length-take-le, take-length}
 use borrow.Author.Tests.{eq-eqb, ltb-true, eqb-true, lt-ltb, le-ltb}
 use Rattle.le.specs.Bytes.{every}
+use Rattle.le.proofs.Rows.{and-left, and-right}
 use Rattle.vat.specs.Table.{sectorLength, unused, unusedOrBelow, entriesOf, previousOf, modifiedOf, isTable}
-use Rattle.vat.proofs.Frame.{and-left, and-right}
 use Rattle.vat.proofs.Theorems.{Named, named, recognised, of-kind-1}
 use Rattle.disc.specs.Disc.{Disc, recorded, kindAt, sectorAt, readable, content, Sector, link, plain, torn, put, puts}
 use Rattle.disc.specs.Tables.{tableAt, mapAt, previousAt, timeAt}

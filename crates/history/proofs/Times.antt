@@ -11,9 +11,9 @@ use mathlib.Core.Option.{Option, none, some}
 use lib.Dec.{eqb}
 use lib.ListN.{length}
 use borrow.Author.Tests.{eq-eqb, eqb-true}
+use Rattle.le.proofs.Rows.{and-left, and-right}
 use Rattle.le.proofs.Runs.{AllBytes}
 use Rattle.timestamp.specs.Timestamp.{toldLength, valid, told}
-use Rattle.vat.proofs.Frame.{and-left, and-right}
 use Rattle.disc.specs.Disc.{Disc, Sector, recorded, puts}
 use Rattle.disc.specs.declared.Walk.{Walk}
 use Rattle.disc.specs.declared.Walk.the-variants.{Reached}

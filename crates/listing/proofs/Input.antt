@@ -12,8 +12,8 @@ use lib.ListN.{length, getD, take, drop, set, replicate, length-append, length-d
 use lib.Seq.{sets, sets-eq, drop-cons, take-at, take-all}
 use borrow.Author.Tests.{eq-eqb, ne-eqb, eqb-true}
 use Rattle.le.specs.Bytes.{every, holdsText}
+use Rattle.le.proofs.Rows.{and-left}
 use Rattle.vat.specs.Table.{sectorLength}
-use Rattle.vat.proofs.Frame.{and-left}
 use Rattle.disc.specs.Disc.{lent}
 use Rattle.disc.proofs.Order.{and-false}
 use Rattle.listing.specs.Text.{column, newline, refusedLine}

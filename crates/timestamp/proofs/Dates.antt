@@ -14,9 +14,9 @@ use lib.ListN.{length, getD, take, List·getD-eq-default}
 use lib.Seq.{take-nil}
 use borrow.Author.Tests.{le-leb, leb-true}
 use Rattle.le.specs.Bytes.{total}
-use Rattle.le.proofs.Rows.{both-left, both-right}
+use Rattle.le.proofs.Rows.{both-left, both-right, and-left, and-right}
 use Rattle.timestamp.specs.declared.Moment.{Moment}
-use Rattle.timestamp.specs.Calendar.{leap, february, months, daysOfMonth, real, daysOfYears, daysBefore, minutesBefore}
+use Rattle.timestamp.specs.Calendar.{leap, february, monthsIf, months, daysOfMonth, real, daysOfYears, daysBefore, minutesBefore}
 
 -- ---- one test for all entries
 
@@ -32,12 +32,8 @@ at test (suc n) t k h =
     (λ (l : k < n). at test n (both-right (test n) (allBelow test n) t) k l)
     (eq-or-lt-of-le (le-of-suc-le-suc h))
 
--- the months of a leap year, and of another
-abbrev ofYear : Bool → List ℕ
-ofYear b = 31 ∷ february b ∷ 31 ∷ 30 ∷ 31 ∷ 30 ∷ 31 ∷ 31 ∷ 30 ∷ 31 ∷ 30 ∷ 31 ∷ []
-
 abbrev pub common : List ℕ
-common = ofYear false
+common = monthsIf false
 
 abbrev inBoth : (Bool → ℕ → Bool) → ℕ → Bool
 inBoth test n = allBelow (test true) n && allBelow (test false) n
@@ -63,7 +59,7 @@ unfolding months
 month-bounds y zero l h = absurd (not-suc-le-zero l)
 month-bounds y (suc m) l h =
     let d : ℕ = getD (months y) m 0 in
-    let t : T (leb 1 d && leb d 31) = at-both (λ b k. leb 1 (getD (ofYear b) k 0) && leb (getD (ofYear b) k 0) 31) 12 tt (leap y) m h in
+    let t : T (leb 1 d && leb d 31) = at-both (λ b k. leb 1 (getD (monthsIf b) k 0) && leb (getD (monthsIf b) k 0) 31) 12 tt (leap y) m h in
     (leb→le 1 d (both-left (leb 1 d) (leb d 31) t), leb→le d 31 (both-right (leb 1 d) (leb d 31) t))
 
 pub february-days : (y m : ℕ) (b : Bool) → m ≡ 2 → b ≡ leap y → february b ≡ daysOfMonth y m
@@ -94,7 +90,7 @@ passed-at (x ∷ xs) n (suc k) h = passed-at xs (n + x) k (le-of-suc-le-suc h) �
 days-small : (y k : ℕ) → k < 12 → total (take k (months y)) < 366
 unfolding months total
 days-small y k h =
-    ltb→lt (total (take k (months y))) 366 (at-both (λ b j. ltb (total (take j (ofYear b))) 366) 12 tt (leap y) k h)
+    ltb→lt (total (take k (months y))) 366 (at-both (λ b j. ltb (total (take j (monthsIf b))) 366) 12 tt (leap y) k h)
 
 -- n is the days of the first k months of year y
 abbrev pub Counted : ℕ → ℕ → ℕ → Type 0
@@ -158,18 +154,19 @@ pub record Real (t : Moment) : Type 0 where
   pub hours : t .hour ≤ 23
   pub minutes : t .minute ≤ 59
 
-pub both-true : (a b : Bool) → (a && b) ≡ true → (a ≡ true) × (b ≡ true)
-both-true true b e = (refl, e)
-both-true false b e = absurd (subst T (sym e) tt)
-
 pub is-real : (t : Moment) → real t ≡ true → Real t
 unfolding real
 is-real t e =
     let days : ℕ = daysOfMonth (t .year) (t .month) in
-    let a = both-true (leb 1 (t .day)) (leb (t .day) days && (leb (t .hour) 23 && leb (t .minute) 59)) e in
-    let b = both-true (leb (t .day) days) (leb (t .hour) 23 && leb (t .minute) 59) (a .1) in
-    let c = both-true (leb (t .hour) 23) (leb (t .minute) 59) (b .1) in
-    record { from-first = leb-true 1 (t .day) (a .0); to-last = leb-true (t .day) days (b .0); hours = leb-true (t .hour) 23 (c .0); minutes = leb-true (t .minute) 59 (c .1) }
+    let times : Bool = leb (t .hour) 23 && leb (t .minute) 59 in
+    let e₁ : (leb (t .day) days && times) ≡ true = and-right (leb 1 (t .day)) (leb (t .day) days && times) e in
+    let e₂ : times ≡ true = and-right (leb (t .day) days) times e₁ in
+    record {
+      from-first = leb-true 1 (t .day) (and-left (leb 1 (t .day)) (leb (t .day) days && times) e);
+      to-last = leb-true (t .day) days (and-left (leb (t .day) days) times e₁);
+      hours = leb-true (t .hour) 23 (and-left (leb (t .hour) 23) (leb (t .minute) 59) e₂);
+      minutes = leb-true (t .minute) 59 (and-right (leb (t .hour) 23) (leb (t .minute) 59) e₂);
+    }
 
 pub real-is : (t : Moment) → Real t → real t ≡ true
 unfolding real

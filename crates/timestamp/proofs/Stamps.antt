@@ -1,5 +1,5 @@
--- Laws of a timestamp's definitions: the zone by its sign, what a valid stamp holds, the minutes by whether the zone is given, and the answer: its
--- length, and what is read of it (`told-minutes`, `told-mark`).
+-- Laws of a timestamp's definitions: the zone by its sign, what a valid stamp holds, the minutes by whether the zone is given, and what is
+-- read of the answer (`told-minutes`, `told-mark`).
 -- Assumes nothing.
 use Prim.Native.Nat.{ℕ, _+_, _%_, _≤_, _<_}
 use native.Mathlib.Nat.{lt-trans, mod-lt}
@@ -18,9 +18,10 @@ use mir.Val.{SFits, boolByte, toZ}
 use Rattle.le.specs.Field.{le, readLe, putLe}
 use Rattle.le.proofs.Bytes.{sets-append}
 use Rattle.le.proofs.Fields.{length-le, read-le}
+use Rattle.le.proofs.Rows.{and-left, and-right}
 use Rattle.timestamp.specs.Calendar.{real, minutesBefore}
 use Rattle.timestamp.specs.Timestamp.{stampLength, toldLength, signedIf, zoneOf, momentOf, zoned, notGiven, valid, kindOf, counted, marked, minutesOf, word, told}
-use Rattle.timestamp.proofs.Dates.{both-true, is-real, minutes-small}
+use Rattle.timestamp.proofs.Dates.{is-real, minutes-small}
 use Rattle.timestamp.proofs.Signed.{taken, mag-sum, sum-within, word-lt, word-read}
 
 -- ---- the zone
@@ -56,11 +57,15 @@ unfolding valid momentOf
 dated s e =
     let y : ℕ = readLe 2 s 2 in
     let rest : Bool = leb (readLe 1 s 8) 59 && (leb (readLe 1 s 9) 99 && (leb (readLe 1 s 10) 99 && (leb (readLe 1 s 11) 99 && zoned (zoneOf s)))) in
-    let a = both-true (eqb (kindOf s) 1) (leb 1970 y && (leb y 2099 && (real (momentOf s) && rest))) e in
-    let b = both-true (leb 1970 y) (leb y 2099 && (real (momentOf s) && rest)) (a .1) in
-    let c = both-true (leb y 2099) (real (momentOf s) && rest) (b .1) in
-    let d = both-true (real (momentOf s)) rest (c .1) in
-    record { since = leb-true 1970 y (b .0); until = leb-true y 2099 (c .0); date = d .0 }
+    let from : Bool = leb y 2099 && (real (momentOf s) && rest) in
+    let e₁ : (leb 1970 y && from) ≡ true = and-right (eqb (kindOf s) 1) (leb 1970 y && from) e in
+    let e₂ : from ≡ true = and-right (leb 1970 y) from e₁ in
+    let e₃ : (real (momentOf s) && rest) ≡ true = and-right (leb y 2099) (real (momentOf s) && rest) e₂ in
+    record {
+      since = leb-true 1970 y (and-left (leb 1970 y) from e₁);
+      until = leb-true y 2099 (and-left (leb y 2099) (real (momentOf s) && rest) e₂);
+      date = and-left (real (momentOf s)) rest e₃;
+    }
 
 -- ---- the minutes
 
@@ -89,12 +94,6 @@ minutes-fit s e =
     (lt-trans (counted-near (notGiven (zoneOf s)) (zoneOf s) (zone-near s)) (lit< tt))
 
 -- ---- the answer
-
-pub length-told : (s : List ℕ) → length (told s) ≡ toldLength
-unfolding told
-length-told s =
-    length-append (le 4 (word (minutesOf s))) (le 4 (marked (notGiven (zoneOf s))))
-    ∙ ap₂ _+_ (length-le 4 (word (minutesOf s))) (length-le 4 (marked (notGiven (zoneOf s))))
 
 -- who reads the first field as a signed number has the minutes
 pub told-minutes : (s : List ℕ) → valid s ≡ true → toZ w32 (readLe 4 (told s) 0) ≡ minutesOf s

@@ -16,9 +16,12 @@ abbrev pub february : Bool → ℕ
 february true = 29
 february false = 28
 
--- The days of the months of year y, from January to December.
+-- The days of the months, from January to December, of a leap year and of another; and of year y.
+abbrev pub monthsIf : Bool → List ℕ
+monthsIf b = 31 ∷ february b ∷ 31 ∷ 30 ∷ 31 ∷ 30 ∷ 31 ∷ 31 ∷ 30 ∷ 31 ∷ 30 ∷ 31 ∷ []
+
 unfoldable pub months : ℕ → List ℕ
-months y = 31 ∷ february (leap y) ∷ 31 ∷ 30 ∷ 31 ∷ 30 ∷ 31 ∷ 31 ∷ 30 ∷ 31 ∷ 30 ∷ 31 ∷ []
+months y = monthsIf (leap y)
 
 -- The days of month m, which counts from 1; none where there is no such month.
 abbrev pub daysOfMonth : ℕ → ℕ → ℕ

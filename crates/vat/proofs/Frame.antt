@@ -3,24 +3,17 @@
 use Prim.Native.Nat.{ℕ, zero, suc, _+_, _-_, _%_, _≤_, _<_}
 use native.Mathlib.Nat.{not-suc-le-zero}
 use native.Mathlib.Omega.{arith}
-use mathlib.Core.Path.{_≡_, refl}
-use mathlib.Core.Bool.{Bool, true, false, _&&_, and-assoc, false≢true}
+use mathlib.Core.Path.{_≡_}
+use mathlib.Core.Bool.{Bool, true, false, _&&_, and-assoc}
 use mathlib.Core.List.{List}
 use lib.Dec.{eqb, ltb}
 use borrow.Author.Tests.{eqb-true, ltb-true}
 use Rattle.le.specs.Bytes.{every, holdsText}
 use Rattle.le.specs.Field.{readLe, words, holds}
+use Rattle.le.proofs.Rows.{and-left, and-right}
 use Rattle.le.proofs.Runs.{words-step}
 use Rattle.tag.specs.Tag.{crcLength}
 use Rattle.vat.specs.Table.{sectorLength, limit, tableLength, regidAt, plainRows, lengthRows, embedded, tableName, attributeLength, entryCount, wholeLength, previousOf, unusedOrBelow, placed, framed}
-
-pub and-left : (a b : Bool) → (a && b) ≡ true → a ≡ true
-and-left true b e = refl
-and-left false b e = e
-
-pub and-right : (a b : Bool) → (a && b) ≡ true → b ≡ true
-and-right true b e = e
-and-right false b e = absurd (false≢true e)
 
 -- one of the fields that are left is taken
 pub word-taken : (held : Bool) (f : ℕ → Bool) (left : ℕ) (s : List ℕ) (at : ℕ) → 0 < left

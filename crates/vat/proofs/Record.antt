@@ -12,12 +12,12 @@ use lib.Seq.{sets, length-sets, take-at}
 use Rattle.le.specs.Field.{Row, le, lay, holds, leWords}
 use Rattle.le.proofs.Bytes.{drop-sets, drop-sets-after, part-sets-apart, sets-append}
 use Rattle.le.proofs.Fields.{length-le}
-use Rattle.le.proofs.Rows.{lay-append, holds-lay, holds-append}
+use Rattle.le.proofs.Rows.{and-left, and-right, lay-append, holds-lay, holds-append}
 use Rattle.le.proofs.Runs.{length-leWords}
 use Rattle.timestamp.specs.Timestamp.{stampLength}
 use Rattle.vat.specs.Table.{sectorLength, limit, tableStart, regidAt, plainRows, lengthRows, tableName, modifiedAt, modifiedOf}
 use Rattle.vat.specs.Sector.{tableRegid, tableBytes, ownRows, stationAt, stationName, accessAt, attributeAt, timed, body}
-use Rattle.vat.proofs.Frame.{and-left, and-right, Lengths, lengths}
+use Rattle.vat.proofs.Frame.{Lengths, lengths}
 
 abbrev pub header : ℕ → ℕ → List Row
 header b n = plainRows b ++ (lengthRows 0 n ++ ownRows)

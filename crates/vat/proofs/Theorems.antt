@@ -20,13 +20,13 @@ use Rattle.le.specs.Bytes.{every, holdsText}
 use Rattle.le.specs.Field.{le, readLe, words, leWords, holds, lay}
 use Rattle.le.proofs.Bytes.{drop-sets, drop-sets-after}
 use Rattle.le.proofs.Fields.{length-le, read-le}
-use Rattle.le.proofs.Rows.{length-lay, holds-spared, holds-append, drop-lay, part-lay}
+use Rattle.le.proofs.Rows.{and-left, and-right, length-lay, holds-spared, holds-append, drop-lay, part-lay}
 use Rattle.le.proofs.Runs.{length-leWords, drop-on, text-held, Words, words-read, length-words}
 use Rattle.tag.specs.Tag.{sealed}
 use Rattle.timestamp.specs.Timestamp.{stampLength}
 use Rattle.vat.specs.Table.{sectorLength, limit, unused, tableStart, tableLength, regidAt, plainRows, lengthRows, embedded, tableName, attributeLength, entryCount, wholeLength, entriesOf, previousOf, modifiedAt, modifiedOf, unusedOrBelow, framed, isTable}
 use Rattle.vat.specs.Sector.{tableRegid, tableBytes, ownRows, stationName, stationAt, body, sector}
-use Rattle.vat.proofs.Frame.{and-left, and-right, lengths, few-entries, Framed, framed-tells}
+use Rattle.vat.proofs.Frame.{lengths, few-entries, Framed, framed-tells}
 use Rattle.vat.proofs.Record.{header, header-held, length-timed, length-body, behind-times, time-stands}
 use Rattle.tag.proofs.Sums.{sealRows, seal-lays, sealed-seal}
 

@@ -9,8 +9,8 @@ use mathlib.Core.Option.{some}
 use lib.Dec.{eqb, ltb}
 use lib.ListN.{length}
 use borrow.Author.Tests.{eqb-true, not-true, not-false}
+use Rattle.le.proofs.Rows.{and-right}
 use Rattle.timestamp.specs.Timestamp.{stampLength, valid}
-use Rattle.vat.proofs.Frame.{and-right}
 use Rattle.disc.specs.Disc.{Disc, lent}
 use Rattle.disc.proofs.Recording.{leading-le}
 use Rattle.volume.specs.Volume.{unpack}
