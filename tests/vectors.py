@@ -8,6 +8,7 @@ from datetime import datetime, timedelta
 from struct import pack
 
 UNUSED = 0xFFFFFFFF
+PRIME = 2**32 - 5
 
 
 def table_sector(entries, previous, block, attributes=b"", stamp=bytes(12)):
@@ -39,6 +40,18 @@ def show_map(entries, previous):
     print("count", len(entries), *("%08x" % e for e in entries), "previous", "%08x" % previous)
 
 
+def show_changes(sector):
+    """For each byte of the body the CRCs with each of its 255 other values, in the order of the exclusive-or mask, as one number modulo a prime."""
+    body = bytearray(sector[16:2044])
+    for i, byte in enumerate(sector[16:2044]):
+        crcs = b""
+        for mask in range(1, 256):
+            body[i] = byte ^ mask
+            crcs += pack(">H", crc_hqx(body, 0))
+        body[i] = byte
+        print("byte", 16 + i, "crcs", "%08x" % (int.from_bytes(crcs, "big") % PRIME))
+
+
 def timestamp(when, zone=None):
     """ECMA-167 1/7.3: type 1, the zone in minutes or none, and a local time."""
     micros = when.microsecond
@@ -53,9 +66,11 @@ def show_time(when, zone=None):
 
 
 def main():
-    ramp = bytes((7 + 31 * i) % 256 for i in range(2048))
-    for data in (bytes.fromhex("706a77"), bytes(2048), b"", ramp[:1], ramp[:255], ramp[16:2044], ramp):
+    ramp = bytes((7 + 31 * i) % 256 for i in range(2100))
+    for data in (bytes.fromhex("706a77"), bytes(2048), ramp[16:2044]):
         print("crc", "%04x" % crc_hqx(data, 0))
+    for n in range(2101):
+        print("length", n, "crc", "%04x" % crc_hqx(ramp[:n], 0))
 
     small = [0, UNUSED, 299999, 3, 65537]
     show_rows(table_sector(small, 123456, 300000))
@@ -66,9 +81,11 @@ def main():
     show_map(small, 123456)
 
     full = [UNUSED if i % 3 == 0 else i for i in range(458)]
-    show_rows(table_sector(full, UNUSED, 458))
+    sector = table_sector(full, UNUSED, 458)
+    show_rows(sector)
     print("kind 1 at 458: table")
     show_map(full, UNUSED)
+    show_changes(sector)
 
     show_rows(table_sector(small, 123456, 300000, ramp[176:176 + 220]))
     print("kind 1 at 300000: table")

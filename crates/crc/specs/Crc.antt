@@ -1,13 +1,18 @@
--- The CRC of ECMA-167 3/7.2.6 (document 01: "CRC: 16 bits, polynomial hex 1021, start 0, high bit first").
-use Prim.Native.Nat.{ℕ, zero, suc, _*_, _/_, _%_}
+-- The CRC of ECMA-167 3/7.2.6 (document 01: "CRC: 16 bits, polynomial hex 1021, start 0, high bit first"), and the table that it is taken from.
+use Prim.Native.Nat.{ℕ, zero, suc, _*_, _/_, _%_, _<_}
+use mathlib.Core.Path.{_≡_}
 use mathlib.Core.Bool.{Bool, true, false}
 use mathlib.Core.List.{List, [], _∷_}
 use lib.Bits.{bitXor}
 use lib.Dec.{eqb}
+use lib.ListN.{length, getD}
+
+abbrev pub polynomial : ℕ
+polynomial = 0x1021
 
 -- The 16 bits moved up by one, with the polynomial taken out if the high bit left.
 abbrev pub reduced : Bool → ℕ → ℕ
-reduced true c = bitXor (c * 2 % 65536) 0x1021
+reduced true c = bitXor (c * 2 % 65536) polynomial
 reduced false c = c * 2 % 65536
 
 abbrev pub bitStep : ℕ → ℕ
@@ -27,3 +32,8 @@ crcFrom c (x ∷ xs) = crcFrom (byteStep c x) xs
 
 abbrev pub crcOf : List ℕ → ℕ
 crcOf s = crcFrom 0 s
+
+-- Document 02: "a table of 256 numbers. Entry i is the CRC of the one byte i".
+pub record OneByteSums (table : List ℕ) : Type 0 where
+  pub count : length table ≡ 256
+  pub entry : (i : ℕ) → i < 256 → getD table i 0 ≡ crcOf (i ∷ [])

@@ -1,10 +1,10 @@
 -- What a search or a walk finds is a table, and on a sound disc a table lies within what is recorded. Then what one sector, and one step, tells of them.
 -- Assumes nothing.
 use Prim.Native.Nat.{ℕ, zero, suc, _+_, _-_, _*_, _≤_, _<_}
-use native.Mathlib.Nat.{not-suc-le-zero, le-of-suc-le-suc, zero-add, suc-add}
+use native.Mathlib.Nat.{not-suc-le-zero, le-of-suc-le-suc, add-zero, zero-add, suc-add}
 use native.Mathlib.Omega.{arith}
 use mathlib.Core.Path.{_≡_, refl, sym, ap, ap₂, _∙_}
-use mathlib.Core.Bool.{Bool, true, false, _&&_}
+use mathlib.Core.Bool.{Bool, true, false, _&&_, and-assoc}
 use mathlib.Core.List.{List, [], _∷_}
 use mathlib.Core.Option.{Option, none, some}
 use lib.Dec.{eqb, ltb, lit≤}
@@ -14,11 +14,10 @@ use borrow.Author.Tests.{eq-eqb, ne-eqb, ltb-true, ltb-false}
 use Rattle.le.specs.Bytes.{every}
 use Rattle.le.specs.Field.{readLe, holds, words}
 use Rattle.le.proofs.Bytes.{part-take}
-use Rattle.le.proofs.Runs.{words-none}
+use Rattle.le.proofs.Runs.{words-none, words-step}
 use Rattle.timestamp.specs.Timestamp.{stampLength}
 use Rattle.tag.specs.Tag.{sealed}
 use Rattle.vat.specs.Table.{sectorLength, unused, plainRows, unusedOrBelow, entriesOf, modifiedAt, modifiedOf, framed, isTable}
-use Rattle.vat.proofs.Frame.{word-taken}
 use Rattle.vat.proofs.Theorems.{recognised}
 use Rattle.disc.specs.declared.Walk.{Walk}
 use Rattle.disc.specs.declared.Walk.the-variants.{Reached, Broken, Ended}
@@ -139,14 +138,31 @@ module _ (kind : ℕ) (s : List ℕ) (b : ℕ) where
   unfolding isTable
   all-but-sums k l f e = rw (eq-eqb kind 1 k, eq-eqb (length s) sectorLength l, f, e)
 
--- ---- its entries, one by one
+-- ---- its entries, group by group
 
-pub word-fails : (f : ℕ → Bool) (left : ℕ) (s : List ℕ) (at : ℕ) → 0 < left → f (readLe 4 s at) ≡ false → every f (words left s at) ≡ false
-word-fails f left s at h e = sym (word-taken true f left s at h) ∙ ap (λ (t : Bool). t && every f (words (left - 1) s (at + 4))) e
+-- k of n entries, and the others
+group-taken : (f : ℕ → Bool) (k m : ℕ) (s : List ℕ) (at : ℕ) → (every f (words k s at) && every f (words m s (at + 4 * k))) ≡ every f (words (k + m) s at)
+unfolding every
+group-taken f zero m s at =
+    ap₂ (λ (xs : List ℕ) (p : ℕ). every f xs && every f (words m s p)) (words-none s at) (add-zero at) ∙ ap (λ (n : ℕ). every f (words n s at)) (sym (zero-add m))
+group-taken f (suc k) m s at =
+    let further : at + 4 * suc k ≡ at + 4 + 4 * k = omega arith in
+    let here : Bool = f (readLe 4 s at) in
+    ap₂ (λ (xs : List ℕ) (p : ℕ). every f xs && every f (words m s p)) (words-step k s at) further
+    ∙ and-assoc here (every f (words k s (at + 4))) (every f (words m s (at + 4 + 4 * k)))
+    ∙ ap (λ (t : Bool). here && t) (group-taken f k m s (at + 4))
+    ∙ ap (every f) (sym (words-step (k + m) s at))
+    ∙ ap (λ (n : ℕ). every f (words n s at)) (sym (suc-add k m))
 
-pub word-passes : (f : ℕ → Bool) (left : ℕ) (s : List ℕ) (at : ℕ) → 0 < left → f (readLe 4 s at) ≡ true
-    → every f (words (left - 1) s (at + 4)) ≡ every f (words left s at)
-word-passes f left s at h e = ap (λ (t : Bool). t && every f (words (left - 1) s (at + 4))) (sym e) ∙ word-taken true f left s at h
+module _ (f : ℕ → Bool) (k left : ℕ) (s : List ℕ) (at : ℕ) (h : k ≤ left) where
+  both : (every f (words k s at) && every f (words (left - k) s (at + 4 * k))) ≡ every f (words left s at)
+  both = let all : k + (left - k) ≡ left = omega arith in group-taken f k (left - k) s at ∙ ap (λ (n : ℕ). every f (words n s at)) all
+
+  pub group-fails : every f (words k s at) ≡ false → every f (words left s at) ≡ false
+  group-fails e = sym both ∙ ap (λ (t : Bool). t && every f (words (left - k) s (at + 4 * k))) e
+
+  pub group-passes : every f (words k s at) ≡ true → every f (words (left - k) s (at + 4 * k)) ≡ every f (words left s at)
+  group-passes e = ap (λ (t : Bool). t && every f (words (left - k) s (at + 4 * k))) (sym e) ∙ both
 
 pub words-passed : (f : ℕ → Bool) (left : ℕ) (s : List ℕ) (at : ℕ) → left ≡ 0 → every f (words left s at) ≡ true
 unfolding every

@@ -7,7 +7,7 @@ use vat::table::UNUSED;
 ghost use mathlib.Core.Path.{_≡_};
 ghost use mathlib.Core.Bool.{true};
 ghost use mathlib.Core.List.{[]};
-ghost use Prim.Native.Nat.{_+_, _*_, _≤_};
+ghost use Prim.Native.Nat.{_+_, _*_, _≤_, _<_};
 ghost use lib.ListN.{length};
 ghost use Rattle.disc.specs.Disc.{lent, sized};
 ghost use Rattle.vat.specs.Table.{sectorLength};
@@ -25,6 +25,17 @@ pub fn table_at(image: &[u8], kinds: &[u8], b: u32) -> bool
     let at = SECTOR * place;
     let end = at + SECTOR;
     vat::table::is_table(kinds[place], &image[at..end], b)
+}
+
+// How many of the entries that are left are looked at together: within a group no test waits for another.
+fn group(left: u32) -> u32
+    requires { ⌜ 0 < left ⌝ }
+    ensures { λ r. ⌜ (0 < r) × (r ≤ left) ⌝ }
+{
+    if left < 64 {
+        return left;
+    }
+    64
 }
 
 // "starts at the last recorded sector and goes towards block 0. The first table sector met ends the search." The costly CRC comes last.
@@ -52,12 +63,14 @@ pub fn newest(image: &[u8], kinds: &[u8], recorded: u32) -> u32
             continue 'scan;
         }
         let n = vat::table::entry_count(s);
+        let first = vat::table::table_start(s);
         let mut i = 0;
         while i < n {
-            if !vat::table::may_name(b, vat::table::entry(s, i)) {
+            let count = group(n - i);
+            if !vat::table::words_held(s, first + 4 * (i as usize), count, b) {
                 continue 'scan;
             }
-            i += 1;
+            i += count;
         }
         if tag::sealed(s) {
             break 'scan b;

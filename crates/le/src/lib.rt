@@ -11,13 +11,14 @@ fn join16(a: u8, b: u8) -> u16
     (a as u16) + 256 * (b as u16)
 }
 
-fn join32(a: u8, b: u8, c: u8, d: u8) -> u32
+// The first byte lowest; handed over in the other order, the first is highest.
+pub fn join32(a: u8, b: u8, c: u8, d: u8) -> u32
     ensures { λ r. ⌜ r ≡ a + 256 * (b + 256 * (c + 256 * d)) ⌝ }
 {
     (a as u32) + 256 * ((b as u32) + 256 * ((c as u32) + 256 * (d as u32)))
 }
 
-fn join64(low: u32, high: u32) -> u64
+pub fn join64(low: u32, high: u32) -> u64
     ensures { λ r. ⌜ r ≡ low + 4294967296 * high ⌝ }
 {
     (low as u64) + 4294967296 * (high as u64)

@@ -110,7 +110,7 @@ fn lengths_held(s: &[u8]) -> bool
 }
 
 // A block that a sector at block b may name.
-pub fn may_name(b: u32, x: u32) -> bool
+fn may_name(b: u32, x: u32) -> bool
     ensures { λ r. ⌜ r ≡ unusedOrBelow b x ⌝ }
 {
     (x < b) | (x == UNUSED)

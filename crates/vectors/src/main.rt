@@ -13,6 +13,9 @@ ghost use lib.ListN.{length};
 
 const STDOUT: i32 = 1;
 
+// The largest prime below 2^32.
+const PRIME: u64 = 4294967291;
+
 fn say(text: &[u8]) {
     io::write_all(STDOUT, text);
 }
@@ -104,25 +107,70 @@ fn fill(map: &mut [u32])
     }
 }
 
+// ECMA-167's example; zeros; the ramp where the body of a full table sector lies; and the ramp's first bytes, for every length to past a sector's.
 fn crcs() {
     let ecma = [0x70, 0x6A, 0x77];
     show_crc(&ecma);
-    let mut bytes = [0u8; 2048];
-    show_crc(&bytes);
+    let zeros = [0u8; 2048];
+    show_crc(&zeros);
+    let mut bytes = [0u8; 2100];
     ramp(&mut bytes);
-    show_parts(&bytes);
+    show_crc(&bytes[16..2044]);
+    show_lengths(&bytes);
 }
 
-// The CRC of no byte, of one, of 255, of the longest body of a table sector, and of all.
-fn show_parts(s: &[u8]) {
-    if s.len() != 2048 {
-        return;
+// The CRC of the first n bytes, for every n from none to all.
+fn show_lengths(s: &[u8]) {
+    let mut n = 0;
+    while n <= s.len() {
+        say(b"length ");
+        io::print_decimal(STDOUT, n as u64);
+        say(b" ");
+        show_crc(&s[0..n]);
+        n += 1;
     }
-    show_crc(&s[0..0]);
-    show_crc(&s[0..1]);
-    show_crc(&s[0..255]);
-    show_crc(&s[16..2044]);
-    show_crc(s);
+}
+
+// The CRC of a body with one byte changed by an exclusive or. The body is left as it was.
+fn changed_crc(body: &mut [u8], at: usize, mask: u8) -> u16
+    ensures { λ _. ⌜ length (now (body .exit)) ≡ length (now (body .entry)) ⌝ }
+{
+    if at >= body.len() {
+        return 0;
+    }
+    let byte = body[at];
+    body[at] = byte ^ mask;
+    let c = crc::crc(body);
+    body[at] = byte;
+    c
+}
+
+// The CRCs of a body with each of the 255 other values of one byte, in the order of the mask, as one number of 255 times 16 bits, modulo a prime.
+// A CRC of the CRCs would not do: the faults of a wrong CRC are exclusive ors of one another, and in it they can cancel out.
+fn changed_crcs(body: &mut [u8], at: usize) -> u64
+    ensures { λ _. ⌜ length (now (body .exit)) ≡ length (now (body .entry)) ⌝ }
+{
+    let mut crcs: u64 = 0;
+    let mut mask: u64 = 1;
+    while mask < 256 {
+        let c = changed_crc(body, at, mask as u8);
+        crcs = (crcs * 65536 + (c as u64)) % PRIME;
+        mask += 1;
+    }
+    crcs
+}
+
+// Every change of one byte of a table sector's body, which starts at the sector's byte 16.
+fn show_changes(body: &mut [u8]) {
+    let mut i = 0;
+    while i < body.len() {
+        say(b"byte ");
+        io::print_decimal(STDOUT, 16 + (i as u64));
+        say(b" crcs ");
+        io::print_hex(STDOUT, changed_crcs(body, i), 8);
+        say(b"\n");
+        i += 1;
+    }
 }
 
 // A table sector at block 300,000: there, at the next block, of another kind, and one byte short.
@@ -230,6 +278,7 @@ fn full_table() {
     show_rows(&sector);
     show_test(1, &sector, 458);
     show_map(&sector);
+    show_changes(&mut sector[16..2044]);
 }
 
 fn main() {

@@ -13,7 +13,7 @@ use station::{LEDGER, LIMIT, SECTOR};
 use crate::report::thousands;
 
 /// How often each command is run: as often as half of the smallest disc allows.
-const ROUNDS: usize = 25;
+const ROUNDS: usize = 24;
 
 /// Copies come last: they leave the disk much to write.
 const COPIES: usize = 5;
@@ -22,7 +22,7 @@ const COPY: &str = "`cp` of the disc file";
 /// The lines of one round, in order, with what a row calls them. A disc is mounted
 /// after a look back and after a cut, and saved before a mount that is to find it
 /// clean.
-const LINES: [(&str, &str); 15] = [
+const LINES: [(&str, &str); 17] = [
     ("new", "new blank.disc SECTORS"),
     ("begin, blank disc", "begin blank.disc"),
     ("write, after a mount", "write run.disc 0 --from block"),
@@ -32,6 +32,8 @@ const LINES: [(&str, &str); 15] = [
     ("close", "close run.disc"),
     ("commit, after a close", "commit run.disc"),
     ("commit, packet open", "commit run.disc"),
+    ("commit --at", "commit run.disc --at 2026-11-16T14:05+01:00"),
+    ("time 0", "time run.disc 0"),
     ("read", "read run.disc 7 --to /dev/null"),
     ("look-back 1", "look-back run.disc 1"),
     ("list", "list run.disc"),
@@ -42,8 +44,8 @@ const LINES: [(&str, &str); 15] = [
 
 pub const HOW: &str = "\
 Each command is the whole program, from its start to its end, on a disc that is half full, with 458 numbers in use; the file is in
-memory from the round before. Milliseconds, minimum and median of 25 rounds, each on the three discs in turn; then 5 copies of each disc file by `cp`,
-which flushes nothing. `list` shows between 4 and 52 saves.
+memory from the round before. Milliseconds, minimum and median of 24 rounds, each on the three discs in turn; then 5 copies of each disc file by `cp`,
+which flushes nothing. `list` shows between 5 and 74 saves.
 ";
 
 /// A row of the table, with the times of each size.

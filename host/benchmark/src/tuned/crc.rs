@@ -1,5 +1,5 @@
-//! "CRC: 16 bits, polynomial hex 1021, start 0, high bit first", by a table of
-//! 256 or, with the feature `sixteen-tables`, sixteen bytes at a time.
+//! "CRC: 16 bits, polynomial hex 1021, start 0, high bit first", sixteen bytes at
+//! a time.
 //!
 //! The sum is linear: sixteen bytes and the two of the sum before them give one
 //! looked-up number each, and these are joined by exclusive or. Only the last
@@ -43,28 +43,10 @@ const fn byte_sum(byte: u8) -> u16 {
     crc
 }
 
-/// How the sum is made.
-pub const CRC_FORM: &str = if SIXTEEN_TABLES {
-    "sixteen tables of 256"
-} else {
-    "one table of 256"
-};
-const SIXTEEN_TABLES: bool = cfg!(feature = "sixteen-tables");
-
-/// The sum of the bytes.
+/// The sum of the bytes. Each slice's own sum is joined one turn later: so the
+/// lookups of one slice overlap with the wait for the sum before it.
 #[inline(never)]
 pub fn crc(bytes: &[u8]) -> u16 {
-    if SIXTEEN_TABLES {
-        by_slices(bytes)
-    } else {
-        bytes.iter().fold(0, past_byte)
-    }
-}
-
-/// Each slice's own sum is joined one turn later: so the lookups of one slice
-/// overlap with the wait for the sum before it.
-#[inline(always)]
-fn by_slices(bytes: &[u8]) -> u16 {
     let (slices, rest) = bytes.as_chunks::<SLICE>();
     let turn = |(crc, own): (u16, u16), slice| (past_slice(crc) ^ own, own_sum(slice));
     let (crc, own) = slices.iter().fold((0, 0), turn);

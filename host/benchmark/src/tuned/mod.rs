@@ -24,7 +24,7 @@ mod time;
 
 use answer::packed;
 
-pub use crc::{crc, CRC_FORM};
+pub use crc::crc;
 pub use ledger::LEDGER;
 pub use table::{put_vat, Sector, LIMIT, NONE, SECTOR};
 pub use time::{Stamp, TIME};

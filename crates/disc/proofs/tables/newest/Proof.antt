@@ -8,23 +8,23 @@ use mathlib.Core.List.{List}
 use lib.ListN.{length, take, drop}
 use borrow.Author.Tests.{not-true, not-false}
 use Rattle.le.specs.Bytes.{every}
-use Rattle.le.specs.Field.{readLe, words}
+use Rattle.le.specs.Field.{words}
 use Rattle.tag.specs.Tag.{sealed}
 use Rattle.vat.specs.Table.{sectorLength, tableStart, attributeLength, entryCount, entriesOf, unusedOrBelow, framed, isTable}
 use Rattle.vat.proofs.Frame.{Framed, framed-tells}
 use Rattle.disc.specs.Disc.{Disc, lent, kindAt}
 use Rattle.disc.specs.Tables.{tableAt, blockFound, newestBelow}
 use Rattle.disc.proofs.Recording.{sized-tells}
-use Rattle.disc.proofs.Found.{part-sector, sector-end, sector-long, other-kind, untagged, not-framed, not-held, all-but-sums, word-fails, word-passes, words-passed, none-below, scan-on, scan-ends}
+use Rattle.disc.proofs.Found.{part-sector, sector-end, sector-long, other-kind, untagged, not-framed, not-held, all-but-sums, group-fails, group-passes, words-passed, none-below, scan-on, scan-ends}
 use Rattle.disc.proofs.tables.newest.Statement.{statement}
 use Rattle.disc.proofs.tables.newest.Tie as tie
 
 abbrev Inv-loop : tie.InvT-loop
-Inv-loop image kinds recorded b place at end s n i₀ i =
+Inv-loop image kinds recorded b place at end s n first i₀ i =
     (i ≤ n) × (every (unusedOrBelow b) (words (n - i) s (tableStart (attributeLength s) + 4 * i)) ≡ every (unusedOrBelow b) (entriesOf s))
 
 abbrev μ-loop : tie.MeasureT-loop
-μ-loop image kinds recorded b place at end s n i₀ i = n - i
+μ-loop image kinds recorded b place at end s n first i₀ i = n - i
 
 abbrev Inv-scan : tie.InvT-scan
 Inv-scan image kinds recorded b₀ b = (b ≤ recorded) × (newestBelow (tableAt (lent image kinds)) b ≡ newestBelow (tableAt (lent image kinds)) recorded)
@@ -46,7 +46,10 @@ abbrev framed-block : tie.Else4 Inv-loop μ-loop Inv-scan μ-scan → tie.Else1 
 framed-block c = tagged-block (after-tagged c)
 
 abbrev frame-of : tie.At-loop Inv-loop μ-loop Inv-scan μ-scan → tie.Else4 Inv-loop μ-loop Inv-scan μ-scan
-frame-of c = c .before .before
+frame-of c = c .before .before .before
+
+abbrev turn : tie.After-words-held Inv-loop μ-loop Inv-scan μ-scan → tie.At-loop Inv-loop μ-loop Inv-scan μ-scan
+turn c = c .before .before .before
 
 abbrev block-of : tie.At-loop Inv-loop μ-loop Inv-scan μ-scan → tie.Else1 Inv-loop μ-loop Inv-scan μ-scan
 block-of c = framed-block (frame-of c)
@@ -87,15 +90,17 @@ told c = let e = framed-block c in framed-tells (S e) (B e) (frame c)
 
 -- how many entries are left, and where the next one stands
 abbrev left : tie.At-loop Inv-loop μ-loop Inv-scan μ-scan → ℕ
-left p = p .before .entry-count .result - p .loop .i
+left p = p .before .before .entry-count .result - p .loop .i
 
 abbrev entry-at : tie.At-loop Inv-loop μ-loop Inv-scan μ-scan → ℕ
 entry-at p = tableStart (attributeLength (S (block-of p))) + 4 * p .loop .i
 
--- the entry that was read
-named : (c : tie.After-may-name Inv-loop μ-loop Inv-scan μ-scan)
-    → let p = c .before .before .before in let e = block-of p in c .may-name .result ≡ unusedOrBelow (B e) (readLe 4 (S e) (entry-at p))
-named c = let e = block-of (c .before .before .before) in c .may-name .ensures ∙ ap (unusedOrBelow (B e)) (c .before .entry .ensures)
+-- the group that was looked at
+looked : (c : tie.After-words-held Inv-loop μ-loop Inv-scan μ-scan)
+    → let p = turn c in let e = block-of p in c .words-held .result ≡ every (unusedOrBelow (B e)) (words (c .before .group .result) (S e) (entry-at p))
+looked c =
+    let p = turn c in let e = block-of p in
+    c .words-held .ensures ∙ ap (λ (at : ℕ). every (unusedOrBelow (B e)) (words (c .before .group .result) (S e) (at + 4 * p .loop .i))) (p .before .table-start .ensures)
 
 -- only the sums are left
 sums : (c : tie.After-loop Inv-loop μ-loop Inv-scan μ-scan) → let e = block-of (c .before) in isTable (kindAt (D e) (B e)) (S e) (B e) ≡ sealed (S e)
@@ -162,28 +167,48 @@ scan-again-3 c =
 entry-count-requires : tie.Need-entry-count-requires Inv-loop μ-loop Inv-scan μ-scan
 entry-count-requires c κs = whole (framed-block c)
 
+table-start-requires : tie.Need-table-start-requires Inv-loop μ-loop Inv-scan μ-scan
+table-start-requires c κs = (whole (framed-block (c .before)), told (c .before) .below)
+
 loop-holds : tie.Need-loop-holds Inv-loop μ-loop Inv-scan μ-scan
 unfolding entriesOf
 loop-holds c =
-    let e = framed-block (c .before) in
-    let all : c .entry-count .result - 0 ≡ entryCount (S e) = omega (arith, c .entry-count .ensures) in
+    let e = framed-block (c .before .before) in
+    let all : c .before .entry-count .result - 0 ≡ entryCount (S e) = omega (arith, c .before .entry-count .ensures) in
     let first : tableStart (attributeLength (S e)) + 4 * 0 ≡ tableStart (attributeLength (S e)) = omega arith in
     (omega arith, ap₂ (λ (k at : ℕ). every (unusedOrBelow (B e)) (words k (S e) at)) all first)
 
-entry-requires : tie.Need-entry-requires Inv-loop μ-loop Inv-scan μ-scan
-entry-requires c κs = let p = c .before in (whole (block-of p), told (frame-of p) .below, omega (arith, p .before .entry-count .ensures))
+sub-group : tie.Need-sub-group Inv-loop μ-loop Inv-scan μ-scan
+sub-group c = omega arith
 
-may-name-requires : tie.Need-may-name-requires Inv-loop μ-loop Inv-scan μ-scan
-may-name-requires c κs = tt
+group-requires : tie.Need-group-requires Inv-loop μ-loop Inv-scan μ-scan
+group-requires c κs = omega arith
+
+cast-words-held : tie.Need-cast-words-held Inv-loop μ-loop Inv-scan μ-scan
+cast-words-held c = omega arith
+
+mul-words-held : tie.Need-mul-words-held Inv-loop μ-loop Inv-scan μ-scan
+mul-words-held c = omega arith
+
+add-words-held : tie.Need-add-words-held Inv-loop μ-loop Inv-scan μ-scan
+add-words-held c =
+    let p = c .before .before in
+    omega (arith, told (frame-of p) .below, p .before .table-start .ensures, p .before .before .entry-count .ensures)
+
+words-held-requires : tie.Need-words-held-requires Inv-loop μ-loop Inv-scan μ-scan
+words-held-requires c κs =
+    let p = c .before .before in
+    omega (arith, whole (block-of p), told (frame-of p) .below, p .before .table-start .ensures, p .before .before .entry-count .ensures)
 
 scan-less-4 : tie.Need-scan-less-4 Inv-loop μ-loop Inv-scan μ-scan
 scan-less-4 c = omega arith
 
 scan-again-4 : tie.Need-scan-again-4 Inv-loop μ-loop Inv-scan μ-scan
 scan-again-4 c =
-    let p = c .before .before .before .before in let e = block-of p in
-    let wrong : unusedOrBelow (B e) (readLe 4 (S e) (entry-at p)) ≡ false = sym (named (c .before)) ∙ not-true (c .before .may-name .result) (c .if5 .taken) in
-    on e (not-held (kindAt (D e) (B e)) (S e) (B e) (sym (p .loop .inv .1) ∙ word-fails (unusedOrBelow (B e)) (left p) (S e) (entry-at p) (omega arith) wrong))
+    let p = turn (c .before) in let e = block-of p in
+    let wrong : every (unusedOrBelow (B e)) (words (c .before .before .group .result) (S e) (entry-at p)) ≡ false =
+    sym (looked (c .before)) ∙ not-true (c .before .words-held .result) (c .if5 .taken) in
+    on e (not-held (kindAt (D e) (B e)) (S e) (B e) (sym (p .loop .inv .1) ∙ group-fails (unusedOrBelow (B e)) (c .before .before .group .result) (left p) (S e) (entry-at p) (c .before .before .group .ensures .1) wrong))
 
 add-i : tie.Need-add-i Inv-loop μ-loop Inv-scan μ-scan
 add-i c = omega arith
@@ -193,13 +218,14 @@ loop-less c = omega arith
 
 loop-again : tie.Need-loop-again Inv-loop μ-loop Inv-scan μ-scan
 loop-again c =
-    let p = c .before .before .before .before in let e = block-of p in
+    let p = turn (c .before) in let e = block-of p in
     let f : ℕ → Bool = unusedOrBelow (B e) in
-    let right : f (readLe 4 (S e) (entry-at p)) ≡ true = sym (named (c .before)) ∙ not-false (c .before .may-name .result) (c .if5 .left) in
-    let fewer : p .before .entry-count .result - (p .loop .i + 1) ≡ left p - 1 = omega arith in
-    let further : tableStart (attributeLength (S e)) + 4 * (p .loop .i + 1) ≡ entry-at p + 4 = omega arith in (
+    let k : ℕ = c .before .before .group .result in
+    let right : every f (words k (S e) (entry-at p)) ≡ true = sym (looked (c .before)) ∙ not-false (c .before .words-held .result) (c .if5 .left) in
+    let fewer : p .before .before .entry-count .result - (p .loop .i + k) ≡ left p - k = omega arith in
+    let further : tableStart (attributeLength (S e)) + 4 * (p .loop .i + k) ≡ entry-at p + 4 * k = omega arith in (
       omega arith,
-      ap₂ (λ (k at : ℕ). every f (words k (S e) at)) fewer further ∙ word-passes f (left p) (S e) (entry-at p) (omega arith) right ∙ p .loop .inv .1,
+      ap₂ (λ (n at : ℕ). every f (words n (S e) at)) fewer further ∙ group-passes f k (left p) (S e) (entry-at p) (c .before .before .group .ensures .1) right ∙ p .loop .inv .1,
     )
 
 sealed-requires : tie.Need-sealed-requires Inv-loop μ-loop Inv-scan μ-scan
@@ -250,9 +276,14 @@ newest-spec =
     scan-less-3
     scan-again-3
     entry-count-requires
+    table-start-requires
     loop-holds
-    entry-requires
-    may-name-requires
+    sub-group
+    group-requires
+    cast-words-held
+    mul-words-held
+    add-words-held
+    words-held-requires
     scan-less-4
     scan-again-4
     add-i
