@@ -75,10 +75,7 @@ entryCount s = (readLe 4 s 172 - 36) / 4
 abbrev pub wholeLength : List ℕ → ℕ
 wholeLength s = tableStart (attributeLength s) + tableLength (entryCount s)
 
--- Entry i of the table, all of its entries, and the previous table's block.
-abbrev pub entryOf : List ℕ → ℕ → ℕ
-entryOf s i = readLe 4 s (tableStart (attributeLength s) + 4 * i)
-
+-- The table's entries, and the previous table's block.
 unfoldable pub entriesOf : List ℕ → List ℕ
 entriesOf s = words (entryCount s) s (tableStart (attributeLength s))
 

@@ -5,7 +5,7 @@ ghost use lib.Dec.{eqb};
 ghost use lib.ListN.{length};
 ghost use Rattle.le.specs.Bytes.{every};
 ghost use Rattle.le.specs.Field.{readLe, holds, words};
-ghost use Rattle.vat.specs.Table.{sectorLength, tableStart, regidAt, plainRows, lengthRows, unusedOrBelow, attributeLength, entryCount, wholeLength, entryOf, previousOf, placed, framed, isTable};
+ghost use Rattle.vat.specs.Table.{sectorLength, tableStart, regidAt, plainRows, lengthRows, unusedOrBelow, attributeLength, entryCount, wholeLength, previousOf, placed, framed, isTable};
 
 pub const SECTOR: usize = 2048;
 
@@ -81,13 +81,6 @@ fn regid_at(s: &[u8]) -> usize
     ensures { λ r. ⌜ r ≡ regidAt (attributeLength (now (s .entry))) (entryCount (now (s .entry))) ⌝ }
 {
     table_start(s) + 4 * (entry_count(s) as usize)
-}
-
-pub fn entry(s: &[u8], i: u32) -> u32
-    requires { ⌜ (length (now s) ≡ sectorLength) × (wholeLength (now s) < sectorLength) × (i < entryCount (now s)) ⌝ }
-    ensures { λ r. ⌜ r ≡ entryOf (now (s .entry)) i ⌝ }
-{
-    le::read32(s, table_start(s) + 4 * (i as usize))
 }
 
 pub fn previous(s: &[u8]) -> u32

@@ -2,11 +2,11 @@
 // independent program, tests/vectors.py, makes it.
 use vat::sector::record;
 use vat::table::UNUSED;
-use vat::table::entry;
 use vat::table::entry_count;
 use vat::table::is_table;
 use vat::table::placed;
 use vat::table::previous;
+use vat::table::table_start;
 ghost use Prim.Native.Nat.{_≤_};
 ghost use mathlib.Core.Path.{_≡_};
 ghost use lib.ListN.{length};
@@ -76,12 +76,13 @@ fn show_map(s: &[u8]) {
         return;
     }
     let n = entry_count(s);
+    let first = table_start(s);
     say(b"count ");
     io::print_decimal(STDOUT, n as u64);
     let mut i = 0;
     while i < n {
         say(b" ");
-        io::print_hex(STDOUT, entry(s, i) as u64, 8);
+        io::print_hex(STDOUT, le::read32(s, first + 4 * (i as usize)) as u64, 8);
         i += 1;
     }
     say(b" previous ");

@@ -5,16 +5,16 @@ use mathlib.Core.Path.{_≡_, sym, _∙_}
 use borrow.Author.Needs.{needs}
 use borrow.Author.Tests.{not-false}
 use lib.ListN.{length}
-use Rattle.vat.specs.Table.{sectorLength, entryCount, wholeLength}
+use Rattle.vat.specs.Table.{sectorLength, tableStart, attributeLength, entryCount, wholeLength}
 use Rattle.vat.proofs.Frame.{placed-below}
 use Rattle.vectors.proofs.show_map.Statement.{statement}
 use Rattle.vectors.proofs.show_map.Tie as tie
 
 abbrev Inv-loop : tie.InvT-loop
-Inv-loop s n i₀ t5 t6 t7 i = (i ≤ n) × (n ≡ entryCount s) × (wholeLength s < sectorLength) × (length t5 ≡ 1) × (length t6 ≡ 10) × (length t7 ≡ 1)
+Inv-loop s n first i₀ t6 t7 t8 i = (i ≤ n) × (n ≡ entryCount s) × (first ≡ tableStart (attributeLength s)) × (wholeLength s < sectorLength) × (length s ≡ sectorLength) × (length t6 ≡ 1) × (length t7 ≡ 10) × (length t8 ≡ 1)
 
 abbrev μ-loop : tie.MeasureT-loop
-μ-loop s n i₀ t5 t6 t7 i = n - i
+μ-loop s n first i₀ t6 t7 t8 i = n - i
 
 below : (c : tie.Else2 Inv-loop μ-loop) → wholeLength (c .before .before .before .before .args .s .now) < sectorLength
 below c =
@@ -32,6 +32,9 @@ returns-2 c = search needs
 entry-count-requires : tie.Need-entry-count-requires Inv-loop μ-loop
 entry-count-requires c κs = search needs
 
+table-start-requires : tie.Need-table-start-requires Inv-loop μ-loop
+table-start-requires c κs = search (needs, below (c .before))
+
 slice-aggregate-say : tie.Need-slice-aggregate-say Inv-loop μ-loop
 slice-aggregate-say c = search needs
 
@@ -45,7 +48,7 @@ print-decimal-requires : tie.Need-print-decimal-requires Inv-loop μ-loop
 print-decimal-requires c κs = search needs
 
 loop-holds : tie.Need-loop-holds Inv-loop μ-loop
-loop-holds c = search (needs, below (c .before .before .before .before))
+loop-holds c = search (needs, below (c .before .before .before .before .before))
 
 slice-aggregate-say-2 : tie.Need-slice-aggregate-say-2 Inv-loop μ-loop
 slice-aggregate-say-2 c = search needs
@@ -53,8 +56,17 @@ slice-aggregate-say-2 c = search needs
 say-requires-2 : tie.Need-say-requires-2 Inv-loop μ-loop
 say-requires-2 c κs = search needs
 
-entry-requires : tie.Need-entry-requires Inv-loop μ-loop
-entry-requires c κs = search needs
+cast-read32 : tie.Need-cast-read32 Inv-loop μ-loop
+cast-read32 c = search needs
+
+mul-read32 : tie.Need-mul-read32 Inv-loop μ-loop
+mul-read32 c = search needs
+
+add-read32 : tie.Need-add-read32 Inv-loop μ-loop
+add-read32 c = search needs
+
+read32-requires : tie.Need-read32-requires Inv-loop μ-loop
+read32-requires c κs = search needs
 
 cast-print-hex : tie.Need-cast-print-hex Inv-loop μ-loop
 cast-print-hex c = search needs
@@ -105,6 +117,7 @@ show-map-spec =
     placed-requires
     returns-2
     entry-count-requires
+    table-start-requires
     slice-aggregate-say
     say-requires
     cast-print-decimal
@@ -112,7 +125,10 @@ show-map-spec =
     loop-holds
     slice-aggregate-say-2
     say-requires-2
-    entry-requires
+    cast-read32
+    mul-read32
+    add-read32
+    read32-requires
     cast-print-hex
     print-hex-requires
     add-i
