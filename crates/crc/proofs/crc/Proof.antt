@@ -73,8 +73,8 @@ loop-again c =
       omega arith,
       omega arith,
       xor-lt 64 (w .b) (w .a) (w .inv .3) (w .inv .2),
-      xor-lt 64 (w .c) (w .a / 281474976710656) (w .inv .4) (omega arith),
-      xor-lt 64 (w .d) (w .a * 65536 % 18446744073709551616) (w .inv .5) (omega arith),
+      xor-lt 64 (w .c) _ (w .inv .4) (omega arith),
+      xor-lt 64 (w .d) _ (w .inv .5) (omega arith),
       xor-lt 64 (c .word .result) (w .a) (omega (arith, c .word .ensures)) (w .inv .2),
       ap
           (λ (n : ℕ). crcFrom (four (bitXor (w .b) (w .a)) (bitXor (w .c) (w .a / 281474976710656)) (bitXor (w .d) (w .a * 65536 % 18446744073709551616)) (bitXor n (w .a))) (drop (w .i + 8) s))
