@@ -31,6 +31,7 @@ HOMES = {
     "[]": "mathlib.Core.List",
     "none": "mathlib.Core.Option",
     "some": "mathlib.Core.Option",
+    "extent": "Rattle.anchor.specs.Anchor",
     "lent": "Rattle.disc.specs.Disc",
     "left": "Rattle.recorder.specs.Effects",
     "after": "Rattle.recorder.specs.Effects",
@@ -61,6 +62,16 @@ def closing(text, at):
         if depth == 0:
             return place
     return len(text)
+
+
+def now(name, time):
+    """A buffer's bytes at the entry or the exit, as a contract writes them."""
+    return f"(now ({name} .{time}))"
+
+
+def written(name):
+    """A number's name in a contract: one with an underscore stands between these marks."""
+    return f"«{name}»" if "_" in name else name
 
 
 class Exported:
@@ -94,11 +105,25 @@ class Exported:
         """Its call's constructor."""
         return FORMS[self.form()][0] if self.form() in FORMS else self.form()
 
+    def own(self):
+        """What its call is about, behind the ledger: each as its type and as the contract writes it. A length and directly behind it the location of the
+        same name are one extent."""
+        found, parameters = [], self.parameters[3:]
+        while parameters:
+            (name, kind), *parameters = parameters
+            location = name.removesuffix("_length") + "_location"
+            if kind in SLICES:
+                found.append(("List ℕ", now(name, "entry")))
+            elif name.endswith("_length") and parameters[:1] == [(location, "u32")]:
+                found.append(("Extent", f"(extent {written(name)} {written(location)})"))
+                parameters = parameters[1:]
+            else:
+                found.append(("ℕ", written(name)))
+        return found
+
     def takes(self):
         """The types that its constructor takes."""
-        if self.form() in FORMS:
-            return ["Option (List ℕ)"]
-        return ["List ℕ" if kind in SLICES else "ℕ" for _, kind in self.parameters[3:]]
+        return ["Option (List ℕ)"] if self.form() in FORMS else [kind for kind, _ in self.own()]
 
     def declared(self):
         """What the header must say of it: each slice is a pointer and then a length."""
@@ -111,14 +136,10 @@ class Exported:
         """The one equation that it must promise: what it leaves is what `after` says of what it was lent."""
         kinds = dict(self.parameters)
 
-        def now(name, time):
-            return f"(now ({name} .{time}))"
-
         def at_end(name):
             return now(name, "exit" if kinds[name] == "&mut [u8]" else "entry")
 
-        # In a contract a name with an underscore stands between these marks.
-        own = [now(n, "entry") if k in SLICES else f"«{n}»" if "_" in n else n for n, k in self.parameters[3:]]
+        own = [text for _, text in self.own()]
         if self.form() in FORMS:
             own = [f"(some {own[0]})" if own else "none"]
         call = f"({' '.join([self.call(), *own])})" if own else self.call()

@@ -22,6 +22,10 @@ WRITE_AFTER = "after (lent (now (image .entry)) (now (kinds .entry))) (now (ledg
 EXPORT = '#[no_mangle]\npub extern "C" fn {}(image: &[u8], kinds: &[u8], ledger: &[u8]) -> u64\n{{\n    0\n}}\n'
 RELEASE = "pub extern \"C\" fn station_release(image: &[u8], kinds: &[u8], ledger: &mut [u8], v: u32) -> u64"
 
+# The calls that the code imports, as it names them.
+IMPORTED = " ".join(re.search(r"ghost use Rattle\.recorder\.specs\.Calls\.\{[^}]*\}", (ROOT / CODE).read_text())[0].split())
+CLOSE = "(closeSession (extent «main_length» «main_location») (extent «reserve_length» «reserve_location») «partition_start»)"
+
 # What is wrong: the file, text that stands once in it, what stands there instead, and what the refusal says.
 SOURCES = {
     # a contract that says less
@@ -53,6 +57,17 @@ SOURCES = {
         "lib.rt: station_commit: its ensures is not"),
     "time_of_compares_the_answer_lent": (CODE, "(now (answer .exit))", "(now (answer .entry))",
         "lib.rt: station_time_of: its ensures is not"),
+    "close_session_exchanges_the_extents": (CODE, CLOSE,
+        "(closeSession (extent «reserve_length» «reserve_location») (extent «main_length» «main_location») «partition_start»)",
+        "lib.rt: station_close_session: its ensures is not"),
+    "close_session_exchanges_length_and_location": (CODE, CLOSE, CLOSE.replace("«main_length» «main_location»", "«main_location» «main_length»"),
+        "lib.rt: station_close_session: its ensures is not"),
+    "close_session_names_one_extent_twice": (CODE, CLOSE, CLOSE.replace("«reserve_length» «reserve_location»", "«main_length» «main_location»"),
+        "lib.rt: station_close_session: its ensures is not"),
+    "close_session_starts_at_0": (CODE, CLOSE, CLOSE.replace("«partition_start»", "0"),
+        "lib.rt: station_close_session: its ensures is not"),
+    "close_session_leaves_out_the_start": (CODE, CLOSE, CLOSE.replace(" «partition_start»", ""),
+        "lib.rt: station_close_session: its ensures is not"),
     # a signature
     "release_number_of_64_bits": (CODE, RELEASE, RELEASE.replace("v: u32", "v: u64"),
         "lib.rt: station_release: its parameter v is of type u64, not u32"),
@@ -71,6 +86,12 @@ SOURCES = {
         "lib.rt: station_commit_at: its parameters behind the ledger are ['stamp', 'k'], not ['stamp']"),
     "commit_always_takes_a_stamp": (CALLS, "  commit : Option (List ℕ) → Call", "  commit : List ℕ → Call",
         "lib.rt: station_commit: crates/recorder/specs/Calls.antt has no constructor commit : Option (List ℕ) → Call"),
+    "close_session_takes_the_location_first": (CODE, "    main_length: u32,\n    main_location: u32,\n", "    main_location: u32,\n    main_length: u32,\n",
+        "lib.rt: station_close_session: crates/recorder/specs/Calls.antt has no constructor closeSession : ℕ → ℕ → Extent → ℕ → Call"),
+    "close_session_takes_no_start": (CODE, "    partition_start: u32,\n", "",
+        "lib.rt: station_close_session: crates/recorder/specs/Calls.antt has no constructor closeSession : Extent → Extent → Call"),
+    "close_session_takes_no_reserve": (CALLS, "  closeSession : Extent → Extent → ℕ → Call", "  closeSession : Extent → ℕ → Call",
+        "lib.rt: station_close_session: crates/recorder/specs/Calls.antt has no constructor closeSession : Extent → Extent → ℕ → Call"),
     # what is exported
     "exported_from_another_crate": ("crates/listing/src/lib.rt", "pub mod text;\n", "pub mod text;\n\n" + EXPORT.format("station_list"),
         "crates/listing/src/lib.rt: station_list: exported from another crate than station"),
@@ -92,6 +113,12 @@ SOURCES = {
         "station.h: station_write is declared as"),
     "header_number_of_64_bits": (HEADER, "uint8_t *ledger, size_t ledger_length, uint32_t k);", "uint8_t *ledger, size_t ledger_length, uint64_t k);",
         "station.h: station_look_back is declared as"),
+    "header_exchanges_the_extents": (HEADER, """uint32_t main_length, uint32_t main_location,
+                               uint32_t reserve_length,
+                               uint32_t reserve_location,""", """uint32_t reserve_length,
+                               uint32_t reserve_location,
+                               uint32_t main_length, uint32_t main_location,""",
+        "station.h: station_close_session is declared as"),
     "header_answers_32_bits": (HEADER, "uint64_t station_commit(", "uint32_t station_commit(",
         "station.h: station_commit is declared as"),
     "header_declares_another": (HEADER, "uint64_t station_commit(", "uint64_t station_erase(uint8_t *image, size_t image_length);\nuint64_t station_commit(",
@@ -111,9 +138,11 @@ SOURCES = {
         "lib.rt: left_ from Rattle.recorder.specs.Weaker stands in for left"),
     "now_from_another_module": (CODE, "ghost use Prim.Native.Nat.{_*_};", "ghost use Prim.Native.Nat.{_*_};\nghost use Rattle.recorder.specs.Weaker.{now};",
         "lib.rt: now from Rattle.recorder.specs.Weaker stands in for now from the logic"),
-    "a_call_renamed": (CODE, "closePacket, commit, read", "closePacket, closePacket as commit, read",
-        "lib.rt: `ghost use Rattle.recorder.specs.Calls.{begin, mount, write, release, closePacket, closePacket as commit, read, lookBack, timeOf}` is not of the form"),
-    "a_call_not_imported": (CODE, "closePacket, commit, read", "closePacket, read",
+    "extent_from_another_module": (CODE, "ghost use Rattle.anchor.specs.Anchor.{extent};", "ghost use Rattle.recorder.specs.Weaker.{extent};",
+        "lib.rt: no ghost use brings extent from Rattle.anchor.specs.Anchor"),
+    "a_call_renamed": (CODE, ", commit, ", ", closePacket as commit, ",
+        f"lib.rt: `{IMPORTED.replace(', commit, ', ', closePacket as commit, ')}` is not of the form"),
+    "a_call_not_imported": (CODE, ", commit, ", ", ",
         "lib.rt: no ghost use brings commit from Rattle.recorder.specs.Calls"),
     "a_module_taken_whole": (CODE, "ghost use Prim.Native.Nat.{_*_};", "ghost use Prim.Native.Nat.{_*_};\nghost use Rattle.recorder.specs.Weaker;",
         "lib.rt: `ghost use Rattle.recorder.specs.Weaker` is not of the form"),

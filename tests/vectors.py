@@ -31,6 +31,14 @@ def table_sector(entries, previous, block, attributes=b"", stamp=bytes(12)):
     return (tag + body).ljust(2048, b"\0")
 
 
+def pointer_sector(main, reserve, location):
+    """The Anchor Volume Descriptor Pointer that closing records (document 02, R-5)."""
+    body = pack("<IIII", *main, *reserve).ljust(496, b"\0")
+    tag = pack("<HHBBHHHI", 2, 2, 0, 0, 0, crc_hqx(body, 0), len(body), location)
+    tag = tag[:4] + bytes([sum(tag) % 256]) + tag[5:]
+    return (tag + body).ljust(2048, b"\0")
+
+
 def show_rows(sector):
     for at in range(0, 2048, 32):
         print(sector[at:at + 32].hex())
@@ -113,6 +121,13 @@ def main():
     show_time(datetime(2099, 12, 31, 23, 59, 59), -1440)
     show_time(datetime(2000, 2, 29, 12, 0), 0)
     print("stamp: wrong")
+
+    show_rows(pointer_sector((32768, 96), (32769, 240), 401491))
+    print("tag at 1491: pointer")
+    print("tag at 1490: none")
+    print("tag at 401491: pointer")
+    print("tag at 401492: none")
+    print("tag at 1491: none")
 
 
 main()

@@ -31,14 +31,20 @@
  *           signed number of 32 bits, and then 1 if the zone was not given, or
  *           else 0 (32 bits).
  *
+ * A disc is closed exactly if its last recorded sector is a table sector, the
+ * 256 before it have kind 1, and the first of these has tag identifier 2, a right
+ * tag checksum and a tag location from its block to its block + 400,000. Nothing
+ * more is recorded on it.
+ *
  * Each call answers an outcome (0 done, else a refusal) and a second number, as
  * one number: outcome * 4294967296 + second number. A refusal's second number
  * is 0, and it alters no lent byte. Each function below names its refusals in
  * the order in which it tests for them, and the first that applies is given.
  * What a call may not change is lent as const.
  *
- * In mode 0 with recorded above 0, write and both forms of commit first record
- * seven link sectors; of a link sector only its kind changes, to 2.
+ * In mode 0 with recorded above 0, write, both forms of commit and closing the
+ * session first record seven link sectors; of a link sector only its kind
+ * changes, to 2.
  *
  * What the buffers hold at the end of a call is proved. The order of a call's
  * stores is not: the compiler merges and reorders them, and a program that stops
@@ -85,7 +91,8 @@ enum station_outcome {
        mode above 2; mode 1 where the last recorded sector is missing or not
        kind 1 */
     STATION_LEDGER_UNFIT = 4,
-    /* write, release, close packet or either form of commit with mode 2 */
+    /* write, release, close packet, either form of commit or closing the
+       session with mode 2 */
     STATION_READ_ONLY = 5,
     /* begin, and a table sector exists */
     STATION_VAT_EXISTS = 6,
@@ -103,13 +110,21 @@ enum station_outcome {
     STATION_ABOVE_SIZE = 12,
     /* write of v at or above 458 */
     STATION_ABOVE_LIMIT = 13,
-    /* no room: write needs links + 1 + 8 blank sectors, either form of commit
-       links + 1 */
+    /* no room: write needs links + 1 + 8 blank sectors, on discs of 1,000
+       sectors or more links + 1 + 264; either form of commit needs links + 1,
+       and closing the session links + 257 */
     STATION_NO_ROOM = 14,
-    /* the lent block would be a table sector at the block it is about to take */
+    /* the lent block would be a table sector at the block it is about to take,
+       or has the tag of a closing's pointer there: tag identifier 2, a right tag
+       checksum and a tag location from that block to that block + 400,000 */
     STATION_WOULD_BE_VAT = 15,
     /* a timestamp given or found breaks the limits */
-    STATION_BAD_TIMESTAMP = 16
+    STATION_BAD_TIMESTAMP = 16,
+    /* write, release, close packet, either form of commit or closing the
+       session on a closed disc */
+    STATION_SESSION_CLOSED = 17,
+    /* closing the session, and the partition start exceeds 400,000 */
+    STATION_PARTITION_START = 18
 };
 
 /* The outcome of an answer: 0 done, else a refusal. */
@@ -142,7 +157,8 @@ uint64_t station_mount(const uint8_t *image, size_t image_length,
  * Write number v: records one data sector with the lent block and sets entry v
  * to it. If v equals size, size grows by one. A released number below size may
  * be written again. Mode becomes 1. Second number: the block recorded. Refusals
- * 1, 2, 3, 4, 5, 13, 12, 14, 15: a v at or above 458 gives 13, even above size.
+ * 1, 2, 3, 4, 5, 17, 13, 12, 14, 15: a v at or above 458 gives 13, even above
+ * size.
  */
 uint64_t station_write(uint8_t *image, size_t image_length, uint8_t *kinds,
                        size_t kinds_length, uint8_t *ledger,
@@ -151,7 +167,7 @@ uint64_t station_write(uint8_t *image, size_t image_length, uint8_t *kinds,
 
 /*
  * Release v: sets the entry to unused. Size stays. Second number 0. Refusals 1,
- * 2, 3, 4, 5, 10.
+ * 2, 3, 4, 5, 17, 10.
  */
 uint64_t station_release(const uint8_t *image, size_t image_length,
                          const uint8_t *kinds, size_t kinds_length,
@@ -159,7 +175,7 @@ uint64_t station_release(const uint8_t *image, size_t image_length,
 
 /*
  * Close packet: mode 0 (also after an underrun). Nothing is recorded. Closing a
- * closed packet is done. Second number 0. Refusals 1, 2, 3, 4, 5.
+ * closed packet is done. Second number 0. Refusals 1, 2, 3, 4, 5, 17.
  */
 uint64_t station_close_packet(const uint8_t *image, size_t image_length,
                               const uint8_t *kinds, size_t kinds_length,
@@ -168,7 +184,8 @@ uint64_t station_close_packet(const uint8_t *image, size_t image_length,
 /*
  * Commit: records the table sector, which becomes the last table. It may follow
  * in any mode but 2, and mode is 1 afterwards. Allowed with nothing changed and
- * with size 0. Second number: the block recorded. Refusals 1, 2, 3, 4, 5, 14.
+ * with size 0. Second number: the block recorded. Refusals 1, 2, 3, 4, 5, 17,
+ * 14.
  */
 uint64_t station_commit(uint8_t *image, size_t image_length, uint8_t *kinds,
                         size_t kinds_length, uint8_t *ledger,
@@ -177,7 +194,7 @@ uint64_t station_commit(uint8_t *image, size_t image_length, uint8_t *kinds,
 /*
  * Commit at: a commit whose table sector has the lent stamp as access,
  * modification and attribute time; the plain commit records zeros there. Second
- * number: the block recorded. Refusals 1, 2, 3, 4, 5, 16, 14.
+ * number: the block recorded. Refusals 1, 2, 3, 4, 5, 17, 16, 14.
  */
 uint64_t station_commit_at(uint8_t *image, size_t image_length, uint8_t *kinds,
                            size_t kinds_length, uint8_t *ledger,
@@ -215,6 +232,22 @@ uint64_t station_time_of(const uint8_t *image, size_t image_length,
                          const uint8_t *kinds, size_t kinds_length,
                          const uint8_t *ledger, size_t ledger_length,
                          uint32_t k, uint8_t *answer, size_t answer_length);
+
+/*
+ * Close session: records an Anchor Volume Descriptor Pointer, 255 zero sectors
+ * and the table sector, which becomes the last table, all as data. The pointer
+ * names two extents, main and reserve, each by its length in bytes and its
+ * location; its tag location is the partition's start plus its block. Mode is 1
+ * afterwards, and the disc is closed. Second number: the block of the table.
+ * Refusals 1, 2, 3, 4, 5, 17, 18, 14.
+ */
+uint64_t station_close_session(uint8_t *image, size_t image_length,
+                               uint8_t *kinds, size_t kinds_length,
+                               uint8_t *ledger, size_t ledger_length,
+                               uint32_t main_length, uint32_t main_location,
+                               uint32_t reserve_length,
+                               uint32_t reserve_location,
+                               uint32_t partition_start);
 
 #ifdef __cplusplus
 }

@@ -101,6 +101,19 @@ mod archive {
             answer: *mut u8,
             answer_length: usize,
         ) -> u64;
+        pub fn station_close_session(
+            image: *mut u8,
+            image_length: usize,
+            kinds: *mut u8,
+            kinds_length: usize,
+            ledger: *mut u8,
+            ledger_length: usize,
+            main_length: u32,
+            main_location: u32,
+            reserve_length: u32,
+            reserve_location: u32,
+            partition_start: u32,
+        ) -> u64;
     }
 }
 
@@ -271,6 +284,39 @@ pub fn time_of(image: &[u8], kinds: &[u8], ledger: &[u8], k: u32, answer: &mut [
             k,
             answer.as_mut_ptr(),
             answer.len(),
+        )
+    }
+}
+
+/// `station_close_session`: the answer of [`crate::close_session`] as one number;
+/// the second is the block of the table recorded. The numbers are the length and
+/// location of the main extent, those of the reserve extent, and the partition's
+/// start.
+#[allow(clippy::too_many_arguments)]
+pub fn close_session(
+    image: &mut [u8],
+    kinds: &mut [u8],
+    ledger: &mut [u8],
+    main_length: u32,
+    main_location: u32,
+    reserve_length: u32,
+    reserve_location: u32,
+    partition_start: u32,
+) -> u64 {
+    // SAFETY: each pointer and length is one live slice, and no two overlap.
+    unsafe {
+        archive::station_close_session(
+            image.as_mut_ptr(),
+            image.len(),
+            kinds.as_mut_ptr(),
+            kinds.len(),
+            ledger.as_mut_ptr(),
+            ledger.len(),
+            main_length,
+            main_location,
+            reserve_length,
+            reserve_location,
+            partition_start,
         )
     }
 }

@@ -15,12 +15,14 @@
 //! A [`Refusal`] alters no lent byte. Any lengths and contents may be lent: the
 //! core tests them itself. It allocates nothing.
 //!
-//! In mode 0 with recorded above 0, write and both forms of commit first record
-//! seven link sectors; of a link sector only its kind changes. A power cut loses
-//! what is not committed, and [`mount`] then finds the last finished save.
+//! In mode 0 with recorded above 0, write, both forms of commit and closing the
+//! session first record seven link sectors; of a link sector only its kind
+//! changes. A power cut loses what is not committed, and [`mount`] then finds the
+//! last finished save. [`close_session`] makes a last save that plain CD-ROM
+//! drives can read; nothing is recorded after it.
 //!
 //! ```
-//! use station::{Refusal, SaveTime, Timestamp, LEDGER, SECTOR};
+//! use station::{Extent, Refusal, SaveTime, Timestamp, LEDGER, SECTOR};
 //!
 //! let sectors = 40;
 //! let mut image = vec![0; sectors * SECTOR];
@@ -56,6 +58,12 @@
 //! // The save before was made without a timestamp.
 //! let untold = station::time_of(&image, &kinds, &ledger, 1);
 //! assert_eq!(untold, Err(Refusal::BadTimestamp));
+//!
+//! // A closing needs 257 sectors, and links as usual.
+//! let extent = Extent { length: 16 * SECTOR as u32, location: 32 };
+//! let closed = station::close_session(&mut image, &mut kinds, &mut ledger, extent, extent, 300);
+//! assert_eq!(closed, Err(Refusal::NoRoom));
+//! assert!(!station::is_closed(&image, &kinds)?);
 //! # Ok::<(), Refusal>(())
 //! ```
 //!
@@ -73,22 +81,25 @@
 #![deny(unsafe_code)]
 #![warn(missing_docs)]
 
+mod closing;
 #[allow(unsafe_code)]
 mod ffi;
 mod recorded;
 mod refusal;
 mod timestamp;
 
+pub use closing::{close_session, is_closed, Extent};
 pub use recorded::{recorded, recorded_since, Sector};
 pub use refusal::Refusal;
 pub use timestamp::{SaveTime, Timestamp};
 
-/// The ten calls with the two numbers as the core answers them: outcome ×
+/// The eleven calls with the two numbers as the core answers them: outcome ×
 /// 4,294,967,296 + second number. Outcome 0 is done, else it is the number of a
 /// [`Refusal`], and the second number is 0.
 pub mod raw {
     pub use crate::ffi::{
-        begin, close_packet, commit, commit_at, look_back, mount, read, release, time_of, write,
+        begin, close_packet, close_session, commit, commit_at, look_back, mount, read, release,
+        time_of, write,
     };
 }
 
@@ -142,8 +153,9 @@ pub fn mount(image: &[u8], kinds: &[u8], ledger: &mut [u8]) -> Result<bool, Refu
 ///
 /// # Errors
 ///
-/// 1, 2, 3, 4, 5, 13, 12, 14 and 15: a v at or above 458 gives 13, even above
-/// size.
+/// 1, 2, 3, 4, 5, 17, 13, 12, 14 and 15: a v at or above 458 gives 13, even above
+/// size. On discs of 1,000 sectors or more a write leaves 264 blank sectors, room
+/// for links and a closing, and on others 8.
 pub fn write(
     image: &mut [u8],
     kinds: &mut [u8],
@@ -158,7 +170,7 @@ pub fn write(
 ///
 /// # Errors
 ///
-/// 1, 2, 3, 4, 5 and 10.
+/// 1, 2, 3, 4, 5, 17 and 10.
 pub fn release(image: &[u8], kinds: &[u8], ledger: &mut [u8], v: u32) -> Result<(), Refusal> {
     done(raw::release(image, kinds, ledger, v))
 }
@@ -168,7 +180,7 @@ pub fn release(image: &[u8], kinds: &[u8], ledger: &mut [u8], v: u32) -> Result<
 ///
 /// # Errors
 ///
-/// 1, 2, 3, 4 and 5.
+/// 1, 2, 3, 4, 5 and 17.
 pub fn close_packet(image: &[u8], kinds: &[u8], ledger: &mut [u8]) -> Result<(), Refusal> {
     done(raw::close_packet(image, kinds, ledger))
 }
@@ -179,7 +191,7 @@ pub fn close_packet(image: &[u8], kinds: &[u8], ledger: &mut [u8]) -> Result<(),
 ///
 /// # Errors
 ///
-/// 1, 2, 3, 4, 5 and 14.
+/// 1, 2, 3, 4, 5, 17 and 14.
 pub fn commit(image: &mut [u8], kinds: &mut [u8], ledger: &mut [u8]) -> Result<u32, Refusal> {
     second(raw::commit(image, kinds, ledger))
 }
@@ -190,7 +202,7 @@ pub fn commit(image: &mut [u8], kinds: &mut [u8], ledger: &mut [u8]) -> Result<u
 ///
 /// # Errors
 ///
-/// 1, 2, 3, 4, 5, 16 and 14.
+/// 1, 2, 3, 4, 5, 17, 16 and 14.
 pub fn commit_at(
     image: &mut [u8],
     kinds: &mut [u8],

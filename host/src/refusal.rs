@@ -23,8 +23,8 @@ pub enum Refusal {
     /// neither FFFFFFFF nor a table sector; mode is above 2; or mode is 1 where
     /// the last recorded sector is missing or not kind 1.
     LedgerUnfit = 4,
-    /// 5, the operator: write, release, close packet or either form of commit
-    /// with mode 2.
+    /// 5, the operator: write, release, close packet, either form of commit or
+    /// closing the session with mode 2.
     ReadOnly = 5,
     /// 6, the disc: begin, and a table sector exists.
     VatExists = 6,
@@ -44,19 +44,29 @@ pub enum Refusal {
     AboveSize = 12,
     /// 13, the operator: write of v at or above 458.
     AboveLimit = 13,
-    /// 14, the recording: no room. Write needs links + 1 + 8 blank sectors,
-    /// either form of commit links + 1.
+    /// 14, the recording: no room. Write needs links + 1 + 8 blank sectors, on
+    /// discs of 1,000 sectors or more links + 1 + 264; either form of commit needs
+    /// links + 1, and closing the session links + 257.
     NoRoom = 14,
     /// 15, the recording: the lent block would be a table sector at the block
-    /// it is about to take.
+    /// it is about to take, or has the tag of a closing's pointer there: tag
+    /// identifier 2, a right tag checksum and a tag location from that block to
+    /// that block + 400,000.
     WouldBeVat = 15,
     /// 16, the operator on a commit, the disc when asking: a timestamp given or
     /// found breaks the limits that [`Timestamp`](crate::Timestamp) names.
     BadTimestamp = 16,
+    /// 17, the disc: write, release, close packet, either form of commit or
+    /// closing the session on a closed disc. [`is_closed`](crate::is_closed) says
+    /// what that is.
+    SessionClosed = 17,
+    /// 18, the operator: closing the session, and the partition start exceeds
+    /// 400,000.
+    PartitionStart = 18,
 }
 
 /// Each refusal at the place of its number less one.
-const ALL: [Refusal; 16] = [
+const ALL: [Refusal; 18] = [
     Refusal::DiscSize,
     Refusal::LentLength,
     Refusal::DiscUnsound,
@@ -73,10 +83,12 @@ const ALL: [Refusal; 16] = [
     Refusal::NoRoom,
     Refusal::WouldBeVat,
     Refusal::BadTimestamp,
+    Refusal::SessionClosed,
+    Refusal::PartitionStart,
 ];
 
 impl Refusal {
-    /// Its number in documents 01 and 02, 1 to 16.
+    /// Its number in documents 01 and 02, 1 to 18.
     pub const fn number(self) -> u32 {
         self as u32
     }
@@ -103,7 +115,8 @@ impl Refusal {
             Refusal::DiscUnsound => "a kind above 3, or a recorded sector after a blank one",
             Refusal::LedgerUnfit => "the ledger does not fit",
             Refusal::ReadOnly => {
-                "write, release, close packet or either form of commit with mode 2"
+                "write, release, close packet, either form of commit or closing the session \
+                 with mode 2"
             }
             Refusal::VatExists => "begin, and a table sector exists",
             Refusal::NoVat => "mount, look back or asking for a time, and no table sector exists",
@@ -115,9 +128,15 @@ impl Refusal {
             Refusal::AboveLimit => "write of v at or above 458",
             Refusal::NoRoom => "no room",
             Refusal::WouldBeVat => {
-                "the lent block would be a table sector at the block it is about to take"
+                "the lent block would be a table sector at the block it is about to take, \
+                 or has the tag of a closing's pointer there"
             }
             Refusal::BadTimestamp => "a timestamp given or found breaks the limits",
+            Refusal::SessionClosed => {
+                "write, release, close packet, either form of commit or closing the session \
+                 on a closed disc"
+            }
+            Refusal::PartitionStart => "the partition start exceeds 400,000",
         }
     }
 }
@@ -136,7 +155,7 @@ mod tests {
 
     #[test]
     fn each_number_is_its_own_refusal() {
-        for number in 1..=16 {
+        for number in 1..=18 {
             let refusal = Refusal::of(number);
             assert_eq!(refusal.number(), number);
             assert!(refusal
@@ -146,8 +165,8 @@ mod tests {
     }
 
     #[test]
-    #[should_panic(expected = "outcome 17")]
-    fn no_refusal_beyond_16() {
-        Refusal::of(17);
+    #[should_panic(expected = "outcome 19")]
+    fn no_refusal_beyond_18() {
+        Refusal::of(19);
     }
 }

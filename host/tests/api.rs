@@ -3,12 +3,15 @@
 
 mod common;
 
+use common::closing::disc_of_closings;
 use common::core::Core;
 use common::forge;
 use common::random::{cases, Random};
 use common::station::Station;
-use station::Refusal;
+use station::{Extent, Refusal};
+use station_model::anchor::{self, Anchor};
 use station_model::calls::Call;
+use station_model::disc::Disc;
 use station_model::table::SECTOR;
 
 /// The typed call; what it gives as a number, as document 01 has it, and a time
@@ -26,6 +29,14 @@ fn typed(core: &mut Core, call: Call, buffer: &mut [u8]) -> Result<u32, Refusal>
         Call::CommitAt => station::commit_at(image, kinds, ledger, buffer),
         Call::Read(v) => station::read(image, kinds, ledger, v, buffer).map(|()| 0),
         Call::LookBack(k) => station::look_back(image, kinds, ledger, k),
+        Call::CloseSession(Anchor {
+            main,
+            reserve,
+            partition_start,
+        }) => {
+            let (main, reserve) = (extent(main), extent(reserve));
+            station::close_session(image, kinds, ledger, main, reserve, partition_start)
+        }
         Call::TimeOf(k) => {
             let told = station::time_of(image, kinds, ledger, k)?;
             let marked = u32::from(!told.zone_given);
@@ -33,6 +44,13 @@ fn typed(core: &mut Core, call: Call, buffer: &mut [u8]) -> Result<u32, Refusal>
             buffer.copy_from_slice(&answer.concat());
             Ok(0)
         }
+    }
+}
+
+fn extent(extent: anchor::Extent) -> Extent {
+    Extent {
+        length: extent.length,
+        location: extent.location,
     }
 }
 
@@ -47,8 +65,10 @@ fn packed(answer: Result<u32, Refusal>) -> u64 {
 fn any_station(random: &mut Random) -> Station {
     let sectors = 1 + random.below(20);
     let mut station = forge::used_disc_with_vats(random, sectors);
-    if random.one_in(3) {
-        station = Station::blank(sectors);
+    match random.below(24) {
+        0..=7 => station = Station::blank(sectors),
+        8 => station = disc_of_closings(random),
+        _ => {}
     }
     let fitting = forge::fitting(random, &station.disc()).to_bytes();
     station.ledger = forge::spoiled(random, &fitting);
@@ -66,7 +86,7 @@ fn any_station(random: &mut Random) -> Station {
 
 #[test]
 fn typed_answers_are_the_raw_ones() {
-    let mut met = [false; 17];
+    let mut met = [false; 19];
     let all = cases(40_000);
     let whole = all.len() > 1;
     for case in all {
@@ -84,6 +104,34 @@ fn typed_answers_are_the_raw_ones() {
         met[(raw >> 32) as usize] = true;
     }
     assert!(!whole || met.iter().all(|met| *met), "{met:?}");
+}
+
+/// Whether a disc is closed, of discs of every kind; 1 and 3 are passed on.
+#[test]
+fn closed_as_the_model_says() {
+    let mut met = [0; 2];
+    let all = cases(4_000);
+    let whole = all.len() > 1;
+    for case in all {
+        let mut random = Random::of_case(case);
+        let mut station = any_station(&mut random);
+        if random.one_in(3) {
+            station = disc_of_closings(&mut random);
+        }
+        let closed = Disc::lent(&station.image, &station.kinds)
+            .map_err(|_| Refusal::DiscSize)
+            .and_then(|disc| match disc.is_sound() {
+                true => Ok(disc.is_closed()),
+                false => Err(Refusal::DiscUnsound),
+            });
+        let answer = station::is_closed(&station.image, &station.kinds);
+        assert_eq!(answer, closed, "case {case}");
+        if let Ok(closed) = closed {
+            met[usize::from(closed)] += 1;
+        }
+    }
+    println!("{met:?} discs open and closed");
+    assert!(!whole || met.iter().all(|count| *count > 100), "{met:?}");
 }
 
 /// The text tells number and cause; a refusal is an error like others.

@@ -4,7 +4,10 @@
 
 mod common;
 
+use std::collections::BTreeMap;
+
 use common::built::{fourth, BLOCK};
+use common::closing::{disc_with_room, CLOSE};
 use common::core::Core;
 use common::forge;
 use common::random::{cases, Random};
@@ -49,6 +52,7 @@ fn calls_that_record_nothing() {
         Call::LookBack(0),
         Call::Commit,
         Call::CommitAt,
+        CLOSE,
         Call::TimeOf(0),
         Call::Mount,
         Call::Release(0),
@@ -79,6 +83,18 @@ fn a_write_and_a_commit_behind_links() {
     );
     assert_eq!(station.commit_at(&HALF_PAST), done(10));
     assert_eq!(since(&station, 10), [data(&station, 10)]);
+}
+
+/// A closing is burned as one list: links, the pointer, zeros and the table.
+#[test]
+fn a_closing_behind_links() {
+    let mut station = Station::begun(300);
+    assert_eq!(station.write(0, &BLOCK), done(0));
+    assert_eq!(station.call(Call::ClosePacket), done(0));
+    assert_eq!(station.call(CLOSE), done(264));
+    let links: Vec<Sector> = (1..8).map(link).collect();
+    let rest: Vec<Sector> = (8..=264).map(|block| data(&station, block)).collect();
+    assert_eq!(since(&station, 1), [links, rest].concat());
 }
 
 /// Lengths that do not match, a count beyond what is recorded, a full disc, and
@@ -135,28 +151,31 @@ fn burn(medium: &mut Core, working: &Core) -> usize {
 /// Lists of random calls, done and refused, on random discs.
 #[test]
 fn what_is_burned_is_what_was_recorded() {
-    let (mut alone, mut behind_links) = (0, 0);
+    let mut met = BTreeMap::new();
     let all = cases(2_000);
     let whole = all.len() > 1;
     for case in all {
         let mut random = Random::of_case(case);
-        let mut working = Core::holding(&forge::disc_without_vat(&mut random), case);
+        let disc = match random.below(5) {
+            0 => disc_with_room(&mut random),
+            _ => forge::disc_without_vat(&mut random),
+        };
+        let mut working = Core::holding(&disc, case);
         let mut medium = working.clone();
-        working.call(Call::Begin);
+        if !working.call(Call::Begin).is_done() {
+            working.call(Call::Mount);
+        }
         for _ in 0..40 {
             let call = forge::call(&mut random, forge::size_in(&working.ledger), 3);
             let recorded = recorded(&working.kinds) as u32;
             let mut buffer = forge::buffer(&mut random, call, &working.image, recorded);
             working.call_lent(call, &mut buffer);
-            match burn(&mut medium, &working) {
-                0 => {}
-                1 => alone += 1,
-                8 => behind_links += 1,
-                sectors => panic!("{sectors} sectors of {call:?}, case {case}"),
-            }
+            *met.entry(burn(&mut medium, &working)).or_default() += 1;
             assert!(same_disc(&medium, &working), "{call:?}, case {case}");
         }
     }
-    println!("{alone} sectors burned alone, {behind_links} behind links");
-    assert!(!whole || (alone > 100 && behind_links > 100));
+    println!("how often so many sectors were burned: {met:?}");
+    let expected: &[usize] = &[0, 1, 8, 257, 264];
+    assert!(met.keys().all(|sectors| expected.contains(sectors)));
+    assert!(!whole || expected.iter().all(|sectors| met.get(sectors) > Some(&10)));
 }

@@ -4,12 +4,17 @@
 //! What a cut call would have recorded is what the core records when the same
 //! call is made whole on a copy. The model's calls have no part in this test.
 //!
+//! After each event the disc is closed or not, as document 02 defines it; and where
+//! no sector has a pointer's tag at the start, only a closing that was done, or cut
+//! behind its last sector, closes it.
+//!
 //! STATION_SEED names another seed. On a difference the seed and the list of
 //! events are printed.
 
 mod common;
 
 use common::agreement::compare;
+use common::closing::{anchor, cuts, disc_of_closings, disc_with_room, has_pointer, CLOSING};
 use common::core::{Core, Short};
 use common::forge;
 use common::random::{seed, Random};
@@ -23,7 +28,7 @@ use station_model::table::SECTOR;
 use station_model::time::STAMP;
 
 /// Events of lists to compare, without the cuts tried beside them.
-const EVENTS: usize = 25_000;
+const EVENTS: usize = 40_000;
 
 /// A call about to be made, with the block, timestamp or answer that it is lent;
 /// the host lends some calls too little, or such a buffer of another length.
@@ -37,11 +42,6 @@ impl Attempt {
     /// "a write's lent block", or a commit's timestamp.
     fn written(&self) -> Option<&[u8]> {
         matches!(self.call, Call::Write(_) | Call::CommitAt).then_some(&self.buffer)
-    }
-
-    /// Both forms of commit record a table sector, as their last.
-    fn records_vat(&self) -> bool {
-        matches!(self.call, Call::Commit | Call::CommitAt)
     }
 
     /// "until a begin, mount or look back is done, only these three [...] follow"
@@ -79,6 +79,9 @@ struct List {
     history: History,
     /// "The ledger is lost": since a cut none of the three was done.
     lost: bool,
+    /// Whether a closing has closed the disc; unknown where a sector had a
+    /// pointer's tag at the start.
+    closed: Option<bool>,
     events: Vec<String>,
 }
 
@@ -96,10 +99,12 @@ impl List {
         assert_eq!(answer.outcome, 0, "a list starts with {call:?}");
         let kinds: String = core.kinds.iter().map(u8::to_string).collect();
         let events = vec![format!("disc of kinds {kinds}, {call:?}: {answer:?}")];
+        let closed = (!has_pointer(&core.disc())).then_some(false);
         List {
             core,
             history,
             lost: false,
+            closed,
             events,
         }
     }
@@ -122,14 +127,30 @@ impl List {
             tally.beside += self.try_each_cut(&attempt, &made, random)?;
         }
         if random.one_in(if made.sectors > 1 { 3 } else { 10 }) {
-            let j = random.below(made.sectors + 1);
-            tally.cut(attempt.call, j);
+            let cuts = cuts(made.sectors, random);
+            let j = random.pick(&cuts);
+            tally.cut(attempt.call, made.sectors, j);
             self.cut(&attempt, &made, j, random);
         } else {
             tally.answered(attempt.call, made.answer);
             self.take(&attempt, made)?;
         }
-        compare(&self.core, &self.history, random)
+        self.agrees(random)
+    }
+
+    /// Agrees with the book, and is closed or not as it must be.
+    fn agrees(&self, random: &mut Random) -> Result<(), String> {
+        compare(&self.core, &self.history, random)?;
+        let Core { image, kinds, .. } = &self.core;
+        let told = station::is_closed(image, kinds);
+        let closed = self.core.disc().is_closed();
+        if told != Ok(closed) || self.closed.is_some_and(|known| known != closed) {
+            let known = self.closed;
+            return Err(format!(
+                "is closed: {told:?}; its sectors: {closed}; known: {known:?}"
+            ));
+        }
+        Ok(())
     }
 
     /// A random call, with numbers near those that mean something.
@@ -158,7 +179,11 @@ impl List {
         let page = self.history.draft.as_ref().or(self.history.page_back(0));
         let size = page.map_or(0, |page| page.size() as usize);
         let pages = self.history.pages.len();
-        match random.below(34) {
+        // Few discs have room for a closing, so it comes soon on these.
+        if self.core.disc().blank() as usize >= CLOSING && random.one_in(8) {
+            return Call::CloseSession(anchor(random));
+        }
+        match random.below(35) {
             0 => Call::Begin,
             1 => Call::Mount,
             2..=12 => Call::Write(number(random, size)),
@@ -168,6 +193,7 @@ impl List {
             23..=27 => Call::CommitAt,
             28..=29 => Call::Read(number(random, size)),
             30..=31 => Call::TimeOf(number(random, pages)),
+            32 => Call::CloseSession(anchor(random)),
             _ => Call::LookBack(number(random, pages)),
         }
     }
@@ -207,47 +233,57 @@ impl List {
             return Err("the ledger's recorded is not the disc's".into());
         }
         let changes_draft = matches!(attempt.call, Call::Write(_) | Call::Release(_));
-        let on_draft = changes_draft || attempt.records_vat();
+        let on_draft = changes_draft || attempt.call.is_commit();
         if on_draft && self.history.draft.is_none() {
             return Err("done, and the book has no draft".into());
         }
         Ok(())
     }
 
-    /// Cuts the call after j of its sectors. A commit's table sector is its
-    /// last, so it was kept if the commit has sectors and all were kept.
+    /// Cuts the call after j of its sectors. The table sector of a commit or a
+    /// closing is its last, so it was kept if it has sectors and all were kept.
     fn cut(&mut self, attempt: &Attempt, made: &Made, j: usize, random: &mut Random) {
         let (told, torn) = torn_bytes(random, made, j);
         let cut = format!("cut after {j} of {}, {told}", made.sectors);
         self.note(attempt, cut);
         self.core.cut(&made.after, j, torn.as_ref());
-        let vat_kept = attempt.records_vat() && made.sectors > 0 && j == made.sectors;
+        let vat_kept = attempt.call.is_commit() && made.sectors > 0 && j == made.sectors;
         self.feed(attempt, Ending::Cut { vat_kept });
         self.lost = true;
     }
 
-    /// Cuts the call after each j beside the list, which goes on without it.
+    /// Cuts the call beside the list, which goes on without it.
     fn try_each_cut(
         &self,
         attempt: &Attempt,
         made: &Made,
         random: &mut Random,
     ) -> Result<usize, String> {
-        for j in 0..=made.sectors {
+        let cuts = cuts(made.sectors, random);
+        for j in &cuts {
             let mut branch = List {
                 core: self.core.clone(),
                 history: self.history.clone(),
                 lost: self.lost,
+                closed: self.closed,
                 events: Vec::new(),
             };
-            branch.cut(attempt, made, j, random);
-            compare(&branch.core, &branch.history, random)
+            branch.cut(attempt, made, *j, random);
+            branch
+                .agrees(random)
                 .map_err(|found| format!("beside the list, {}: {found}", branch.events[0]))?;
         }
-        Ok(made.sectors + 1)
+        Ok(cuts.len())
     }
 
     fn feed(&mut self, attempt: &Attempt, ending: Ending) {
+        let saved = match ending {
+            Ending::Answered(answer) => answer.is_done(),
+            Ending::Cut { vat_kept } => vat_kept,
+        };
+        if saved && matches!(attempt.call, Call::CloseSession(_)) {
+            self.closed = Some(true);
+        }
         self.history.feed(&Fed {
             call: attempt.call,
             written: attempt.written(),
@@ -307,7 +343,7 @@ fn torn_bytes(random: &mut Random, made: &Made, j: usize) -> (&'static str, Opti
 /// A disc for the next list: new, with forged tables, or the one that the list
 /// before has left.
 fn next_disc(before: Option<List>, random: &mut Random) -> Station {
-    match (random.below(8), before) {
+    match (random.below(10), before) {
         (0..=2, Some(list)) => Station {
             image: list.core.image.to_vec(),
             kinds: list.core.kinds.to_vec(),
@@ -315,6 +351,8 @@ fn next_disc(before: Option<List>, random: &mut Random) -> Station {
         },
         (3..=4, _) => forge::disc_with_vats(random),
         (5, _) => Station::blank(60),
+        (6, _) => disc_with_room(random),
+        (7, _) => disc_of_closings(random),
         _ => forge::disc_without_vat(random),
     }
 }
@@ -326,11 +364,12 @@ fn steps(list: &List, random: &mut Random) -> usize {
     1 + random.below(if size > 100 { 10 } else { 50 })
 }
 
-/// Makes the events of a list. A full disc soon shows nothing new.
+/// Makes the events of a list. A full or closed disc soon shows nothing new.
 fn run(list: &mut List, random: &mut Random, tally: &mut Tally) -> Result<(), String> {
-    compare(&list.core, &list.history, random)?;
+    list.agrees(random)?;
     for _ in 0..steps(list, random) {
-        if list.core.disc().blank() == 0 && random.one_in(3) {
+        let disc = list.core.disc();
+        if (disc.blank() == 0 || disc.is_closed()) && random.one_in(3) {
             break;
         }
         list.step(random, tally)?;

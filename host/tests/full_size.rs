@@ -10,11 +10,13 @@ mod common;
 use std::thread;
 
 use common::built::fourth;
+use common::closing::{starting, CLOSE};
 use common::core::{unpacked, Core, Short};
 use common::forge::vat_behind;
 use common::guarded::Guarded;
 use common::stamps::HALF_PAST;
 use common::station::{done, refused};
+use station_model::anchor::pointer_sector;
 use station_model::answer::{Answer, Refusal};
 use station_model::calls::{effect, Call, Effect, Lent};
 use station_model::disc::{Sector, DATA, LINK, MOST_SECTORS, UNREADABLE};
@@ -149,7 +151,7 @@ fn one_sector_too_many(disc: &mut FullSize) {
     }
 }
 
-fn every_call() -> [Call; 10] {
+fn every_call() -> [Call; 11] {
     [
         Call::Begin,
         Call::Mount,
@@ -161,6 +163,7 @@ fn every_call() -> [Call; 10] {
         Call::Read(0),
         Call::LookBack(0),
         Call::TimeOf(0),
+        CLOSE,
     ]
 }
 
@@ -177,25 +180,56 @@ fn recorded_at_the_start(disc: &mut FullSize) {
     assert_eq!(disc.call(Call::Begin), refused(6));
 }
 
-/// Data up to the sixteenth sector before the end: room for seven links, a
-/// write and its reserve, and for no second write.
+/// Data up to the 272nd sector before the end: room for seven links, a write and
+/// its reserve of 264, and for no second write.
 fn recorded_at_the_end(disc: &mut FullSize) {
-    disc.kinds()[2..MOST_SECTORS - 16].fill(DATA);
+    disc.kinds()[2..MOST_SECTORS - 272].fill(DATA);
     assert_eq!(disc.call(Call::Mount), done(0));
     assert_eq!(disc.call(Call::LookBack(0)), done(1));
     assert_eq!(disc.call(Call::Mount), done(0));
-    assert_eq!(disc.call(Call::Write(1)), done(SECTORS - 9));
+    assert_eq!(disc.call(Call::Write(1)), done(SECTORS - 265));
     assert_eq!(disc.call(Call::Write(2)), refused(14));
     assert_eq!(disc.call(Call::Release(0)), done(0));
     assert_eq!(disc.call(Call::Read(1)), done(0));
-    assert_eq!(disc.call(Call::CommitAt), done(SECTORS - 8));
-    assert_eq!(disc.call(Call::ClosePacket), done(0));
-    assert_eq!(disc.call(Call::Commit), refused(14));
-    assert_eq!(disc.call(Call::CommitAt), refused(14));
+    assert_eq!(disc.call(Call::CommitAt), done(SECTORS - 264));
     assert_eq!(disc.call(Call::Mount), done(1));
     assert_eq!(disc.call(Call::LookBack(1)), done(1));
     assert_eq!(disc.call(Call::TimeOf(0)), done(0));
     assert_eq!(disc.call(Call::TimeOf(1)), refused(16));
+}
+
+/// A closing on the 263 sectors that are left, with the highest start: without links
+/// it ends with the seventh sector before the end.
+fn closed_at_the_end(disc: &mut FullSize) {
+    assert_eq!(disc.call(Call::Mount), done(1));
+    assert_eq!(disc.call(CLOSE), refused(14));
+    disc.lend_ledger(|volume| volume.mode = 1);
+    let close = Call::CloseSession(starting(400_000));
+    assert_eq!(disc.call(close), done(SECTORS - 7));
+    for call in every_call().into_iter().filter(|call| call.is_commit()) {
+        assert_eq!(disc.call(call), refused(17));
+    }
+    assert_eq!(disc.call(Call::Write(0)), refused(17));
+    assert_eq!(disc.call(Call::Release(1)), refused(17));
+    assert_eq!(disc.call(Call::ClosePacket), refused(17));
+    assert_eq!(disc.call(Call::Begin), refused(6));
+    assert_eq!(disc.call(Call::Read(1)), done(0));
+    assert_eq!(disc.call(Call::TimeOf(0)), refused(16));
+    assert_eq!(disc.call(Call::TimeOf(1)), done(0));
+    assert_eq!(disc.call(Call::LookBack(1)), done(SECTORS - 264));
+    assert_eq!(disc.call(Call::Mount), done(1));
+}
+
+/// The closing's table cannot be read: the disc is not closed, and seven sectors
+/// are no room for links and a table.
+fn full_but_for_seven(disc: &mut FullSize) {
+    disc.kinds()[MOST_SECTORS - 7] = UNREADABLE;
+    disc.kinds()[MOST_SECTORS - 6..].fill(0);
+    assert_eq!(disc.call(Call::Mount), done(0));
+    assert_eq!(disc.call(Call::ClosePacket), done(0));
+    assert_eq!(disc.call(Call::Commit), refused(14));
+    assert_eq!(disc.call(Call::CommitAt), refused(14));
+    assert_eq!(disc.call(CLOSE), refused(14));
 }
 
 /// A kind above 3 in the last sector, and a gap before it.
@@ -229,6 +263,7 @@ fn chain(disc: &mut FullSize) {
     assert_eq!(disc.call(Call::Write(0)), refused(14));
     assert_eq!(disc.call(Call::Commit), refused(14));
     assert_eq!(disc.call(Call::CommitAt), refused(14));
+    assert_eq!(disc.call(CLOSE), refused(14));
     assert_eq!(disc.call(Call::Release(0)), refused(10));
     assert_eq!(disc.call(Call::Read(0)), refused(10));
     assert_eq!(disc.call(Call::ClosePacket), done(0));
@@ -273,12 +308,18 @@ fn a_disc_of_360_000_sectors() {
     one_sector_too_many(&mut disc);
     recorded_at_the_start(&mut disc);
     recorded_at_the_end(&mut disc);
+    closed_at_the_end(&mut disc);
+    full_but_for_seven(&mut disc);
     broken_at_the_end(&mut disc);
     disc.compare_image(|block| match block {
         0 => [0x5A; SECTOR],
         1 => vat_sector(1, &[0], NONE),
-        _ if block == SECTORS - 9 => [0x5A; SECTOR],
-        _ if block == SECTORS - 8 => stamped_vat_sector(block, &[NONE, SECTORS - 9], 1, &HALF_PAST),
+        _ if block == SECTORS - 265 => [0x5A; SECTOR],
+        _ if block == SECTORS - 264 => {
+            stamped_vat_sector(block, &[NONE, SECTORS - 265], 1, &HALF_PAST)
+        }
+        _ if block == SECTORS - 263 => pointer_sector(block, &starting(400_000)),
+        _ if block == SECTORS - 7 => vat_sector(block, &[NONE, SECTORS - 265], SECTORS - 264),
         _ => [0; SECTOR],
     });
     chain(&mut disc);

@@ -9,7 +9,7 @@ use station::Refusal;
 /// The folder of the archive that this package links.
 const ARCHIVE: &str = env!("STATION_ARCHIVE_FOLDER");
 
-const REFUSALS: [Refusal; 16] = [
+const REFUSALS: [Refusal; 18] = [
     Refusal::DiscSize,
     Refusal::LentLength,
     Refusal::DiscUnsound,
@@ -26,6 +26,8 @@ const REFUSALS: [Refusal; 16] = [
     Refusal::NoRoom,
     Refusal::WouldBeVat,
     Refusal::BadTimestamp,
+    Refusal::SessionClosed,
+    Refusal::PartitionStart,
 ];
 
 fn package() -> &'static Path {
@@ -66,7 +68,7 @@ fn a_c_program_records_and_mounts() {
     let said = run(&mut Command::new(program));
     assert_eq!(
         said,
-        "recorded, mounted, read, looked back and told the times\n"
+        "recorded, mounted, read, looked back, told the times and closed\n"
     );
 }
 

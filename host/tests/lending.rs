@@ -5,6 +5,7 @@
 mod common;
 
 use common::built::{fourth, saved, saved_at};
+use common::closing::CLOSE;
 use common::pair::{tell_compared, Pair};
 use common::station::{refused, Station};
 use station_model::calls::Call;
@@ -22,7 +23,7 @@ fn resized(bytes: &[u8], length: usize) -> Vec<u8> {
     resized
 }
 
-const CALLS: [Call; 10] = [
+const CALLS: [Call; 11] = [
     Call::Begin,
     Call::Mount,
     Call::Write(0),
@@ -33,9 +34,10 @@ const CALLS: [Call; 10] = [
     Call::Read(0),
     Call::LookBack(0),
     Call::TimeOf(0),
+    CLOSE,
 ];
 
-/// All ten calls with the station's buffers at each length; a kind that no
+/// All eleven calls with the station's buffers at each length; a kind that no
 /// disc has, or a spoiled ledger, shows that the refusal tested first is given.
 fn at_each_length(station: &Station) {
     for image in lengths(station.image.len()) {

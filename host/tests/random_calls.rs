@@ -5,6 +5,7 @@
 
 mod common;
 
+use common::closing::disc_of_closings;
 use common::forge;
 use common::pair::Pair;
 use common::random::{cases, Random};
@@ -15,8 +16,14 @@ use station_model::ledger::{LEDGER, READ_ONLY};
 use station_model::table::SECTOR;
 
 /// A disc of a few sectors, so that comparing it is cheap: blank, used, with
-/// tables, or with chains of them.
+/// tables, or with chains of them; rarely a larger one, that has room for a closing
+/// or is closed.
 fn small_disc(random: &mut Random) -> Station {
+    if random.one_in(24) {
+        let mut station = disc_of_closings(random);
+        random.fill(&mut station.ledger);
+        return station;
+    }
     let sectors = match random.below(8) {
         0 => 1 + random.below(12),
         1 => 50 + random.below(14),
@@ -177,7 +184,7 @@ fn lists_of_calls() {
     run(
         20_000,
         list,
-        &[0, 3, 4, 5, 6, 7, 8, 9, 10, 11, 12, 13, 14, 15, 16],
+        &[0, 3, 4, 5, 6, 7, 8, 9, 10, 11, 12, 13, 14, 15, 16, 17, 18],
     );
 }
 
@@ -186,7 +193,7 @@ fn calls_with_any_ledgers() {
     run(
         20_000,
         any_ledgers,
-        &[0, 4, 5, 6, 7, 8, 9, 10, 11, 12, 13, 14, 15, 16],
+        &[0, 4, 5, 6, 7, 8, 9, 10, 11, 12, 13, 14, 15, 16, 17, 18],
     );
 }
 

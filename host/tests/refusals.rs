@@ -6,6 +6,7 @@
 mod common;
 
 use common::built::{saved, saved_at, BLOCK};
+use common::closing::{starting, CLOSE};
 use common::pair::tell_compared;
 use common::random::{seed, Random};
 use common::stamps::{ANSWER, HALF_PAST};
@@ -213,6 +214,59 @@ fn time_of() {
     assert_eq!(asked(&station, NONE), 7);
     earlier_refusals_win(station, Call::TimeOf(0), &ANSWER);
     tell_compared("time_of");
+}
+
+/// 18 is "tested directly after 17" (document 02), and so before 14.
+#[test]
+fn close_session() {
+    let close = |start| Call::CloseSession(starting(start));
+    let mut station = saved(259);
+    assert_eq!(outcome(&station, close(400_000), &[]), 0);
+    assert_eq!(outcome(&station, close(400_001), &[]), 18);
+    assert_eq!(station.write(1, &BLOCK), done(2));
+    assert_eq!(outcome(&station, close(400_000), &[]), 14);
+    assert_eq!(outcome(&station, close(400_001), &[]), 18);
+    assert_eq!(outcome(&station, close(NONE), &[]), 18);
+    earlier_refusals_win(station.clone(), close(400_000), &[]);
+    earlier_refusals_win(station, close(400_001), &[]);
+    tell_compared("close_session");
+}
+
+/// 17 is "tested directly after 5" (document 02): on a disc that is closed and full
+/// it comes before all that follows 5, and 5, 4, 3, 2 and 1 come before it.
+#[test]
+fn closed_disc() {
+    let mut station = saved(259);
+    assert_eq!(station.call(CLOSE), done(258));
+    let table = vat_sector(259, &[], NONE);
+    for (call, buffer) in [
+        (Call::Write(0), &BLOCK[..]),
+        (Call::Write(0), &table),
+        (Call::Write(2), &table),
+        (Call::Write(500), &table),
+        (Call::Release(0), &[]),
+        (Call::Release(7), &[]),
+        (Call::ClosePacket, &[]),
+        (Call::Commit, &[]),
+        (Call::CommitAt, &HALF_PAST),
+        (Call::CommitAt, &NO_STAMP),
+        (CLOSE, &[]),
+        (Call::CloseSession(starting(400_001)), &[]),
+    ] {
+        assert_eq!(outcome(&station, call, buffer), 17, "{call:?}");
+        earlier_refusals_win(station.clone(), call, buffer);
+    }
+    for (call, buffer, expected) in [
+        (Call::Begin, &[][..], 6),
+        (Call::Mount, &[], 0),
+        (Call::Read(0), &BLOCK, 0),
+        (Call::Read(1), &BLOCK, 10),
+        (Call::LookBack(1), &[], 0),
+        (Call::TimeOf(0), &ANSWER, 16),
+    ] {
+        assert_eq!(outcome(&station, call, buffer), expected, "{call:?}");
+    }
+    tell_compared("closed_disc");
 }
 
 /// Refusal 4, clause by clause; each state next to it fits.

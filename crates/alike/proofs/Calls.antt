@@ -7,45 +7,50 @@ use mathlib.Core.Path.{_≡_, refl, ap, _∙_, subst, subst₂}
 use mathlib.Core.Bool.{Bool, true, not}
 use mathlib.Core.List.{List, [], _∷_, _++_}
 use mathlib.Core.Option.{Option, some}
-use lib.Dec.{eqb, ltb}
-use lib.ListN.{length, getD, length-take}
+use lib.Dec.{eqb, ltb, leb}
+use lib.ListN.{length, getD, replicate, length-take}
 use Rattle.timestamp.specs.Timestamp.{valid, told}
-use Rattle.vat.specs.Table.{sectorLength, unused}
-use Rattle.vat.specs.Sector.{sector}
+use Rattle.vat.specs.Table.{limit, unused}
+use Rattle.vat.specs.Sector.{noStamp, sector}
 use Rattle.vat.proofs.Theorems.{length-sector}
-use Rattle.disc.specs.Disc.{Disc, recorded, puts}
+use Rattle.anchor.specs.Anchor.{farthestStart}
+use Rattle.disc.specs.Disc.{Disc, recorded, Sector, link, puts}
 use Rattle.disc.specs.declared.Walk.{Walk}
 use Rattle.disc.specs.declared.Walk.the-variants.{Reached}
 use Rattle.disc.specs.Tables.{tableAt, mapAt, newest, blockFound}
-use Rattle.disc.proofs.Recording.{leading-le}
+use Rattle.disc.specs.Session.{closing, closingLength}
 use Rattle.disc.proofs.Found.{newest-table}
 use Rattle.volume.specs.declared.Volume.{Volume}
 use Rattle.volume.specs.Volume.{idle, readOnly, unpack, pack, mapOf, begun, filled}
-use Rattle.recorder.specs.Calls.{Call, begin, mount, write, release, closePacket, commit, read, lookBack, timeOf, bufferOf}
-use Rattle.recorder.specs.Refusals.{test, first, links, target, basic, ledgerLent, blockLent, stampLent, answerLent, unfit, forbidden, writeTests, commitTests, notInUse, isSome, walked, isBroken, isEnded, walkTests, tests, outcome}
-use Rattle.recorder.specs.Effects.{Effect, settles, blockReached, cleanNumber, stampOf, effect, settled, after, ifDone, sectorsIf, secondNumber, sectorsOf}
+use Rattle.recorder.specs.Calls.{Call, begin, mount, write, release, closePacket, commit, closeSession, read, lookBack, timeOf, stampBuffer, bufferOf}
+use Rattle.recorder.specs.Refusals.{test, first, links, target, reserve, basic, ledgerLent, blockLent, stampLent, answerLent, unfit, gate, forbiddenAt, stampWrong, noRoom, notInUse, isSome, walked, isBroken, isEnded, walkTests, tests, outcome}
+use Rattle.recorder.specs.Effects.{Effect, settles, blockReached, cleanNumber, stampOf, saved, effect, settled, after, ifDone, sectorsIf, secondNumber, sectorsOf}
 use Rattle.alike.specs.Alike.{Alike, SameCall, MeanNothing}
-use Rattle.recorder.proofs.Done.{CommitDone, mount-done, write-done, commit-done, look-back-done, read-done, links-few}
+use Rattle.recorder.proofs.Done.{SaveDone, mount-done, write-done, commit-done, closing-done, look-back-done, read-done}
 use Rattle.history.proofs.Steps.{walked-table}
-use Rattle.recorder.proofs.Sectors.{AllWhole, behind-whole}
-use Rattle.alike.proofs.Discs.{alike-puts, same-recorded, same-sized, same-order, same-blanks, same-kind, same-newest, same-map, same-walked, same-time, same-fits}
+use Rattle.recorder.proofs.Sectors.{AllWhole, links-whole, whole-append, behind-whole}
+use Rattle.alike.proofs.Discs.{alike-puts, same-recorded, same-sized, same-order, same-blanks, same-kind, same-newest, same-map, same-walked, same-time, same-fits, same-closed}
 
--- the table sector of a commit that is done fills its block
-saved-long : (d : Disc) (l : List ℕ) (stamp : Option (List ℕ)) → outcome d l (commit stamp) ≡ 0 → length (sector (mapOf (unpack l)) (unpack l .last) (stampOf stamp) (target (unpack l))) ≡ sectorLength
-saved-long d l stamp e =
+-- every sector of a save fills its block
+save-whole : (d : Disc) (l : List ℕ) (between : List Sector) (stamp buffer : List ℕ) → SaveDone d l between stamp → AllWhole (saved (unpack l) between stamp buffer .sectors)
+save-whole d l between stamp buffer f =
     let v : Volume = unpack l in
-    let f : CommitDone d l stamp = commit-done d l stamp e in
-    length-sector (mapOf v) (v .last) (stampOf stamp) (target v) (omega (arith, length-take (v .size) (v .entries), f .fit .few))
-    (omega (arith, f .fit .same-recorded, leading-le (d .kinds), f .sound-disc .few, links-few v)) (f .timely)
+    let b : ℕ = target v + length between in
+    let ss : List Sector = replicate (links v) link ++ between in
+    behind-whole ss (sector (mapOf v) (v .last) stamp b) (whole-append (replicate (links v) link) between (links-whole (links v)) (f .whole))
+    (length-sector (mapOf v) (v .last) stamp b (omega (arith, length-take (v .size) (v .entries), f .fit .few))
+    (omega (arith, f .room, f .fit .same-recorded, f .sound-disc .few)) (f .timely))
 
 pub effect-whole : (d : Disc) (l : List ℕ) (c : Call) → outcome d l c ≡ 0 → AllWhole (effect d l c .sectors)
 unfolding effect
 effect-whole d l begin e = tt
 effect-whole d l mount e = tt
-effect-whole d l (write n block) e = behind-whole (links (unpack l)) block (write-done d l n block e .block-long)
+effect-whole d l (write n block) e = behind-whole (replicate (links (unpack l)) link) block (links-whole (links (unpack l))) (write-done d l n block e .block-long)
 effect-whole d l (release n) e = tt
 effect-whole d l closePacket e = tt
-effect-whole d l (commit stamp) e = behind-whole (links (unpack l)) (sector (mapOf (unpack l)) (unpack l .last) (stampOf stamp) (target (unpack l))) (saved-long d l stamp e)
+effect-whole d l (commit stamp) e = save-whole d l [] (stampOf stamp) (stampBuffer stamp) (commit-done d l stamp e .saving)
+effect-whole d l (closeSession main reserve start) e =
+    save-whole d l (closing main reserve start (target (unpack l))) noStamp [] (closing-done d l main reserve start e .saving)
 effect-whole d l (read n block) e = tt
 effect-whole d l (lookBack k) e = tt
 effect-whole d l (timeOf k answer) e = tt
@@ -68,16 +73,30 @@ module _ {d e : Disc} (a : Alike d e) where
   same-walk : (k : ℕ) → walkTests d k ≡ walkTests e k
   same-walk k = λ i. test 7 (not (isSome (same-newest a i))) ∷ test 8 (isBroken (same-walked a k i)) ∷ test 9 (isEnded (same-walked a k i)) ∷ []
 
+  same-gate : (l : List ℕ) → gate d l ≡ gate e l
+  same-gate l = λ i. same-unfit l i ∷ test 5 (eqb (unpack l .mode) readOnly) ∷ test 17 (same-closed a i) ∷ []
+
+  same-room : (v : Volume) (between : ℕ) → noRoom d v between ≡ noRoom e v between
+  same-room v between = λ i. test 14 (ltb (same-blanks a i) (links v + between + 1))
+
   same-tests : (l : List ℕ) (c : Call) → tests d l c ≡ tests e l c
   unfolding tests
   same-tests l begin = λ i. same-basic (ledgerLent l) i ++ (test 6 (isSome (same-newest a i)) ∷ [])
   same-tests l mount = λ i. same-basic (ledgerLent l) i ++ (test 7 (not (isSome (same-newest a i))) ∷ [])
   same-tests l (write n block) = λ i.
-      same-basic (blockLent l block) i ++ (same-unfit l i ∷ forbidden l ∷ writeTests (same-blanks a i) (unpack l) n block)
-  same-tests l (release n) = λ i. same-basic (ledgerLent l) i ++ (same-unfit l i ∷ forbidden l ∷ test 10 (notInUse (unpack l) n) ∷ [])
-  same-tests l closePacket = λ i. same-basic (ledgerLent l) i ++ (same-unfit l i ∷ forbidden l ∷ [])
+      same-basic (blockLent l block) i
+      ++ (same-gate l i
+      ++ (test 13 (leb limit n)
+      ∷ test 12 (ltb (unpack l .size) n)
+      ∷ test 14 (ltb (same-blanks a i) (links (unpack l) + 1 + reserve (length (a .same-kinds i))))
+      ∷ test 15 (forbiddenAt (target (unpack l)) block)
+      ∷ []))
+  same-tests l (release n) = λ i. same-basic (ledgerLent l) i ++ (same-gate l i ++ (test 10 (notInUse (unpack l) n) ∷ []))
+  same-tests l closePacket = λ i. same-basic (ledgerLent l) i ++ same-gate l i
   same-tests l (commit stamp) = λ i.
-      same-basic (stampLent l stamp) i ++ (same-unfit l i ∷ forbidden l ∷ commitTests (same-blanks a i) (unpack l) stamp)
+      same-basic (stampLent l stamp) i ++ (same-gate l i ++ (test 16 (stampWrong stamp) ∷ same-room (unpack l) 0 i ∷ []))
+  same-tests l (closeSession main reserve start) = λ i.
+      same-basic (ledgerLent l) i ++ (same-gate l i ++ (test 18 (ltb farthestStart start) ∷ same-room (unpack l) closingLength i ∷ []))
   same-tests l (read n block) = λ i.
       same-basic (blockLent l block) i
       ++ (same-unfit l i
@@ -116,6 +135,7 @@ module _ {d e : Disc} (a : Alike d e) where
   same-effect l (release n) h = refl
   same-effect l closePacket h = refl
   same-effect l (commit stamp) h = refl
+  same-effect l (closeSession main reserve start) h = refl
   same-effect l (read n block) h = λ i.
       record {
         second = 0;

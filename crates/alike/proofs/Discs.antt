@@ -9,16 +9,21 @@ use mathlib.Core.List.{List, [], _∷_, _++_}
 use mathlib.Core.Option.{Option, none, some}
 use lib.Dec.{eqb, ltb, leb}
 use lib.ListN.{length, getD, take, drop, set, length-append, length-take, length-drop}
-use lib.Seq.{getD-set-other, take-at}
-use borrow.Author.Tests.{eqb-true, eqb-false}
+use lib.Seq.{getD-set-other, take-at, drop-cons}
+use borrow.Author.Tests.{eqb-true, eqb-false, leb-true}
+use Rattle.le.specs.Bytes.{every}
 use Rattle.le.proofs.Bytes.{part-take}
+use Rattle.le.proofs.Rows.{and-left}
 use Rattle.vat.specs.Table.{sectorLength, unused, entriesOf, previousOf, modifiedOf, isTable}
 use Rattle.vat.proofs.Theorems.{recognised, of-kind-1}
-use Rattle.disc.specs.Disc.{Disc, lent, mostSectors, sized, leading, recorded, inOrder, blanks, kindAt, sectorAt, readable, content, Sector, link, plain, torn, stored, put, puts}
+use Rattle.anchor.specs.Anchor.{anchorTagged}
+use Rattle.disc.specs.Disc.{Disc, lent, mostSectors, sized, leading, recorded, inOrder, blanks, kindAt, sectorAt, Sector, link, plain, torn, stored, put, puts}
 use Rattle.disc.specs.declared.Walk.{Walk}
 use Rattle.disc.specs.declared.Walk.the-variants.{Reached, Broken, Ended}
 use Rattle.disc.specs.Tables.{tableAt, mapAt, previousAt, newestBelow, newest, stepped, walk}
-use Rattle.disc.proofs.Recording.{Sound, Whole, sound, sound-sized, sound-order, kind-recorded}
+use Rattle.disc.specs.Session.{closingLength, sessionClosed}
+use Rattle.disc.proofs.Recording.{Sound, Whole, leading-le, kind-recorded}
+use Rattle.disc.proofs.Order.{and-false}
 use Rattle.disc.proofs.Found.{newest-table}
 use Rattle.volume.specs.declared.Volume.{Volume}
 use Rattle.volume.specs.Volume.{fits}
@@ -148,6 +153,19 @@ walk-same table p q same (suc k) b h = rw (same b h) (go (eqb (q b) unused) (tab
     go false false ih = refl
     go false true ih = ih refl
 
+-- the first of kinds that are all data
+data-first : (ks : List ℕ) (b n : ℕ) → b < length ks → every (λ k. eqb k 1) (take (suc n) (drop b ks)) ≡ true → getD ks b 0 ≡ 1
+unfolding every
+data-first ks b n h e =
+    let x : ℕ = getD ks b 0 in
+    eqb-true x 1 (and-left (eqb x 1) (every (λ k. eqb k 1) (take n (drop (suc b) ks))) (rw (drop-cons ks b 0 h) at e))
+
+-- the second of four tests may differ where the first or the third fails
+second-same : (p x y k t : Bool) → (p ≡ true → k ≡ true → x ≡ y) → (p && (x && (k && t))) ≡ (p && (y && (k && t)))
+second-same false x y k t h = refl
+second-same true x y true t h = ap (λ (z : Bool). z && t) (h refl refl)
+second-same true x y false t h = and-false x false refl ∙ sym (and-false y false refl)
+
 module _ {d e : Disc} (a : Alike d e) where
   pub same-kind : (b : ℕ) → kindAt d b ≡ kindAt e b
   same-kind b = ap (λ (ks : List ℕ). getD ks b 0) (a .same-kinds)
@@ -221,6 +239,19 @@ module _ {d e : Disc} (a : Alike d e) where
   pub same-fits : (v : Volume) → fits d v ≡ fits e v
   unfolding fits
   same-fits v = rw (same-table (v .last), same-kind (v .recorded - 1), same-recorded)
+
+  -- a closing's pointer is of kind 1, as all of the 256 are
+  pub same-closed : sessionClosed d ≡ sessionClosed e
+  unfolding sessionClosed
+  same-closed =
+      let r : ℕ = recorded d in
+      let last : ℕ = r - 1 in
+      let b : ℕ = last - closingLength in
+      let all : Bool = every (λ k. eqb k 1) (take closingLength (drop b (d .kinds))) in
+      second-same (leb (closingLength + 1) r) (anchorTagged (sectorAt d b) b) (anchorTagged (sectorAt e b) b) all (tableAt d last)
+      (λ p k. ap (λ (s : List ℕ). anchorTagged s b) (a .same-data b (data-first (d .kinds) b 255 (omega (arith, leb-true (closingLength + 1) r p, leading-le (d .kinds))) k)))
+      ∙ ap (λ (t : Bool). leb (closingLength + 1) r && (anchorTagged (sectorAt e b) b && (all && t))) (same-table last)
+      ∙ ap (λ (ks : List ℕ). leb (closingLength + 1) (leading ks) && (anchorTagged (sectorAt e ((leading ks - 1) - closingLength)) ((leading ks - 1) - closingLength) && (every (λ k. eqb k 1) (take closingLength (drop ((leading ks - 1) - closingLength) ks)) && tableAt e (leading ks - 1)))) (a .same-kinds)
 
 -- ---- the bytes of blank sectors may be any
 

@@ -10,15 +10,15 @@ use mathlib.Core.Option.{Option, none, some}
 use lib.Dec.{eqb, ltb}
 use lib.ListN.{length, getD, take}
 use Rattle.disc.specs.Disc.{Disc, Sector, recorded, puts}
-use Rattle.recorder.specs.Calls.{Call, begin, mount, write, release, closePacket, commit, read, lookBack, timeOf}
+use Rattle.recorder.specs.Calls.{Call, begin, mount, read, lookBack, saves}
 use Rattle.recorder.specs.Refusals.{outcome}
 use Rattle.recorder.specs.Effects.{effect, After, settled, after, sectorsOf}
 use Rattle.alike.specs.Alike.{Alike, SameCall}
 use Rattle.recorder.proofs.Sectors.{AllWhole, whole-take}
 use Rattle.alike.proofs.Discs.{alike-refl, alike-sym, alike-trans, same-recorded, alike-torn, alike-puts}
 use Rattle.alike.proofs.Calls.{sectors-whole, alike-calls}
-use Rattle.history.specs.History.{Entry, unusedEntry, shows, Snapshot, History, Fed, answered, cutCommit, feed}
-use Rattle.history.specs.Events.{World, Event, calls, cuts, ledgerHeld, onlyTells, Allowed, tornAt, cutDisc, ledgerAfter, next, told, fed, AllAllowed, runs, remembers, afterCall, begunHistory, mountedHistory}
+use Rattle.history.specs.History.{Entry, unusedEntry, shows, Snapshot, History, Fed, answered, feed}
+use Rattle.history.specs.Events.{World, Event, calls, cuts, ledgerHeld, onlyTells, Allowed, tornAt, cutDisc, ledgerAfter, next, told, cutIf, fed, AllAllowed, runs, remembers, afterCall, begunHistory, mountedHistory}
 use Rattle.history.specs.Claim.{reading, Shows, DoneShowing, Mounts, Claim}
 use Rattle.alike.specs.Scribbles.{Happening, event, scribble, onDisc, AllHappen, ends, recalls, ScribbledPowerCuts}
 use Rattle.history.proofs.Theorem.{power-cuts}
@@ -61,17 +61,9 @@ module _ {d e : Disc} (a : Alike d e) (o : Option (List ℕ)) where
   fed-same (calls c junk) =
       let s : SameCall d e (ledgerHeld o junk) c = alike-calls d e a (ledgerHeld o junk) c in
       λ i. answered (told c) (s .same-outcome i) (s .same-second i)
-  fed-same (cuts begin junk j tear) = refl
-  fed-same (cuts mount junk j tear) = refl
-  fed-same (cuts (write n block) junk j tear) = refl
-  fed-same (cuts (release n) junk j tear) = refl
-  fed-same (cuts closePacket junk j tear) = refl
-  fed-same (cuts (commit stamp) junk j tear) =
-      let s : SameCall d e (ledgerHeld o junk) (commit stamp) = alike-calls d e a (ledgerHeld o junk) (commit stamp) in
-      λ i. cutCommit (eqb (s .same-outcome i) 0 && eqb j (length (s .same-sectors i)))
-  fed-same (cuts (read n block) junk j tear) = refl
-  fed-same (cuts (lookBack k) junk j tear) = refl
-  fed-same (cuts (timeOf k answer) junk j tear) = refl
+  fed-same (cuts c junk j tear) =
+      let s : SameCall d e (ledgerHeld o junk) c = alike-calls d e a (ledgerHeld o junk) c in
+      λ i. cutIf (saves c) (told c) (eqb (s .same-outcome i) 0 && eqb j (length (s .same-sectors i)))
 
   allowed-same : (v : Event) → Allowed (record { disc = d; ledger = o }) v → Allowed (record { disc = e; ledger = o }) v
   allowed-same (calls c junk) f = λ n z. f n (alike-calls d e a junk c .same-outcome ∙ z .0, z .1)

@@ -1,4 +1,4 @@
--- The starred rows of document 01's 'Bench examples', shown once, as one claim over one list of them, and rows for document 02's requests, as another:
+-- The starred rows of document 01's 'Bench examples', shown once, as one claim over one list of them, and rows for document 02's requests, as two more:
 -- the checker works each out from the definitions.
 -- Assumes nothing.
 use Prim.Native.Nat.{ℕ, _+_, _*_}
@@ -11,21 +11,23 @@ use lib.Seq.{sets}
 use Rattle.le.specs.Field.{le, readLe, leadingWords, words, leWords, lay, holds}
 use Rattle.le.specs.Bytes.{every, total, holdsText}
 use Rattle.crc.specs.Crc.{crcOf, crcFrom, byteStep}
-use Rattle.tag.specs.Tag.{crcLength, checksum, bodyCrc, sealed, seal}
+use Rattle.tag.specs.Tag.{crcLength, checksum, bodyCrc, summed, sealed, seal}
 use Rattle.timestamp.specs.Calendar.{months, real, daysOfYears, daysBefore, minutesBefore}
 use Rattle.timestamp.specs.Timestamp.{zoneOf, momentOf, valid, minutesOf, told}
 use Rattle.vat.specs.Table.{unused, plainRows, lengthRows, tableName, attributeLength, entryCount, entriesOf, previousOf, modifiedOf, framed, isTable}
 use Rattle.vat.specs.Sector.{tableRegid, tableBytes, ownRows, stationName, timed, noStamp, body, sector}
+use Rattle.anchor.specs.Anchor.{extent, anchorRows, anchor, anchorTagged}
 use Rattle.disc.specs.Disc.{Disc, sized, leading, inOrder, sectorAt, content, stored, puts}
 use Rattle.disc.specs.Tables.{newestBelow, walk}
+use Rattle.disc.specs.Session.{closing, sessionClosed}
 use Rattle.volume.specs.Volume.{unpack, pack, fits, begun, filled, wrote, released, closed, committed}
-use Rattle.recorder.specs.Calls.{Call, begin, mount, write, closePacket, commit, lookBack, timeOf}
-use Rattle.recorder.specs.Refusals.{first, links, walked, tests, outcome}
+use Rattle.recorder.specs.Calls.{Call, begin, mount, write, closePacket, commit, closeSession, lookBack, timeOf}
+use Rattle.recorder.specs.Refusals.{first, links, reserve, walked, tests, outcome}
 use Rattle.recorder.specs.Effects.{effect, After, after, secondNumber, sectorsOf}
 
 -- To open this is to open every definition that the rows and lists are worked out from.
 unfoldable pub opened : Unit {0}
-unfolding le readLe leadingWords words leWords lay holds every total holdsText crcFrom byteStep checksum bodyCrc sealed seal months real daysOfYears daysBefore minutesBefore zoneOf momentOf valid minutesOf told plainRows lengthRows tableName attributeLength entryCount entriesOf previousOf modifiedOf framed isTable tableRegid tableBytes ownRows stationName timed body sector sized leading inOrder sectorAt content stored puts newestBelow walk unpack pack fits begun filled wrote released closed committed first links walked tests outcome effect after secondNumber sectorsOf
+unfolding le readLe leadingWords words leWords lay holds every total holdsText crcFrom byteStep checksum bodyCrc summed sealed seal months real daysOfYears daysBefore minutesBefore zoneOf momentOf valid minutesOf told plainRows lengthRows tableName attributeLength entryCount entriesOf previousOf modifiedOf framed isTable tableRegid tableBytes ownRows stationName timed body sector anchorRows anchor anchorTagged sized leading inOrder sectorAt content stored puts newestBelow walk closing sessionClosed unpack pack fits begun filled wrote released closed committed first links reserve walked tests outcome effect after secondNumber sectorsOf
 opened = tt
 
 -- A blank disc of n sectors, and a lent block.
@@ -71,6 +73,13 @@ stamp zone year month day hour minute = le 2 (4096 + zone) ++ (le 2 year ++ (mon
 abbrev pub answer : List ℕ
 answer = replicate 8 0
 
+-- A closing's pointer with this tag location, and a closing with this partition start.
+abbrev pub pointer : ℕ → List ℕ
+pointer location = anchor (extent 32768 257) (extent 32768 513) location
+
+abbrev pub closingAt : ℕ → Call
+closingAt start = closeSession (extent 32768 257) (extent 32768 513) start
+
 pub data Example : Type 0 where
   -- the CRC of these bytes
   crc-of : List ℕ → ℕ → Example
@@ -84,6 +93,10 @@ pub data Example : Type 0 where
   told-of : List ℕ → ℕ → ℕ → Example
   -- a timestamp that breaks the limits
   wrong-stamp : List ℕ → Example
+  -- a pointer with this tag location at block b: such a tag, or not
+  tagged-at : ℕ → ℕ → Bool → Example
+  -- what a write must leave on a disc of so many sectors
+  reserve-of : ℕ → ℕ → Example
   -- calls on a disc, with the ledger lent to the first of them: their answers
   calls-on : Disc → List ℕ → List Call → List ℕ → Example
 
@@ -95,6 +108,9 @@ right (framed-behind a n true) = framed (behind a n 0) 0
 right (framed-behind a n false) = not (framed (behind a n 0) 0)
 right (told-of stamp minutes mark) = valid stamp && same (told stamp) (le 4 minutes ++ le 4 mark)
 right (wrong-stamp stamp) = not (valid stamp)
+right (tagged-at location b true) = anchorTagged (pointer location) b
+right (tagged-at location b false) = not (anchorTagged (pointer location) b)
+right (reserve-of sectors left) = eqb (reserve sectors) left
 right (calls-on d l cs expected) = same (answers d l cs) expected
 
 unfoldable pub all-right : List Example → Bool
@@ -155,3 +171,20 @@ requested =
 pub requested-rows : T (all-right requested)
 unfolding opened answers same right all-right requested
 requested-rows = tt
+
+-- And of a closing: its pointer's tag, the reserve, and 5, 15, 18 and 14.
+unfoldable pub closings : List Example
+closings =
+    tagged-at 7 7 true
+    ∷ tagged-at 6 7 false
+    ∷ tagged-at 400007 7 true
+    ∷ tagged-at 400008 7 false
+    ∷ reserve-of 999 8
+    ∷ reserve-of 1000 264
+    ∷ calls-on (blank 12) full (begin ∷ write 0 (pointer 400001) ∷ write 1 (pointer 400001) ∷ []) (0 ∷ 0 ∷ refused 15 ∷ [])
+    ∷ calls-on (blank 2) full (begin ∷ commit none ∷ closingAt 400001 ∷ closingAt 400000 ∷ lookBack 0 ∷ closingAt 400001 ∷ []) (0 ∷ 0 ∷ refused 18 ∷ refused 14 ∷ 0 ∷ refused 5 ∷ [])
+    ∷ []
+
+pub closing-rows : T (all-right closings)
+unfolding opened answers same right all-right closings
+closing-rows = tt

@@ -2,29 +2,47 @@
 -- Assumes nothing.
 use Prim.Native.Nat.{ℕ, zero, suc, _+_, _*_, _≤_, _<_}
 use native.Mathlib.Omega.{arith}
-use mathlib.Core.Path.{_≡_, refl, sym, ap, _∙_}
+use mathlib.Core.Path.{_≡_, refl, sym, ap, ap₂, _∙_}
 use mathlib.Core.List.{List, [], _∷_, _++_}
 use mathlib.Core.Option.{Option, some}
 use lib.Dec.{eqb}
-use lib.ListN.{length, getD, set, replicate, length-replicate}
+use lib.ListN.{length, getD, set, replicate, length-append, length-replicate}
 use Rattle.timestamp.specs.Timestamp.{stampLength, told}
 use Rattle.vat.specs.Table.{sectorLength, limit, unused}
-use Rattle.vat.specs.Sector.{sector}
+use Rattle.vat.specs.Sector.{noStamp, sector}
+use Rattle.anchor.specs.declared.Extent.{Extent}
+use Rattle.anchor.specs.Anchor.{farthestStart, anchor}
 use Rattle.disc.specs.declared.Walk.{Walk}
 use Rattle.disc.specs.declared.Walk.the-variants.{Reached}
 use Rattle.disc.specs.Disc.{Disc, lent, mostSectors, Sector, link, plain, recorded, sectorAt, stored, put, puts}
 use Rattle.disc.specs.Tables.{mapAt, timeAt, blockFound, newest}
+use Rattle.disc.specs.Session.{zeroSectors, zeroSector, closing, closingLength}
 use Rattle.disc.proofs.Recording.{leading-le, puts-append, puts-links}
 use Rattle.volume.specs.declared.Volume.{Volume}
-use Rattle.volume.specs.Volume.{ledgerLength, idle, readOnly, unpack, pack, mapOf, begun, filled, wrote, released, closed, committed}
-use Rattle.recorder.specs.Calls.{Call, begin, mount, write, release, closePacket, commit, read, lookBack, timeOf, stampBuffer, bufferOf}
+use Rattle.volume.specs.Volume.{ledgerLength, idle, readOnly, unpack, pack, mapOf, begun, filled, wrote, released, closed}
+use Rattle.recorder.specs.Calls.{Call, begin, mount, write, release, closePacket, commit, closeSession, read, lookBack, timeOf, stampBuffer, bufferOf}
 use Rattle.recorder.specs.Refusals.{links, target, walked, timeReached, outcome}
-use Rattle.recorder.specs.Effects.{effect, blockReached, cleanNumber, stampOf, After, left, settled, after}
-use Rattle.recorder.proofs.Done.{ledger-accepted, write-done, CommitDone, commit-done}
+use Rattle.recorder.specs.Effects.{Effect, effect, blockReached, cleanNumber, stampOf, saved, After, left, settled, after}
+use Rattle.recorder.proofs.Sectors.{length-closing}
+use Rattle.recorder.proofs.Done.{ledger-accepted, write-done, SaveDone, commit-done, ClosingDone, closing-done}
 
 -- equal parts leave the same
 pub same-left : {a a′ : ℕ} {i i′ k k′ l l′ b : List ℕ} → a ≡ a′ → i ≡ i′ → k ≡ k′ → l ≡ l′ → left a i k l b ≡ left a′ i′ k′ l′ b
 same-left p q r s = cc
+
+same-after : {a a′ : ℕ} {x x′ : Disc} {l l′ b : List ℕ} → a ≡ a′ → x ≡ x′ → l ≡ l′
+    → _≡_ {A = After} (record { answer = a; disc = x; ledger = l; buffer = b }) (record { answer = a′; disc = x′; ledger = l′; buffer = b })
+same-after p q r = cc
+
+-- the pointer, then the zero sectors
+puts-first : (d : Disc) (b : ℕ) (s : Sector) (ss : List Sector) → puts (put d b s) (b + 1) ss ≡ puts d b (s ∷ ss)
+unfolding puts
+puts-first d b s ss = refl
+
+pub closing-puts : (main reserved : Extent) (start b : ℕ) (d : Disc)
+    → puts (put d b (plain (anchor main reserved (start + b)))) (b + 1) (replicate zeroSectors zeroSector) ≡ puts d b (closing main reserved start b)
+unfolding closing
+closing-puts main reserved start b d = puts-first d b (plain (anchor main reserved (start + b))) (replicate zeroSectors zeroSector)
 
 module _ (d : Disc) (l : List ℕ) where
   -- a refusal
@@ -102,11 +120,48 @@ module _ (d : Disc) (l : List ℕ) where
       ap {B = After} (λ x. record { answer = target v; disc = x; ledger = pack (wrote n (target v) v); buffer = block }) (recorded-left block (write-done d l n block z .fit .same-recorded))
       ∙ done-left (write n block) z
 
-  -- a commit that is done meets what a save asks for
+  -- ---- saves
+
+  -- the links, what is recorded between them and the table, and the table sector behind both
+  pub saved-disc : (between : List Sector) (stamp : List ℕ) (x : Disc) (b : ℕ) → x ≡ puts (lent (d .image) linkedKinds) (target (unpack l)) between → b ≡ target (unpack l) + length between
+      → put x b (plain (sector (mapOf (unpack l)) (unpack l .last) stamp b)) ≡ puts d (unpack l .recorded) (saved (unpack l) between stamp [] .sectors)
+  unfolding puts
+  saved-disc between stamp x b e at =
+      let v : Volume = unpack l in
+      let k : ℕ = links v in
+      let r : ℕ = v .recorded in
+      let before : List Sector = replicate k link in
+      let s : List ℕ = sector (mapOf v) (v .last) stamp (target v + length between) in
+      let taken : r + length before ≡ target v = ap (λ (n : ℕ). r + n) (length-replicate k link) in
+      let place : r + length (before ++ between) ≡ target v + length between = omega (arith, length-append before between, taken) in
+      let linked : puts d r before ≡ lent (d .image) linkedKinds = puts-links k (d .image) (d .kinds) r in
+      let passed : puts d r (before ++ between) ≡ x =
+      puts-append before between d r ∙ ap₂ (λ (y : Disc) (n : ℕ). puts y n between) linked taken ∙ sym e in
+      ap (λ (n : ℕ). put x n (plain (sector (mapOf v) (v .last) stamp n))) at
+      ∙ sym (puts-append (before ++ between) (plain s ∷ []) d r ∙ ap₂ (λ (y : Disc) (n : ℕ). put y n (plain s)) passed place)
+
+  -- what a save answers and leaves, part by part
+  abbrev pub Saved : List Sector → List ℕ → ℕ → List ℕ → List ℕ → List ℕ → Type 0
+  Saved between stamp answer image kinds ledger =
+      (answer ≡ saved (unpack l) between stamp [] .second)
+      × (lent image kinds ≡ puts d (unpack l .recorded) (saved (unpack l) between stamp [] .sectors))
+      × (ledger ≡ saved (unpack l) between stamp [] .ledger)
+
+  -- a save that is done
+  saved-left : (c : Call) (between : List Sector) (stamp buffer : List ℕ) → outcome d l c ≡ 0 → effect d l c ≡ saved (unpack l) between stamp buffer → unpack l .recorded ≡ recorded d
+      → {a : ℕ} {i k m : List ℕ} → Saved between stamp a i k m → left a i k m buffer ≡ after d l c
+  saved-left c between stamp buffer z is same {a} {i} {k} {m} s =
+      let e : Effect = saved (unpack l) between stamp buffer in
+      let disc : lent i k ≡ puts d (recorded d) (e .sectors) = s .1 ∙ ap (λ (n : ℕ). puts d n (e .sectors)) same in
+      same-after (s .0) disc (s .2)
+      ∙ ap (λ (e : Effect). settled d l (bufferOf c) 0 e) (sym is)
+      ∙ done-left c z
+
+  -- a commit that is done meets what its save asks for
   pub commit-saves : (stamp : Option (List ℕ)) → outcome d l (commit stamp) ≡ 0
       → (length l ≡ ledgerLength) × (length (d .image) ≡ sectorLength * length (d .kinds)) × (target (unpack l) < length (d .kinds)) × (length (d .kinds) ≤ mostSectors) × (unpack l .size ≤ limit) × (length (stampOf stamp) ≡ stampLength)
   commit-saves stamp z =
-      let f : CommitDone d l stamp = commit-done d l stamp z in (
+      let f : SaveDone d l [] (stampOf stamp) = commit-done d l stamp z .saving in (
         ledger-accepted d l (commit stamp) z,
         f .sound-disc .whole,
         omega (arith, f .room, f .fit .same-recorded, leading-le (d .kinds)),
@@ -116,12 +171,25 @@ module _ (d : Disc) (l : List ℕ) where
       )
 
   pub commit-left : (stamp : Option (List ℕ)) → outcome d l (commit stamp) ≡ 0
-      → left (target (unpack l)) (stored (d .image) (sectorLength * target (unpack l)) (sector (mapOf (unpack l)) (unpack l .last) (stampOf stamp) (target (unpack l)))) (set linkedKinds (target (unpack l)) 1)
-      (pack (committed (target (unpack l)) (unpack l))) (stampBuffer stamp)
-      ≡ after d l (commit stamp)
+      → {a : ℕ} {i k m : List ℕ} → Saved [] (stampOf stamp) a i k m → left a i k m (stampBuffer stamp) ≡ after d l (commit stamp)
   unfolding effect
-  commit-left stamp z =
-      let v : Volume = unpack l in
-      ap {B = After} (λ x. record { answer = target v; disc = x; ledger = pack (committed (target v) v); buffer = stampBuffer stamp })
-      (recorded-left (sector (mapOf v) (v .last) (stampOf stamp) (target v)) (commit-done d l stamp z .fit .same-recorded))
-      ∙ done-left (commit stamp) z
+  commit-left stamp z s = saved-left (commit stamp) [] (stampOf stamp) (stampBuffer stamp) z refl (commit-done d l stamp z .saving .fit .same-recorded) s
+
+  -- and so does a closing
+  module _ (main reserved : Extent) (start : ℕ) (z : outcome d l (closeSession main reserved start) ≡ 0) where
+    pub closing-saves : (length l ≡ ledgerLength) × (length (d .image) ≡ sectorLength * length (d .kinds)) × (target (unpack l) + closingLength < length (d .kinds)) × (length (d .kinds) ≤ mostSectors) × (unpack l .size ≤ limit) × (start ≤ farthestStart)
+    closing-saves =
+        let f : ClosingDone d l main reserved start = closing-done d l main reserved start z in (
+          ledger-accepted d l (closeSession main reserved start) z,
+          f .saving .sound-disc .whole,
+          omega (arith, f .saving .room, length-closing main reserved start (target (unpack l)), f .saving .fit .same-recorded, leading-le (d .kinds)),
+          f .saving .sound-disc .few,
+          f .saving .fit .few,
+          f .near,
+        )
+
+    pub closing-left : {a : ℕ} {i k m : List ℕ} → Saved (closing main reserved start (target (unpack l))) noStamp a i k m → left a i k m [] ≡ after d l (closeSession main reserved start)
+    unfolding effect
+    closing-left s =
+        saved-left (closeSession main reserved start) (closing main reserved start (target (unpack l))) noStamp [] z refl
+        (closing-done d l main reserved start z .saving .fit .same-recorded) s

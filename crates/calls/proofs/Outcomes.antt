@@ -6,18 +6,21 @@ use mathlib.Core.Path.{_≡_, refl, sym, ap, _∙_}
 use mathlib.Core.Bool.{Bool, true, false, _&&_, not, and-true}
 use mathlib.Core.List.{List, [], _∷_, _++_}
 use mathlib.Core.Option.{Option, none, some}
-use lib.Dec.{eqb, ltb, leb}
-use lib.ListN.{getD}
+use lib.Dec.{eqb, leb}
+use lib.ListN.{length, getD}
 use borrow.Author.Tests.{eq-eqb, ne-eqb, le-ltb, lt-ltb, le-leb, lt-leb}
 use Rattle.timestamp.specs.Timestamp.{valid}
-use Rattle.vat.specs.Table.{limit, unused, isTable}
+use Rattle.vat.specs.Table.{limit, unused}
+use Rattle.anchor.specs.declared.Extent.{Extent}
+use Rattle.anchor.specs.Anchor.{farthestStart}
 use Rattle.disc.specs.declared.Walk.the-variants.{Reached, Broken, Ended}
 use Rattle.disc.specs.Disc.{Disc, mostSectors, blanks, kindAt}
 use Rattle.disc.specs.Tables.{timeAt, blockFound, newestBelow, newest}
+use Rattle.disc.specs.Session.{closingLength, sessionClosed}
 use Rattle.disc.proofs.Found.{newest-below}
 use Rattle.volume.specs.Volume.{readOnly, unpack, fits}
-use Rattle.recorder.specs.Calls.{begin, mount, write, release, closePacket, commit, read, lookBack, timeOf}
-use Rattle.recorder.specs.Refusals.{Test, test, first, links, target, reserve, basic, ledgerLent, blockLent, stampLent, answerLent, unfit, forbidden, writeTests, stampWrong, commitTests, notInUse, isSome, walked, isBroken, isEnded, walkTests, timeWrong, tests, outcome}
+use Rattle.recorder.specs.Calls.{begin, mount, write, release, closePacket, commit, closeSession, read, lookBack, timeOf}
+use Rattle.recorder.specs.Refusals.{Test, test, first, links, target, reserveIf, reserve, basic, ledgerLent, blockLent, stampLent, answerLent, unfit, forbiddenAt, writeTests, stampWrong, noRoom, commitTests, closingTests, notInUse, isSome, walked, isBroken, isEnded, walkTests, timeWrong, tests, outcome}
 use Rattle.recorder.proofs.Done.{stopped, resumed, fittingTests, workingTests}
 
 -- ---- the newest table, as a block number
@@ -47,16 +50,30 @@ module _ (d : Disc) (l : List ℕ) (lengths : Bool) where
   unfolding first
   fitting-0 z e = resumed (basic d lengths) (unfit d l ∷ []) refl z ∙ rw e
 
+  -- what is asked behind them of a call that may record
+  recordTests : List Test
+  recordTests = test 5 (eqb (unpack l .mode) readOnly) ∷ test 17 (sessionClosed d) ∷ []
+
   pub working-stopped : (first (fittingTests d l lengths) ≡ 0 → ⊥) → first (workingTests d l lengths) ≡ first (fittingTests d l lengths)
-  working-stopped h = stopped (fittingTests d l lengths) (forbidden l ∷ []) h
+  unfolding recordTests
+  working-stopped h = stopped (fittingTests d l lengths) recordTests h
 
-  pub working-5 : first (fittingTests d l lengths) ≡ 0 → unpack l .mode ≡ readOnly → first (workingTests d l lengths) ≡ 5
-  unfolding first
-  working-5 z e = resumed (fittingTests d l lengths) (forbidden l ∷ []) refl z ∙ rw (eq-eqb (unpack l .mode) readOnly e)
+  working-rest : first (fittingTests d l lengths) ≡ 0 → first (workingTests d l lengths) ≡ first recordTests
+  unfolding recordTests
+  working-rest z = resumed (fittingTests d l lengths) recordTests refl z
 
-  pub working-0 : first (fittingTests d l lengths) ≡ 0 → (unpack l .mode ≡ readOnly → ⊥) → first (workingTests d l lengths) ≡ 0
-  unfolding first
-  working-0 z e = resumed (fittingTests d l lengths) (forbidden l ∷ []) refl z ∙ rw (ne-eqb (unpack l .mode) readOnly e)
+  module _ (z : first (fittingTests d l lengths) ≡ 0) where
+    pub working-5 : unpack l .mode ≡ readOnly → first (workingTests d l lengths) ≡ 5
+    unfolding first recordTests
+    working-5 e = working-rest z ∙ rw (eq-eqb (unpack l .mode) readOnly e)
+
+    pub working-17 : (unpack l .mode ≡ readOnly → ⊥) → sessionClosed d ≡ true → first (workingTests d l lengths) ≡ 17
+    unfolding first recordTests
+    working-17 h e = working-rest z ∙ rw (ne-eqb (unpack l .mode) readOnly h, e)
+
+    pub working-0 : (unpack l .mode ≡ readOnly → ⊥) → sessionClosed d ≡ false → first (workingTests d l lengths) ≡ 0
+    unfolding first recordTests
+    working-0 h e = working-rest z ∙ rw (ne-eqb (unpack l .mode) readOnly h, e)
 
 -- ---- the calls that look for a table
 
@@ -149,9 +166,17 @@ module _ (d : Disc) (l : List ℕ) (k : ℕ) (answer : List ℕ) where
 
 -- ---- the calls on the working state
 
+pub reserve-few : (n : ℕ) → reserve n ≤ 264
+unfolding reserve
+reserve-few n = go (leb 1000 n)
+  where
+    go : (t : Bool) → reserveIf t ≤ 264
+    go true = omega arith
+    go false = omega arith
+
 module _ (d : Disc) (l : List ℕ) (n : ℕ) (block : List ℕ) where
   writeRest : List Test
-  writeRest = writeTests (blanks d) (unpack l) n block
+  writeRest = writeTests d (unpack l) n block
 
   pub write-stopped : (first (workingTests d l (blockLent l block)) ≡ 0 → ⊥) → outcome d l (write n block) ≡ first (workingTests d l (blockLent l block))
   unfolding outcome tests writeRest
@@ -170,14 +195,14 @@ module _ (d : Disc) (l : List ℕ) (n : ℕ) (block : List ℕ) where
     unfolding first writeRest
     write-12 m h = write-rest z ∙ rw (lt-leb limit n m, lt-ltb (unpack l .size) n h)
 
-    pub write-14 : n < limit → n ≤ unpack l .size → blanks d < links (unpack l) + 1 + reserve → outcome d l (write n block) ≡ 14
+    pub write-14 : n < limit → n ≤ unpack l .size → blanks d < links (unpack l) + 1 + reserve (length (d .kinds)) → outcome d l (write n block) ≡ 14
     unfolding first writeRest
-    write-14 m s h = write-rest z ∙ rw (lt-leb limit n m, le-ltb (unpack l .size) n s, lt-ltb (blanks d) (links (unpack l) + 1 + reserve) h)
+    write-14 m s h = write-rest z ∙ rw (lt-leb limit n m, le-ltb (unpack l .size) n s, lt-ltb (blanks d) (links (unpack l) + 1 + reserve (length (d .kinds))) h)
 
-    pub write-tested : n < limit → n ≤ unpack l .size → links (unpack l) + 1 + reserve ≤ blanks d
-        → outcome d l (write n block) ≡ first (test 15 (isTable 1 block (target (unpack l))) ∷ [])
+    pub write-tested : n < limit → n ≤ unpack l .size → links (unpack l) + 1 + reserve (length (d .kinds)) ≤ blanks d
+        → outcome d l (write n block) ≡ first (test 15 (forbiddenAt (target (unpack l)) block) ∷ [])
     unfolding first writeRest
-    write-tested m s h = write-rest z ∙ rw (lt-leb limit n m, le-ltb (unpack l .size) n s, le-ltb (blanks d) (links (unpack l) + 1 + reserve) h)
+    write-tested m s h = write-rest z ∙ rw (lt-leb limit n m, le-ltb (unpack l .size) n s, le-ltb (blanks d) (links (unpack l) + 1 + reserve (length (d .kinds))) h)
 
 module _ (d : Disc) (l : List ℕ) where
   -- no block is lent: only the ledger's length is tested
@@ -199,19 +224,37 @@ module _ (d : Disc) (l : List ℕ) where
 module _ (d : Disc) (l : List ℕ) (stamp : Option (List ℕ)) where
   pub commit-stopped : (first (workingTests d l (stampLent l stamp)) ≡ 0 → ⊥) → outcome d l (commit stamp) ≡ first (workingTests d l (stampLent l stamp))
   unfolding outcome tests
-  commit-stopped h = stopped (workingTests d l (stampLent l stamp)) (commitTests (blanks d) (unpack l) stamp) h
+  commit-stopped h = stopped (workingTests d l (stampLent l stamp)) (commitTests d (unpack l) stamp) h
 
-  commit-rest : first (workingTests d l (stampLent l stamp)) ≡ 0 → outcome d l (commit stamp) ≡ first (commitTests (blanks d) (unpack l) stamp)
+  commit-rest : first (workingTests d l (stampLent l stamp)) ≡ 0 → outcome d l (commit stamp) ≡ first (commitTests d (unpack l) stamp)
   unfolding outcome tests
-  commit-rest z = resumed (workingTests d l (stampLent l stamp)) (commitTests (blanks d) (unpack l) stamp) refl z
+  commit-rest z = resumed (workingTests d l (stampLent l stamp)) (commitTests d (unpack l) stamp) refl z
 
   pub commit-16 : first (workingTests d l (stampLent l stamp)) ≡ 0 → stampWrong stamp ≡ true → outcome d l (commit stamp) ≡ 16
   unfolding first
   commit-16 z e = commit-rest z ∙ rw e
 
-  pub commit-tested : first (workingTests d l (stampLent l stamp)) ≡ 0 → stampWrong stamp ≡ false → outcome d l (commit stamp) ≡ first (test 14 (ltb (blanks d) (links (unpack l) + 1)) ∷ [])
+  pub commit-tested : first (workingTests d l (stampLent l stamp)) ≡ 0 → stampWrong stamp ≡ false → outcome d l (commit stamp) ≡ first (noRoom d (unpack l) 0 ∷ [])
   unfolding first
   commit-tested z e = commit-rest z ∙ rw e
+
+module _ (d : Disc) (l : List ℕ) (main reserved : Extent) (start : ℕ) where
+  pub closing-stopped : (first (workingTests d l (ledgerLent l && true)) ≡ 0 → ⊥) → outcome d l (closeSession main reserved start) ≡ first (workingTests d l (ledgerLent l && true))
+  unfolding outcome tests
+  closing-stopped h = stopped (workingTests d l (ledgerLent l)) (closingTests d (unpack l) start) (λ z. h (alone d l ∙ z)) ∙ sym (alone d l)
+
+  closing-rest : first (workingTests d l (ledgerLent l && true)) ≡ 0 → outcome d l (closeSession main reserved start) ≡ first (closingTests d (unpack l) start)
+  unfolding outcome tests
+  closing-rest z = resumed (workingTests d l (ledgerLent l)) (closingTests d (unpack l) start) refl (sym (alone d l) ∙ z)
+
+  pub closing-18 : first (workingTests d l (ledgerLent l && true)) ≡ 0 → farthestStart < start → outcome d l (closeSession main reserved start) ≡ 18
+  unfolding first
+  closing-18 z h = closing-rest z ∙ rw (lt-ltb farthestStart start h)
+
+  pub closing-tested : first (workingTests d l (ledgerLent l && true)) ≡ 0 → start ≤ farthestStart
+      → outcome d l (closeSession main reserved start) ≡ first (noRoom d (unpack l) closingLength ∷ [])
+  unfolding first
+  closing-tested z h = closing-rest z ∙ rw (le-ltb farthestStart start h)
 
 module _ (d : Disc) (l : List ℕ) (n : ℕ) (block : List ℕ) where
   readRest : List Test

@@ -2,6 +2,9 @@
 use crate::Plan;
 use crate::basic::LEDGER;
 use crate::refused;
+use anchor::Extent;
+use anchor::FARTHEST_START;
+use disc::session::CLOSING;
 use timestamp::STAMP;
 use timestamp::TOLD;
 use vat::table::LIMIT;
@@ -10,14 +13,13 @@ use vat::table::UNUSED;
 ghost use mathlib.Core.Path.{_≡_};
 ghost use mathlib.Core.Bool.{true};
 ghost use mathlib.Core.Option.{none, some};
+ghost use lib.ListN.{length};
+ghost use Rattle.vat.specs.Table.{sectorLength};
 ghost use Rattle.disc.specs.declared.Walk.the-variants.{Reached};
 ghost use Rattle.disc.specs.Disc.{lent, recorded};
 ghost use Rattle.disc.specs.Tables.{tableAt, newest};
-ghost use Rattle.recorder.specs.Calls.{begin, mount, write, release, closePacket, commit, read, lookBack, timeOf};
-ghost use Rattle.recorder.specs.Refusals.{walked, outcome};
-
-// "Write needs links + 1 + 8 blank sectors".
-const RESERVE: u32 = 8;
+ghost use Rattle.recorder.specs.Calls.{begin, mount, write, release, closePacket, commit, closeSession, read, lookBack, timeOf};
+ghost use Rattle.recorder.specs.Refusals.{forbiddenAt, walked, outcome};
 
 pub fn begin(image: &[u8], kinds: &[u8], ledger: &[u8]) -> Plan
     ensures { λ r. ⌜ (r .outcome ≡ outcome (lent (now (image .entry)) (now (kinds .entry))) (now (ledger .entry)) begin) × (r .outcome ≡ 0 → r .recorded ≡ recorded (lent (now (image .entry)) (now (kinds .entry)))) ⌝ }
@@ -59,6 +61,17 @@ pub fn time_of(image: &[u8], kinds: &[u8], ledger: &[u8], k: u32, answer: &[u8])
     plan
 }
 
+// 15, what no write may put at block b: a table sector, or a pointer's tag.
+fn forbidden_at(block: &[u8], b: u32) -> bool
+    requires { ⌜ length (now block) ≡ sectorLength ⌝ }
+    ensures { λ r. ⌜ r ≡ forbiddenAt b (now (block .entry)) ⌝ }
+{
+    if vat::table::is_table(1, block, b) {
+        return true;
+    }
+    anchor::tagged(block, b)
+}
+
 pub fn write(image: &[u8], kinds: &[u8], ledger: &[u8], n: u32, block: &[u8]) -> u32
     ensures { λ r. ⌜ r ≡ outcome (lent (now (image .entry)) (now (kinds .entry))) (now (ledger .entry)) (write n (now (block .entry))) ⌝ }
 {
@@ -76,10 +89,10 @@ pub fn write(image: &[u8], kinds: &[u8], ledger: &[u8], n: u32, block: &[u8]) ->
     let links = crate::basic::links(ledger);
     let recorded = volume::ledger::recorded(ledger);
     let blank = (kinds.len() as u32) - recorded;
-    if blank < links + 1 + RESERVE {
+    if blank < links + 1 + crate::basic::reserve(kinds.len()) {
         return 14;
     }
-    if vat::table::is_table(1, block, recorded + links) {
+    if forbidden_at(block, recorded + links) {
         return 15;
     }
     0
@@ -111,7 +124,7 @@ pub fn commit(image: &[u8], kinds: &[u8], ledger: &[u8]) -> u32
     if outcome != 0 {
         return outcome;
     }
-    crate::basic::room(kinds, ledger)
+    crate::basic::room(kinds, ledger, 0)
 }
 
 pub fn commit_at(image: &[u8], kinds: &[u8], ledger: &[u8], stamp: &[u8]) -> u32
@@ -124,7 +137,27 @@ pub fn commit_at(image: &[u8], kinds: &[u8], ledger: &[u8], stamp: &[u8]) -> u32
     if !timestamp::valid(stamp) {
         return 16;
     }
-    crate::basic::room(kinds, ledger)
+    crate::basic::room(kinds, ledger, 0)
+}
+
+pub fn close_session(
+    image: &[u8],
+    kinds: &[u8],
+    ledger: &[u8],
+    main: Extent,
+    reserve: Extent,
+    start: u32,
+) -> u32
+    ensures { λ r. ⌜ r ≡ outcome (lent (now (image .entry)) (now (kinds .entry))) (now (ledger .entry)) (closeSession main reserve start) ⌝ }
+{
+    let outcome = crate::basic::working(image, kinds, ledger, true);
+    if outcome != 0 {
+        return outcome;
+    }
+    if FARTHEST_START < start {
+        return 18;
+    }
+    crate::basic::room(kinds, ledger, CLOSING)
 }
 
 pub fn read(image: &[u8], kinds: &[u8], ledger: &[u8], n: u32, block: &[u8]) -> u32

@@ -7,15 +7,14 @@ ghost use mathlib.Core.Path.{_≡_};
 ghost use mathlib.Core.Bool.{true, _&&_, not};
 ghost use mathlib.Core.List.{[], _∷_, _++_};
 ghost use mathlib.Core.Option.{some};
-ghost use Prim.Native.Nat.{_+_, _-_, _≤_};
-ghost use lib.Dec.{ltb};
+ghost use Prim.Native.Nat.{_≤_};
 ghost use lib.ListN.{length};
 ghost use Rattle.vat.specs.Table.{limit};
 ghost use Rattle.disc.specs.declared.Walk.the-variants.{Reached};
 ghost use Rattle.disc.specs.Disc.{lent, leading, recorded};
 ghost use Rattle.disc.specs.Tables.{tableAt, newest};
 ghost use Rattle.volume.specs.Volume.{ledgerLength, unpack};
-ghost use Rattle.recorder.specs.Refusals.{test, first, links, basic, ledgerLent, unfit, forbidden, notInUse, isSome, walked, walkTests};
+ghost use Rattle.recorder.specs.Refusals.{test, first, links, basic, ledgerLent, unfit, gate, noRoom, reserve, notInUse, isSome, walked, walkTests};
 
 pub const LEDGER: usize = 1848;
 
@@ -95,9 +94,9 @@ pub fn fitting(image: &[u8], kinds: &[u8], ledger: &[u8], whole: bool) -> u32
     0
 }
 
-// 1 to 5: and the call may record.
+// 1 to 5 and 17: and the call may record.
 pub fn working(image: &[u8], kinds: &[u8], ledger: &[u8], whole: bool) -> u32
-    ensures { λ r. ⌜ r ≡ first (basic (lent (now (image .entry)) (now (kinds .entry))) (ledgerLent (now (ledger .entry)) && whole) ++ (unfit (lent (now (image .entry)) (now (kinds .entry))) (now (ledger .entry)) ∷ forbidden (now (ledger .entry)) ∷ [])) ⌝ }
+    ensures { λ r. ⌜ r ≡ first (basic (lent (now (image .entry)) (now (kinds .entry))) (ledgerLent (now (ledger .entry)) && whole) ++ gate (lent (now (image .entry)) (now (kinds .entry))) (now (ledger .entry))) ⌝ }
 {
     let outcome = fitting(image, kinds, ledger, whole);
     if outcome != 0 {
@@ -106,10 +105,13 @@ pub fn working(image: &[u8], kinds: &[u8], ledger: &[u8], whole: bool) -> u32
     if volume::ledger::mode(ledger) == 2 {
         return 5;
     }
+    if disc::session::is_closed(image, kinds, volume::ledger::recorded(ledger)) {
+        return 17;
+    }
     0
 }
 
-// "In mode 0 with recorded above 0, write and commit first record seven link sectors".
+// "In mode 0 with recorded above 0, write and commit first record seven link sectors", and so does closing.
 pub fn links(ledger: &[u8]) -> u32
     requires { ⌜ length (now ledger) ≡ ledgerLength ⌝ }
     ensures { λ r. ⌜ r ≡ links (unpack (now (ledger .entry))) ⌝ }
@@ -123,13 +125,23 @@ pub fn links(ledger: &[u8]) -> u32
     7
 }
 
-// 14: a commit "needs links + 1 blank sectors".
-pub fn room(kinds: &[u8], ledger: &[u8]) -> u32
-    requires { ⌜ (length (now ledger) ≡ ledgerLength) × (unpack (now ledger) .recorded ≤ length (now kinds)) × (length (now kinds) ≤ 360000) ⌝ }
-    ensures { λ r. ⌜ r ≡ first (test 14 (ltb (length (now (kinds .entry)) - unpack (now (ledger .entry)) .recorded) (links (unpack (now (ledger .entry))) + 1)) ∷ []) ⌝ }
+// "On discs of 1,000 sectors or more a write must leave 264 instead of 8."
+pub fn reserve(sectors: usize) -> u32
+    ensures { λ r. ⌜ r ≡ reserve sectors ⌝ }
+{
+    if sectors < 1000 {
+        return 8;
+    }
+    264
+}
+
+// 14 of a save that records so many sectors between its links and its table.
+pub fn room(kinds: &[u8], ledger: &[u8], between: u32) -> u32
+    requires { ⌜ (length (now ledger) ≡ ledgerLength) × (unpack (now ledger) .recorded ≡ leading (now kinds)) × (length (now kinds) ≤ 360000) × (between ≤ 256) ⌝ }
+    ensures { λ r. ⌜ r ≡ first (noRoom (lent [] (now (kinds .entry))) (unpack (now (ledger .entry))) between ∷ []) ⌝ }
 {
     let blank = (kinds.len() as u32) - volume::ledger::recorded(ledger);
-    if blank < links(ledger) + 1 {
+    if blank < links(ledger) + between + 1 {
         return 14;
     }
     0

@@ -1,5 +1,8 @@
 // What the calls that are done have in common: links, a save, and a table that is shown.
 use crate::Plan;
+use anchor::Extent;
+use disc::session::CLOSING;
+use disc::session::ZEROS;
 use vat::table::SECTOR;
 use volume::Volume;
 ghost use mathlib.Core.Path.{_≡_};
@@ -8,10 +11,13 @@ ghost use Prim.Native.Nat.{_+_, _*_, _≤_, _<_};
 ghost use lib.ListN.{length, take, drop, set, replicate};
 ghost use Rattle.timestamp.specs.Timestamp.{stampLength};
 ghost use Rattle.vat.specs.Table.{sectorLength, limit, wholeLength, entriesOf};
-ghost use Rattle.vat.specs.Sector.{sector};
-ghost use Rattle.disc.specs.Disc.{lent, link, stored, puts};
+ghost use Rattle.vat.specs.Sector.{noStamp, sector};
+ghost use Rattle.anchor.specs.Anchor.{farthestStart, anchor};
+ghost use Rattle.disc.specs.Disc.{lent, link, plain, stored, put, puts};
+ghost use Rattle.disc.specs.Session.{closing};
 ghost use Rattle.volume.specs.Volume.{ledgerLength, unpack, pack, mapOf, filled, committed};
 ghost use Rattle.recorder.specs.Refusals.{links, target};
+ghost use Rattle.recorder.specs.Effects.{saved};
 
 // The links, if there are any; the answer is the block behind them.
 pub fn record_links(kinds: &mut [u8], ledger: &[u8]) -> u32
@@ -38,16 +44,64 @@ fn record_table(image: &mut [u8], kinds: &mut [u8], state: Volume, stamp: &[u8],
     kinds[place] = 1;
 }
 
-// A save: links, the table sector and the state after it; the answer is the table's block.
-pub fn save(image: &mut [u8], kinds: &mut [u8], ledger: &mut [u8], stamp: &[u8]) -> u32
-    requires { ⌜ (length (now ledger) ≡ ledgerLength) × (length (now image) ≡ sectorLength * length (now kinds)) × (target (unpack (now ledger)) < length (now kinds)) × (length (now kinds) ≤ 360000) × (unpack (now ledger) .size ≤ limit) × (length (now stamp) ≡ stampLength) ⌝ }
-    ensures { λ r. ⌜ (r ≡ target (unpack (now (ledger .entry)))) × (now (image .exit) ≡ stored (now (image .entry)) (sectorLength * target (unpack (now (ledger .entry)))) (sector (mapOf (unpack (now (ledger .entry)))) (unpack (now (ledger .entry)) .last) (now (stamp .entry)) (target (unpack (now (ledger .entry)))))) × (now (kinds .exit) ≡ set (puts (lent [] (now (kinds .entry))) (unpack (now (ledger .entry)) .recorded) (replicate (links (unpack (now (ledger .entry)))) link) .kinds) (target (unpack (now (ledger .entry)))) 1) × (now (ledger .exit) ≡ pack (committed (target (unpack (now (ledger .entry)))) (unpack (now (ledger .entry))))) ⌝ }
+// The pointer at block b; its tag location is the partition's start plus that block.
+fn record_anchor(
+    image: &mut [u8],
+    kinds: &mut [u8],
+    main: Extent,
+    reserve: Extent,
+    start: u32,
+    b: u32,
+)
+    requires { ⌜ (length (now image) ≡ sectorLength * length (now kinds)) × (b < length (now kinds)) × (start + b < 4294967296) ⌝ }
+    ensures { λ _. ⌜ (now (image .exit) ≡ stored (now (image .entry)) (sectorLength * b) (anchor main reserve (start + b))) × (now (kinds .exit) ≡ set (now (kinds .entry)) b 1) ⌝ }
 {
-    let b = record_links(kinds, ledger);
+    let place = b as usize;
+    let at = SECTOR * place;
+    let end = at + SECTOR;
+    anchor::record(&mut image[at..end], main, reserve, start + b);
+    kinds[place] = 1;
+}
+
+// The table sector of the ledger's state, at block b, and the state after it.
+fn save_at(image: &mut [u8], kinds: &mut [u8], ledger: &mut [u8], stamp: &[u8], b: u32)
+    requires { ⌜ (length (now ledger) ≡ ledgerLength) × (length (now image) ≡ sectorLength * length (now kinds)) × (b < length (now kinds)) × (length (now kinds) ≤ 360000) × (unpack (now ledger) .size ≤ limit) × (length (now stamp) ≡ stampLength) ⌝ }
+    ensures { λ _. ⌜ (lent (now (image .exit)) (now (kinds .exit)) ≡ put (lent (now (image .entry)) (now (kinds .entry))) b (plain (sector (mapOf (unpack (now (ledger .entry)))) (unpack (now (ledger .entry)) .last) (now (stamp .entry)) b))) × (now (ledger .exit) ≡ pack (committed b (unpack (now (ledger .entry))))) ⌝ }
+{
     let state = Volume::load(ledger);
     record_table(image, kinds, state, stamp, b);
     state.committed(b).store(ledger);
+}
+
+// A commit's save: links, the table sector and the state after it; the answer is the table's block.
+pub fn save(image: &mut [u8], kinds: &mut [u8], ledger: &mut [u8], stamp: &[u8]) -> u32
+    requires { ⌜ (length (now ledger) ≡ ledgerLength) × (length (now image) ≡ sectorLength * length (now kinds)) × (target (unpack (now ledger)) < length (now kinds)) × (length (now kinds) ≤ 360000) × (unpack (now ledger) .size ≤ limit) × (length (now stamp) ≡ stampLength) ⌝ }
+    ensures { λ r. ⌜ (r ≡ saved (unpack (now (ledger .entry))) [] (now (stamp .entry)) [] .second) × (lent (now (image .exit)) (now (kinds .exit)) ≡ puts (lent (now (image .entry)) (now (kinds .entry))) (unpack (now (ledger .entry)) .recorded) (saved (unpack (now (ledger .entry))) [] (now (stamp .entry)) [] .sectors)) × (now (ledger .exit) ≡ saved (unpack (now (ledger .entry))) [] (now (stamp .entry)) [] .ledger) ⌝ }
+{
+    let b = record_links(kinds, ledger);
+    save_at(image, kinds, ledger, stamp, b);
     b
+}
+
+// A closing's save: links, the pointer, the zero sectors, the table sector and the state after it; the answer is the table's block.
+pub fn close(
+    image: &mut [u8],
+    kinds: &mut [u8],
+    ledger: &mut [u8],
+    main: Extent,
+    reserve: Extent,
+    start: u32,
+) -> u32
+    requires { ⌜ (length (now ledger) ≡ ledgerLength) × (length (now image) ≡ sectorLength * length (now kinds)) × (target (unpack (now ledger)) + 256 < length (now kinds)) × (length (now kinds) ≤ 360000) × (unpack (now ledger) .size ≤ limit) × (start ≤ farthestStart) ⌝ }
+    ensures { λ r. ⌜ (r ≡ saved (unpack (now (ledger .entry))) (closing main reserve start (target (unpack (now (ledger .entry))))) noStamp [] .second) × (lent (now (image .exit)) (now (kinds .exit)) ≡ puts (lent (now (image .entry)) (now (kinds .entry))) (unpack (now (ledger .entry)) .recorded) (saved (unpack (now (ledger .entry))) (closing main reserve start (target (unpack (now (ledger .entry))))) noStamp [] .sectors)) × (now (ledger .exit) ≡ saved (unpack (now (ledger .entry))) (closing main reserve start (target (unpack (now (ledger .entry))))) noStamp [] .ledger) ⌝ }
+{
+    let b = record_links(kinds, ledger);
+    record_anchor(image, kinds, main, reserve, start, b);
+    disc::record::zeros(image, kinds, (b + 1) as usize, ZEROS);
+    let stamp = [0u8; 12];
+    let table = b + CLOSING;
+    save_at(image, kinds, ledger, &stamp, table);
+    table
 }
 
 // The ledger shows the table that a plan found.

@@ -10,7 +10,7 @@ use mathlib.Core.List.{List, [], _∷_}
 use mathlib.Core.Option.{Option, none, some}
 use Rattle.disc.specs.Disc.{Disc}
 use Rattle.disc.specs.Tables.{mapAt, newest, blockFound}
-use Rattle.recorder.specs.Calls.{Call, begin, mount, write, release, closePacket, commit, read, lookBack, timeOf}
+use Rattle.recorder.specs.Calls.{Call, begin, mount, write, release, closePacket, commit, closeSession, read, lookBack, timeOf}
 use Rattle.recorder.specs.Refusals.{outcome}
 use Rattle.recorder.specs.Effects.{effect, after, secondNumber}
 use Rattle.history.specs.History.{Snapshot, History, done, feed}
@@ -48,6 +48,7 @@ still-held d l (write v block) e = refl
 still-held d l (release v) e = refl
 still-held d l closePacket e = refl
 still-held d l (commit stamp) e = refl
+still-held d l (closeSession main reserve start) e = refl
 still-held d l (read v block) e = refl
 still-held d l (lookBack k) e = refl
 still-held d l (timeOf k answer) e = rw e

@@ -3,3 +3,4 @@ pub mod Claimed
 pub mod Shown
 pub mod Saves
 pub mod Times
+pub mod Closings

@@ -7,7 +7,7 @@
 -- Assumes nothing.
 use Prim.Native.Nat.{ℕ, zero, suc, _+_, _*_, _≤_, _<_}
 use native.Mathlib.Omega.{arith}
-use mathlib.Core.Path.{_≡_, refl, sym, ap, ap₂, _∙_, subst, subst₂}
+use mathlib.Core.Path.{_≡_, refl, sym, ap, _∙_, subst, subst₂}
 use mathlib.Core.Bool.{Bool, true, false, _&&_}
 use mathlib.Core.List.{List, [], _∷_, _++_}
 use mathlib.Core.Option.{Option, none, some}
@@ -16,28 +16,27 @@ use lib.Dec.{eqb, ltb}
 use lib.ListN.{length, getD, take, set, replicate, length-set, length-append}
 use lib.Seq.{getD-set-same, getD-append-seam}
 use Rattle.vat.specs.Table.{sectorLength, unused}
-use Rattle.disc.specs.Disc.{Disc, lent, Sector, link, plain, recorded, puts}
+use Rattle.disc.specs.Disc.{Disc, lent, Sector, link, recorded, puts}
 use Rattle.disc.proofs.Recording.{Sound, leading-le}
 use Rattle.volume.specs.declared.Volume.{Volume}
-use Rattle.volume.specs.Volume.{ledgerLength, readOnly, unpack, mapOf, begun, grown, wrote, committed}
+use Rattle.volume.specs.Volume.{ledgerLength, unpack, begun, grown, wrote, committed}
 use Rattle.volume.proofs.State.{Proper, length-pack, unpack-pack, proper-begun, proper-wrote, proper-committed}
-use Rattle.recorder.specs.Calls.{Call, begin, mount, write, release, closePacket, commit, read, lookBack, timeOf}
+use Rattle.recorder.specs.Calls.{Call, begin, mount, write, release, closePacket, commit, lookBack, saves}
 use Rattle.recorder.specs.Refusals.{outcome, links, target}
 use Rattle.recorder.specs.Effects.{Effect, effect, sectorsIf, after, secondNumber, sectorsOf}
 use Rattle.alike.specs.Alike.{Alike}
-use Rattle.recorder.proofs.Done.{begin-done, WriteDone, write-done, CommitDone, commit-done, ledger-accepted, links-few}
+use Rattle.recorder.proofs.Done.{begin-done, WriteDone, write-done, ledger-accepted, links-few}
 use Rattle.alike.proofs.Discs.{blank-bytes}
 use Rattle.alike.proofs.Ahead.{marked-call}
-use Rattle.history.specs.History.{Entry, unusedEntry, shows, Snapshot, History, placed, saved, savedIf, done, feed}
-use Rattle.history.specs.Events.{cuts, Torn, tornAt, cutDisc, next, told, kept, cutShort, fed}
-use Rattle.history.specs.Claim.{blockNumber, DoneShowing, Claim}
+use Rattle.history.specs.History.{unusedEntry, shows, Snapshot, History, Told, placed, savedIf, done, feed}
+use Rattle.history.specs.Events.{cuts, Torn, tornAt, cutDisc, next, told, kept, cutIf, cutShort, fed}
+use Rattle.history.specs.Claim.{blockNumber, DoneShowing, Mounts, Claim}
 use Rattle.alike.specs.Scribbles.{event, scribble, AllHappen, ends, recalls}
-use Rattle.history.proofs.Log.{HeldIf}
-use Rattle.history.proofs.Growth.{F}
-use Rattle.history.proofs.Theorem.{Kept, Remounted, remounts}
-use Rattle.client.specs.Day.{Day, ended, called, day, AllDone, opening, ShowsSave, backIf, oneBack, commits, struck, OneSector, sectorsBehind, CutBehind, tableKept, readsOf, StoppedStoring, StoppedMarking}
+use Rattle.history.proofs.Saving.{told-save, unsaved, Saving, saving-done}
+use Rattle.history.proofs.Theorem.{Kept, saved-page, Remounted, remounts}
+use Rattle.client.specs.Day.{Day, ended, called, day, AllDone, opening, ShowsSave, backIf, oneBack, oneMoreIf, savesAmong, struck, OneSector, sectorsBehind, CutBehind, tableKept, readsOf, StoppedStoring, StoppedMarking}
 use Rattle.client.proofs.Days.{joined, first-done, part-done, called-done, done-first, rest-done, answer-of, last-called, mount-small}
-use Rattle.client.proofs.Claimed.{world, not-lost, history, kept-next, startPage, startPages, startHistory, opened, remembered, claim-behind, claim-at, kept-at}
+use Rattle.client.proofs.Claimed.{world, not-lost, history, kept-next, startPage, startPages, opened, remembered, claim-behind, claim-at, kept-at}
 use Rattle.client.proofs.Shown.{Reads, mount-disc, mount-reads, mount-unused, look-reads}
 
 -- ---- entries of a page
@@ -89,12 +88,15 @@ module _ (d : Disc) (l : List ℕ) (good : Proper (unpack l)) where
       let s : Volume = unpack l in
       rw e (ap (λ v. v .last) (unpack-pack (wrote v (target s) s) (proper-wrote s good v (target s) (f .fit .few) (omega (arith, few d (f .sound-disc), f .fit .same-recorded, links-few s)))))
 
-  committed-long : (stamp : Option (List ℕ)) → outcome d l (commit stamp) ≡ 0 → length (after d l (commit stamp) .ledger) ≡ ledgerLength
-  unfolding after effect
-  committed-long stamp e =
-      let f : CommitDone d l stamp = commit-done d l stamp e in
-      let s : Volume = unpack l in
-      rw e (length-pack (committed (target s) s) (proper-committed s good (target s) (omega (arith, few d (f .sound-disc), f .fit .same-recorded, links-few s))))
+  save-long : (c : Call) → saves c ≡ true → outcome d l c ≡ 0 → length (after d l c .ledger) ≡ ledgerLength
+  unfolding after
+  save-long c is-save e =
+      let s : Saving d l c = saving-done d l c is-save e in
+      let v : Volume = unpack l in
+      let b : ℕ = target v + length (s .between) in
+      rw e
+      (ap (λ (x : Effect). length (x .ledger)) (s .leaves)
+      ∙ length-pack (committed b v) (proper-committed v good b (omega (arith, s .done .room, few d (s .done .sound-disc), s .done .sound-disc .few, s .done .fit .same-recorded))))
 
 one-step : (last : ℕ) {answer : ℕ} → (last ≡ unused → answer ≡ 9 * 4294967296) → ((last ≡ unused → ⊥) → answer ≡ last) → answer ≡ oneBack last
 one-step last {answer} none-there there = go (eqb last unused) refl
@@ -139,7 +141,7 @@ module _ (x : Day) (fresh : Bool) (ok : x .answer < 4294967296) where
     no-gap : v ≤ length (startPage fresh (x .disc))
     no-gap = omega (arith, write-done (opened x fresh .disc) (opened x fresh .ledger) v block write-is-done .no-gap, start-size start-done)
 
-    first-there : getD (firstPage x fresh v block) v unusedEntry ≡ shows (taken x fresh v block) (some block)
+    pub first-there : getD (firstPage x fresh v block) v unusedEntry ≡ shows (taken x fresh v block) (some block)
     first-there = written-there (startPage fresh (x .disc)) v (taken x fresh v block) block no-gap
 
     below-first : v ≤ length (firstPage x fresh v block)
@@ -153,87 +155,86 @@ module _ (x : Day) (fresh : Bool) (ok : x .answer < 4294967296) where
 
   -- ---- a save
 
-  module _ (v : ℕ) (block : List ℕ) (a : AllDone x (opening fresh ∷ write v block ∷ commit none ∷ [])) where
+  module _ (v : ℕ) (block : List ℕ) (c : Call) (is-save : saves c ≡ true) (a : AllDone x (opening fresh ∷ write v block ∷ c ∷ [])) where
     abbrev recorded-day : Day
     recorded-day = day x (opening fresh ∷ write v block ∷ [])
 
     abbrev pub saved-day : Day
-    saved-day = day x (opening fresh ∷ write v block ∷ commit none ∷ [])
+    saved-day = day x (opening fresh ∷ write v block ∷ c ∷ [])
+
+    -- the write, as the history goes on from it
+    abbrev written-first : Day
+    written-first = called (opened x fresh .disc) (opened x fresh .ledger) (write v block)
 
     record-done : AllDone x (opening fresh ∷ write v block ∷ [])
-    record-done = part-done (opening fresh ∷ write v block ∷ []) (commit none ∷ []) x a
+    record-done = part-done (opening fresh ∷ write v block ∷ []) (c ∷ []) x a
 
-    commit-called : saved-day ≡ called (recorded-day .disc) (recorded-day .ledger) (commit none)
-    commit-called = last-called x (opening fresh ∷ write v block ∷ []) (commit none) record-done
+    save-called : saved-day ≡ called (recorded-day .disc) (recorded-day .ledger) c
+    save-called = last-called x (opening fresh ∷ write v block ∷ []) c record-done
 
-    commit-is-done : outcome (recorded-day .disc) (recorded-day .ledger) (commit none) ≡ 0
-    commit-is-done = done-first recorded-day (commit none) [] record-done (subst (λ (y : Day). y .answer < 4294967296) (joined (opening fresh ∷ write v block ∷ []) (commit none ∷ []) x) a)
+    save-is-done : outcome (recorded-day .disc) (recorded-day .ledger) c ≡ 0
+    save-is-done = done-first recorded-day c [] record-done (subst (λ (y : Day). y .answer < 4294967296) (joined (opening fresh ∷ write v block ∷ []) (c ∷ []) x) a)
 
     recorded-good : Proper (unpack (recorded-day .ledger))
     recorded-good = kept-at x fresh ok (write v block ∷ []) record-done .good .ledger-good
 
     pub saved-long : length (saved-day .ledger) ≡ ledgerLength
-    saved-long = ap (λ (y : Day). length (y .ledger)) commit-called ∙ committed-long (recorded-day .disc) (recorded-day .ledger) recorded-good none commit-is-done
+    saved-long = ap (λ (y : Day). length (y .ledger)) save-called ∙ save-long (recorded-day .disc) (recorded-day .ledger) recorded-good c is-save save-is-done
 
-    again : Remounted (recorded-day .disc) (recorded-day .ledger) none (saved-day .ledger)
-    again = remounts (recorded-day .disc) (recorded-day .ledger) recorded-good none commit-is-done (saved-day .ledger) saved-long
+    again : Remounted (recorded-day .disc) (recorded-day .ledger) c (saved-day .ledger)
+    again = remounts (recorded-day .disc) (recorded-day .ledger) recorded-good c is-save save-is-done (saved-day .ledger) saved-long
 
-    saved-disc : saved-day .disc ≡ after (recorded-day .disc) (recorded-day .ledger) (commit none) .disc
-    saved-disc = ap (λ (y : Day). y .disc) commit-called
+    saved-disc : saved-day .disc ≡ after (recorded-day .disc) (recorded-day .ledger) c .disc
+    saved-disc = ap (λ (y : Day). y .disc) save-called
 
     mounts : DoneShowing (saved-day .disc) (saved-day .ledger) mount (firstPage x fresh v block)
-    mounts = claim-at x fresh ok (write v block ∷ commit none ∷ []) a .mounts (saved-day .ledger) saved-long
+    mounts =
+        subst (λ (t : Told). Mounts (saved-day .disc) (saved-day .ledger) (done t (secondNumber (written-first .disc) (written-first .ledger) c) (remembered x fresh (write v block ∷ [])) .pages)) (told-save c is-save)
+        (claim-at x fresh ok (write v block ∷ c ∷ []) a .mounts (saved-day .ledger) saved-long)
 
-    pub saved-shows : ShowsSave x (opening fresh) v block (after (saved-day .disc) (saved-day .ledger) mount .answer) (after (saved-day .disc) (saved-day .ledger) mount .ledger)
+    pub saved-shows : ShowsSave x (opening fresh) v block c (after (saved-day .disc) (saved-day .ledger) mount .answer) (after (saved-day .disc) (saved-day .ledger) mount .ledger)
     unfolding day
     saved-shows =
         let p : Snapshot = startPage fresh (x .disc) in
         let b : ℕ = taken x fresh v block in
         let n : ℕ = unpack (opened x fresh .ledger) .size in
-        let sized : n ≡ length p = start-size (start-done v block (commit none ∷ []) a) in
+        let sized : n ≡ length p = start-size (start-done v block (c ∷ []) a) in
         record {
           clean = ap (λ (d : Disc). after d (saved-day .ledger) mount .answer) saved-disc ∙ again .clean;
-          table = ap (λ (d : Disc). unpack (after d (saved-day .ledger) mount .ledger) .last) saved-disc ∙ again .that-block ∙ ap (λ (y : Day). y .answer) (sym commit-called);
-          entry = mounts .showing .entry v ∙ ap blockNumber (first-there v block (commit none ∷ []) a) ∙ sym (answered-taken v block (commit none ∷ []) a);
+          table = ap (λ (d : Disc). unpack (after d (saved-day .ledger) mount .ledger) .last) saved-disc ∙ again .that-block ∙ ap (λ (y : Day). y .answer) (sym save-called);
+          entry = mounts .showing .entry v ∙ ap blockNumber (first-there v block (c ∷ []) a) ∙ sym (answered-taken v block (c ∷ []) a);
           size =
               mounts .showing .size ∙ length-written p v b block
               ∙ ap (λ (k : ℕ). grown (eqb v k) k) (sym sized ∙ ap (λ (y : Day). unpack (y .ledger) .size) (sym (first-done x (opening fresh) [] ok)));
         }
 
     -- what a program sees that mounts it
-    pub mounted-shows : {r : ℕ} {i k m : List ℕ} → ended r i k m ≡ day x (opening fresh ∷ write v block ∷ commit none ∷ mount ∷ []) → ShowsSave x (opening fresh) v block r m
+    pub mounted-shows : {r : ℕ} {i k m : List ℕ} → ended r i k m ≡ day x (opening fresh ∷ write v block ∷ c ∷ mount ∷ []) → ShowsSave x (opening fresh) v block c r m
     mounted-shows e =
-        subst (λ (y : Day). ShowsSave x (opening fresh) v block (y .answer) (y .ledger)) (sym (e ∙ last-called x (opening fresh ∷ write v block ∷ commit none ∷ []) mount a)) saved-shows
+        subst (λ (y : Day). ShowsSave x (opening fresh) v block c (y .answer) (y .ledger)) (sym (e ∙ last-called x (opening fresh ∷ write v block ∷ c ∷ []) mount a)) saved-shows
 
     pub saved-reads : (out : List ℕ) → length out ≡ sectorLength → Reads saved-day mount v out 0 block
-    saved-reads out long = mount-reads saved-day a v out long mounts (first-there v block (commit none ∷ []) a)
+    saved-reads out long = mount-reads saved-day a v out long mounts (first-there v block (c ∷ []) a)
 
     -- one step back: the table that was last when the day was opened
-    pub saved-back : {r : ℕ} {i k m : List ℕ} → ended r i k m ≡ day x (opening fresh ∷ write v block ∷ commit none ∷ lookBack 1 ∷ [])
+    pub saved-back : {r : ℕ} {i k m : List ℕ} → ended r i k m ≡ day x (opening fresh ∷ write v block ∷ c ∷ lookBack 1 ∷ [])
         → r ≡ oneBack (unpack (day x (opening fresh ∷ []) .ledger) .last)
     unfolding day
     saved-back e =
         let o : Day = day x (opening fresh ∷ []) in
-        let o-done : AllDone x (opening fresh ∷ []) = part-done (opening fresh ∷ []) (write v block ∷ commit none ∷ []) x a in
+        let o-done : AllDone x (opening fresh ∷ []) = part-done (opening fresh ∷ []) (write v block ∷ c ∷ []) x a in
         let same : unpack (recorded-day .ledger) .last ≡ unpack (o .ledger) .last =
         ap (λ (y : Day). unpack (y .ledger) .last) (last-called x (opening fresh ∷ []) (write v block) o-done)
         ∙ written-last (o .disc) (o .ledger) (kept-at x fresh ok [] o-done .good .ledger-good) v block
         (done-first o (write v block) [] o-done (subst (λ (y : Day). y .answer < 4294967296) (joined (opening fresh ∷ []) (write v block ∷ []) x) record-done)) in
-        let here : after (saved-day .disc) (saved-day .ledger) (lookBack 1) .answer ≡ after (after (recorded-day .disc) (recorded-day .ledger) (commit none) .disc) (saved-day .ledger) (lookBack 1) .answer =
+        let here : after (saved-day .disc) (saved-day .ledger) (lookBack 1) .answer ≡ after (after (recorded-day .disc) (recorded-day .ledger) c .disc) (saved-day .ledger) (lookBack 1) .answer =
         ap (λ (d : Disc). after d (saved-day .ledger) (lookBack 1) .answer) saved-disc in
-        ap (λ (y : Day). y .answer) (e ∙ last-called x (opening fresh ∷ write v block ∷ commit none ∷ []) (lookBack 1) a)
+        ap (λ (y : Day). y .answer) (e ∙ last-called x (opening fresh ∷ write v block ∷ c ∷ []) (lookBack 1) a)
         ∙ here ∙ one-step (unpack (o .ledger) .last) (λ z. again .none-back (same ∙ z)) (λ used. again .one-back (λ z. used (sym same ∙ z)) ∙ same)
 
 -- ---- any calls behind a save
 
--- a commit that is done has a draft to save
-pub drafted : (x : Day) (h : History) → Kept (world x) h → (stamp : Option (List ℕ)) → outcome (x .disc) (x .ledger) (commit stamp) ≡ 0 → (p : Snapshot) × (h .draft ≡ some p)
-drafted x h k stamp e =
-    let v : Volume = unpack (x .ledger) in
-    let held = subst (λ (t : Bool). HeldIf F t (x .disc) (mapOf v) (v .last) (h .draft)) (commit-done (x .disc) (x .ledger) stamp e .not-looking) (k .inv .draft) in
-    (_, held .shown)
-
--- every page moves one back with each commit
+-- every page moves one back with each save
 pub record MovedBack (before after : List Snapshot) (n : ℕ) : Type 0 where
   pub page : (i : ℕ) → getD after (i + n) [] ≡ getD before i []
   pub count : length after ≡ length before + n
@@ -249,7 +250,7 @@ moved-on {ps} {qs} {rs} {p} {n} e m =
           m .count ∙ (let k : length qs + n ≡ length ps + (n + 1) = omega (arith, more) in k);
     }
 
-pub moved-back : (cs : List Call) (x : Day) (h : History) → x .answer < 4294967296 → AllDone x cs → Kept (world x) h → MovedBack (h .pages) (history x h cs .pages) (commits cs)
+pub moved-back : (cs : List Call) (x : Day) (h : History) → x .answer < 4294967296 → AllDone x cs → Kept (world x) h → MovedBack (h .pages) (history x h cs .pages) (savesAmong cs)
 moved-back [] x h ok a k =
     record {
       page = λ i. ap (λ (n : ℕ). getD (h .pages) n []) (let e : i + 0 ≡ i = omega arith in e);
@@ -257,20 +258,13 @@ moved-back [] x h ok a k =
     }
 moved-back (c ∷ cs) x h ok a k =
     let z : outcome (x .disc) (x .ledger) c ≡ 0 = done-first x c cs ok a in
-    go c z
+    go (saves c) refl z
     (moved-back cs (called (x .disc) (x .ledger) c) (done (told c) (secondNumber (x .disc) (x .ledger) c) h) (called-done x c cs ok a) (rest-done x c cs ok a)
     (kept-next x c z h k))
   where
-    go : (c : Call) → outcome (x .disc) (x .ledger) c ≡ 0 → {qs : List Snapshot} → MovedBack (done (told c) (secondNumber (x .disc) (x .ledger) c) h .pages) qs (commits cs) → MovedBack (h .pages) qs (commits (c ∷ cs))
-    go begin e r = r
-    go mount e r = r
-    go (write v block) e r = r
-    go (release v) e r = r
-    go closePacket e r = r
-    go (commit stamp) e r = let d = drafted x h k stamp e in moved-on (ap (λ (o : Option Snapshot). saved o (h .pages)) (d .1)) r
-    go (read v block) e r = r
-    go (lookBack n) e r = r
-    go (timeOf n answer) e r = r
+    go : (t : Bool) → saves c ≡ t → outcome (x .disc) (x .ledger) c ≡ 0 → {qs : List Snapshot} → MovedBack (done (told c) (secondNumber (x .disc) (x .ledger) c) h .pages) qs (savesAmong cs) → MovedBack (h .pages) qs (oneMoreIf t (savesAmong cs))
+    go true is e r = moved-on (saved-page (x .disc) (x .ledger) h k c is e (secondNumber (x .disc) (x .ledger) c)) r
+    go false is e {qs} r = subst (λ (ps : List Snapshot). MovedBack ps qs (savesAmong cs)) (unsaved c is (secondNumber (x .disc) (x .ledger) c) h) r
 
 -- a later day on the disc that the calls left, lent any 1,848 bytes as ledger and a block
 pub record Later (x : Day) (cs : List Call) (y : Day) (out : List ℕ) : Type 0 where
@@ -283,30 +277,32 @@ module _ (x : Day) (fresh : Bool) (ok : x .answer < 4294967296) (v : ℕ) where
   claim-later : (cs : List Call) → AllDone x (opening fresh ∷ cs) → {y : Day} {out : List ℕ} → Later x (opening fresh ∷ cs) y out → Claim (y .disc) (remembered x fresh cs)
   claim-later cs a g = subst (λ (d : Disc). Claim d (remembered x fresh cs)) (g .there) (claim-at x fresh ok cs a)
 
-  pub long-ago-reads : (stamp : Option (List ℕ)) (block : List ℕ) (since : List Call) → AllDone x (opening fresh ∷ write v block ∷ commit stamp ∷ since)
-      → (y : Day) (out : List ℕ) → Later x (opening fresh ∷ write v block ∷ commit stamp ∷ since) y out
-      → Reads y (lookBack (commits since)) v out 0 block
+  pub long-ago-reads : (c : Call) → saves c ≡ true → (block : List ℕ) (since : List Call) → AllDone x (opening fresh ∷ write v block ∷ c ∷ since)
+      → (y : Day) (out : List ℕ) → Later x (opening fresh ∷ write v block ∷ c ∷ since) y out
+      → Reads y (lookBack (savesAmong since)) v out 0 block
   unfolding day
-  long-ago-reads stamp block since a y out g =
+  long-ago-reads c is-save block since a y out g =
       let o : Day = opened x fresh in
       let w : Day = called (o .disc) (o .ledger) (write v block) in
-      let z : Day = called (w .disc) (w .ledger) (commit stamp) in
-      let h : History = remembered x fresh (write v block ∷ commit stamp ∷ []) in
-      let o-done : o .answer < 4294967296 = called-done x (opening fresh) (write v block ∷ commit stamp ∷ since) ok a in
-      let o-rest : AllDone o (write v block ∷ commit stamp ∷ since) = rest-done x (opening fresh) (write v block ∷ commit stamp ∷ since) ok a in
-      let w-done : w .answer < 4294967296 = called-done o (write v block) (commit stamp ∷ since) o-done o-rest in
-      let w-rest : AllDone w (commit stamp ∷ since) = rest-done o (write v block) (commit stamp ∷ since) o-done o-rest in
-      let first : AllDone x (opening fresh ∷ write v block ∷ commit stamp ∷ []) = part-done (opening fresh ∷ write v block ∷ commit stamp ∷ []) since x a in
-      let same : day x (opening fresh ∷ write v block ∷ commit stamp ∷ []) ≡ z = first-done x (opening fresh) (write v block ∷ commit stamp ∷ []) ok ∙ first-done o (write v block) (commit stamp ∷ []) o-done ∙ first-done w (commit stamp) [] w-done in
-      let k : Kept (world z) h = subst (λ (d : Day). Kept (world d) h) same (kept-at x fresh ok (write v block ∷ commit stamp ∷ []) first) in
-      let m : MovedBack (h .pages) (remembered x fresh (write v block ∷ commit stamp ∷ since) .pages) (commits since) =
-      moved-back since z h (called-done w (commit stamp) since w-done w-rest) (rest-done w (commit stamp) since w-done w-rest) k in
-      let page : getD (remembered x fresh (write v block ∷ commit stamp ∷ since) .pages) (commits since) [] ≡ firstPage x fresh v block =
-      ap (λ (n : ℕ). getD (remembered x fresh (write v block ∷ commit stamp ∷ since) .pages) n []) (let e : commits since ≡ 0 + commits since = omega arith in e) ∙ m .page 0 in
-      let some-page : length (h .pages) ≡ suc (length (startPages fresh (x .disc))) = refl in
-      look-reads y (g .ok) v out (g .block-long) (commits since)
-      (claim-later (write v block ∷ commit stamp ∷ since) a g .looks (y .ledger) (g .ledger-long) (commits since) (omega (arith, m .count, some-page)))
-      (ap (λ (p : Snapshot). getD p v unusedEntry) page ∙ first-there x fresh ok v block (commit stamp ∷ since) a)
+      let z : Day = called (w .disc) (w .ledger) c in
+      let h : History = remembered x fresh (write v block ∷ c ∷ []) in
+      let o-done : o .answer < 4294967296 = called-done x (opening fresh) (write v block ∷ c ∷ since) ok a in
+      let o-rest : AllDone o (write v block ∷ c ∷ since) = rest-done x (opening fresh) (write v block ∷ c ∷ since) ok a in
+      let w-done : w .answer < 4294967296 = called-done o (write v block) (c ∷ since) o-done o-rest in
+      let w-rest : AllDone w (c ∷ since) = rest-done o (write v block) (c ∷ since) o-done o-rest in
+      let first : AllDone x (opening fresh ∷ write v block ∷ c ∷ []) = part-done (opening fresh ∷ write v block ∷ c ∷ []) since x a in
+      let same : day x (opening fresh ∷ write v block ∷ c ∷ []) ≡ z = first-done x (opening fresh) (write v block ∷ c ∷ []) ok ∙ first-done o (write v block) (c ∷ []) o-done ∙ first-done w c [] w-done in
+      let k : Kept (world z) h = subst (λ (d : Day). Kept (world d) h) same (kept-at x fresh ok (write v block ∷ c ∷ []) first) in
+      let m : MovedBack (h .pages) (remembered x fresh (write v block ∷ c ∷ since) .pages) (savesAmong since) =
+      moved-back since z h (called-done w c since w-done w-rest) (rest-done w c since w-done w-rest) k in
+      let made : h .pages ≡ firstPage x fresh v block ∷ startPages fresh (x .disc) =
+      ap (λ (t : Told). done t (secondNumber (w .disc) (w .ledger) c) (remembered x fresh (write v block ∷ [])) .pages) (told-save c is-save) in
+      let page : getD (remembered x fresh (write v block ∷ c ∷ since) .pages) (savesAmong since) [] ≡ firstPage x fresh v block =
+      ap (λ (n : ℕ). getD (remembered x fresh (write v block ∷ c ∷ since) .pages) n []) (let e : savesAmong since ≡ 0 + savesAmong since = omega arith in e) ∙ m .page 0 ∙ ap (λ (ps : List Snapshot). getD ps 0 []) made in
+      let some-page : length (h .pages) ≡ suc (length (startPages fresh (x .disc))) = ap length made in
+      look-reads y (g .ok) v out (g .block-long) (savesAmong since)
+      (claim-later (write v block ∷ c ∷ since) a g .looks (y .ledger) (g .ledger-long) (savesAmong since) (omega (arith, m .count, some-page)))
+      (ap (λ (p : Snapshot). getD p v unusedEntry) page ∙ first-there x fresh ok v block (c ∷ since) a)
 
   -- two saves: the newer reads what was written last
   pub newer-reads : (old new : List ℕ) → (a : AllDone x (opening fresh ∷ write v old ∷ commit none ∷ write v new ∷ closePacket ∷ commit none ∷ []))
@@ -353,30 +349,27 @@ torn-sector (some bytes) t = t
 ends-in : (ss : List Sector) (s : Sector) → 0 < length (ss ++ (s ∷ []))
 ends-in ss s = omega (arith, length-append ss (s ∷ []))
 
--- a commit records sectors exactly if it is done
-kept-table : (d : Disc) (l : List ℕ) (stamp : Option (List ℕ)) (j : ℕ) → kept d l (commit stamp) j ≡ tableKept (commit stamp) j (length (sectorsOf d l (commit stamp)))
-unfolding sectorsOf effect
-kept-table d l stamp j = go (outcome d l (commit stamp))
+-- a save records sectors exactly if it is done
+kept-table : (d : Disc) (l : List ℕ) (c : Call) → saves c ≡ true → (j : ℕ) → kept d l c j ≡ (ltb 0 (length (sectorsOf d l c)) && eqb j (length (sectorsOf d l c)))
+unfolding sectorsOf
+kept-table d l c is-save j = go (outcome d l c) refl
   where
-    ss : List Sector
-    ss = effect d l (commit stamp) .sectors
-
-    go : (n : ℕ) → (eqb n 0 && eqb j (length (sectorsIf n ss))) ≡ (ltb 0 (length (sectorsIf n ss)) && eqb j (length (sectorsIf n ss)))
-    go zero = ap (λ (t : Bool). t && eqb j (length ss)) (sym (lt-ltb 0 (length ss) (ends-in (replicate (links (unpack l)) link) _)))
-    go (suc n) = ap (λ (t : Bool). t && eqb j 0) (ne-eqb (suc n) 0 (λ e. omega (arith, e)))
+    go : (n : ℕ) → outcome d l c ≡ n → (eqb n 0 && eqb j (length (sectorsIf n (effect d l c .sectors)))) ≡ (ltb 0 (length (sectorsIf n (effect d l c .sectors))) && eqb j (length (sectorsIf n (effect d l c .sectors))))
+    go zero e =
+        let ss : List Sector = effect d l c .sectors in
+        let s : Saving d l c = saving-done d l c is-save e in
+        let some-there : 0 < length ss = subst (λ (x : Effect). 0 < length (x .sectors)) (sym (s .leaves)) (ends-in (replicate (links (unpack l)) link ++ s .between) _) in
+        ap (λ (t : Bool). t && eqb j (length ss)) (sym (lt-ltb 0 (length ss) some-there))
+    go (suc n) e = ap (λ (t : Bool). t && eqb j 0) (ne-eqb (suc n) 0 (λ e. omega (arith, e)))
 
 cut-history : (d : Disc) (l : List ℕ) (h : History) (c : Call) (j : ℕ)
     → feed h (cutShort d l c j) ≡ record { pages = savedIf (tableKept c j (length (sectorsOf d l c))) (h .draft) (h .pages); draft = none }
 unfolding feed
-cut-history d l h begin j = refl
-cut-history d l h mount j = refl
-cut-history d l h (write v block) j = refl
-cut-history d l h (release v) j = refl
-cut-history d l h closePacket j = refl
-cut-history d l h (commit stamp) j = ap {B = History} (λ t. record { pages = savedIf t (h .draft) (h .pages); draft = none }) (kept-table d l stamp j)
-cut-history d l h (read v block) j = refl
-cut-history d l h (lookBack k) j = refl
-cut-history d l h (timeOf k answer) j = refl
+cut-history d l h c j = go (saves c) refl
+  where
+    go : (t : Bool) → saves c ≡ t → feed h (cutIf t (told c) (kept d l c j)) ≡ record { pages = savedIf (t && (ltb 0 (length (sectorsOf d l c)) && eqb j (length (sectorsOf d l c)))) (h .draft) (h .pages); draft = none }
+    go true is = ap {B = History} (λ k. record { pages = savedIf k (h .draft) (h .pages); draft = none }) (kept-table d l c is j)
+    go false is = refl
 
 module _ (x : Day) (fresh : Bool) (ok : x .answer < 4294967296) (v : ℕ) (stamp : Option (List ℕ)) (old new : List ℕ) (c : Call) (j : ℕ) (tear : Option (List ℕ)) where
   abbrev before-cut : List Call

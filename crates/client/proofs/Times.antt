@@ -1,11 +1,11 @@
--- The time of a save, put to a day on which every call is done: a commit among any calls, told as many saves back as commits follow it.
+-- The time of a save, put to a day on which every call is done: a save among any calls, told as many saves back as saves follow it.
 -- Assumes nothing.
-use Prim.Native.Nat.{ℕ, suc, _+_, _*_, _<_}
+use Prim.Native.Nat.{ℕ, _+_, _*_, _<_}
 use native.Mathlib.Omega.{arith}
 use mathlib.Core.Path.{_≡_, refl, sym, ap, _∙_, subst}
 use mathlib.Core.Bool.{Bool, true, false}
 use mathlib.Core.List.{List, [], _∷_, _++_}
-use mathlib.Core.Option.{Option, none, some}
+use mathlib.Core.Option.{some}
 use lib.ListN.{length}
 use borrow.Author.Tests.{not-false}
 use Rattle.timestamp.specs.Timestamp as stamps
@@ -14,32 +14,32 @@ use Rattle.timestamp.proofs.Stamps.{zeros-wrong}
 use Rattle.vat.specs.Sector.{noStamp}
 use Rattle.disc.specs.Disc.{Disc, lent}
 use Rattle.volume.specs.Volume.{ledgerLength}
-use Rattle.recorder.specs.Calls.{Call, commit, timeOf}
-use Rattle.recorder.specs.Refusals.{stampWrong, outcome}
-use Rattle.recorder.specs.Effects.{stampOf, After, left, after, secondNumber}
+use Rattle.recorder.specs.Calls.{Call, commit, timeOf, saves}
+use Rattle.recorder.specs.Refusals.{outcome}
+use Rattle.recorder.specs.Effects.{After, left, after, secondNumber}
 use Rattle.recorder.proofs.Done.{commit-done}
-use Rattle.history.specs.History.{Snapshot, History, Told, saved, done, feed}
+use Rattle.history.specs.History.{History, done, feed}
 use Rattle.history.specs.Events.{World, Event, calls, AllAllowed, next, told, fed, runs, remembers, afterCall}
-use Rattle.history.specs.Times.{telling, TellsTime, Saves, EachTold}
-use Rattle.history.proofs.Theorem.{Kept}
+use Rattle.history.specs.Times.{telling, TellsTime, savedStamp, Saves, EachTold}
+use Rattle.history.proofs.Theorem.{Kept, saved-page}
 use Rattle.history.proofs.Times.{save-times, told-there}
-use Rattle.client.specs.Day.{Day, called, day, AllDone, opening, commits}
+use Rattle.client.specs.Day.{Day, called, day, AllDone, opening, savesAmong}
 use Rattle.client.proofs.Days.{joined, first-done, part-done, called-done, done-first, rest-done}
 use Rattle.client.proofs.Claimed.{world, not-lost, history, next-done, fed-done, kept-next, kept-on, startHistory, start-kept, opened}
-use Rattle.client.proofs.Saves.{drafted, MovedBack, moved-back}
+use Rattle.client.proofs.Saves.{MovedBack, moved-back}
 
 -- ---- a day as a list of events
 
-abbrev asEvents : List Call → List Event
+abbrev pub asEvents : List Call → List Event
 asEvents [] = []
 asEvents (c ∷ cs) = calls c [] ∷ asEvents cs
 
-record Went (x : Day) (h : History) (cs : List Call) : Type 0 where
-  allowed : AllAllowed (world x) (asEvents cs)
-  ended : runs (world x) (asEvents cs) ≡ world (day x cs)
-  recalled : remembers (world x) h (asEvents cs) ≡ history x h cs
+pub record Went (x : Day) (h : History) (cs : List Call) : Type 0 where
+  pub allowed : AllAllowed (world x) (asEvents cs)
+  pub ended : runs (world x) (asEvents cs) ≡ world (day x cs)
+  pub recalled : remembers (world x) h (asEvents cs) ≡ history x h cs
 
-went : (cs : List Call) (x : Day) (h : History) → x .answer < 4294967296 → AllDone x cs → Went x h cs
+pub went : (cs : List Call) (x : Day) (h : History) → x .answer < 4294967296 → AllDone x cs → Went x h cs
 unfolding AllAllowed runs remembers day
 went [] x h ok a = record { allowed = tt; ended = refl; recalled = refl }
 went (c ∷ cs) x h ok a =
@@ -57,98 +57,97 @@ went (c ∷ cs) x h ok a =
           ∙ rest .recalled;
     }
 
--- ---- a commit, and calls behind it
+-- ---- a save, and calls behind it
 
 start-told : (fresh : Bool) (d : Disc) (l : List ℕ) → outcome d l (opening fresh) ≡ 0 → EachTold (afterCall d l (opening fresh)) (startHistory fresh d)
 start-told true d l e = save-times .after-begin d l e
 start-told false d l e = save-times .after-mount d l e
 
-module _ (stamp : Option (List ℕ)) (since : List Call) (y : Day) (h : History) (ok : y .answer < 4294967296) (a : AllDone y (commit stamp ∷ since)) (k : Kept (world y) h) where
+module _ (c : Call) (is-save : saves c ≡ true) (since : List Call) (y : Day) (h : History) (ok : y .answer < 4294967296) (a : AllDone y (c ∷ since)) (k : Kept (world y) h) where
   committed : Day
-  committed = called (y .disc) (y .ledger) (commit stamp)
+  committed = called (y .disc) (y .ledger) c
 
-  is-done : outcome (y .disc) (y .ledger) (commit stamp) ≡ 0
-  is-done = done-first y (commit stamp) since ok a
+  is-done : outcome (y .disc) (y .ledger) c ≡ 0
+  is-done = done-first y c since ok a
 
   remembered : History
-  remembered = done Told.commit (secondNumber (y .disc) (y .ledger) (commit stamp)) h
+  remembered = done (told c) (secondNumber (y .disc) (y .ledger) c) h
 
   went-since : Went committed remembered since
   unfolding committed remembered
-  went-since = went since (called (y .disc) (y .ledger) (commit stamp)) (done Told.commit (secondNumber (y .disc) (y .ledger) (commit stamp)) h) (called-done y (commit stamp) since ok a) (rest-done y (commit stamp) since ok a)
+  went-since = went since (called (y .disc) (y .ledger) c) (done (told c) (secondNumber (y .disc) (y .ledger) c) h) (called-done y c since ok a) (rest-done y c since ok a)
 
-  -- the commit makes its save
-  fed-here : feed h (fed (world y) (calls (commit stamp) [])) ≡ remembered
+  -- the call makes its save
+  fed-here : feed h (fed (world y) (calls c [])) ≡ remembered
   unfolding remembered
-  fed-here = fed-done y (commit stamp) is-done h
+  fed-here = fed-done y c is-done h
 
-  next-here : next (world y) (calls (commit stamp) []) ≡ world committed
+  next-here : next (world y) (calls c []) ≡ world committed
   unfolding committed
-  next-here = next-done y (commit stamp) is-done
+  next-here = next-done y c is-done
 
-  makes-a-page : Saves (world y) h (calls (commit stamp) [])
+  makes-a-page : Saves (world y) h (calls c [])
   unfolding remembered
   makes-a-page =
-      let draft = drafted y h k stamp is-done in
-      ap (λ (g : History). length (g .pages)) fed-here ∙ ap (λ (o : Option Snapshot). length (saved o (h .pages))) (draft .1)
+      ap (λ (g : History). length (g .pages)) fed-here ∙ ap length (saved-page (y .disc) (y .ledger) h k c is-save is-done (secondNumber (y .disc) (y .ledger) c))
 
   -- and those behind it make theirs
-  follow : AllAllowed (next (world y) (calls (commit stamp) [])) (asEvents since)
+  follow : AllAllowed (next (world y) (calls c [])) (asEvents since)
   follow = subst (λ (w : World). AllAllowed w (asEvents since)) (sym next-here) (went-since .allowed)
 
-  counted : length (remembers (next (world y) (calls (commit stamp) [])) (feed h (fed (world y) (calls (commit stamp) []))) (asEvents since) .pages)
-      ≡ commits since + length (feed h (fed (world y) (calls (commit stamp) [])) .pages)
+  counted : length (remembers (next (world y) (calls c [])) (feed h (fed (world y) (calls c []))) (asEvents since) .pages)
+      ≡ savesAmong since + length (feed h (fed (world y) (calls c [])) .pages)
   unfolding committed remembered
   counted =
-      let moved : MovedBack (remembered .pages) (history committed remembered since .pages) (commits since) =
-      moved-back since committed remembered (called-done y (commit stamp) since ok a) (rest-done y (commit stamp) since ok a) (kept-next y (commit stamp) is-done h k) in
-      let same : remembers (next (world y) (calls (commit stamp) [])) (feed h (fed (world y) (calls (commit stamp) []))) (asEvents since) ≡ history committed remembered since =
-      ap (λ (w : World). remembers w (feed h (fed (world y) (calls (commit stamp) []))) (asEvents since)) next-here
+      let moved : MovedBack (remembered .pages) (history committed remembered since .pages) (savesAmong since) =
+      moved-back since committed remembered (called-done y c since ok a) (rest-done y c since ok a) (kept-next y c is-done h k) in
+      let same : remembers (next (world y) (calls c [])) (feed h (fed (world y) (calls c []))) (asEvents since) ≡ history committed remembered since =
+      ap (λ (w : World). remembers w (feed h (fed (world y) (calls c []))) (asEvents since)) next-here
       ∙ ap (λ (g : History). remembers (world committed) g (asEvents since)) fed-here
       ∙ went-since .recalled in
       ap (λ (g : History). length (g .pages)) same
-      ∙ (let e : length (history committed remembered since .pages) ≡ commits since + length (remembered .pages) = omega (arith, moved .count) in e)
-      ∙ ap (λ (g : History). commits since + length (g .pages)) (sym fed-here)
+      ∙ (let e : length (history committed remembered since .pages) ≡ savesAmong since + length (remembered .pages) = omega (arith, moved .count) in e)
+      ∙ ap (λ (g : History). savesAmong since + length (g .pages)) (sym fed-here)
 
-  -- where the calls behind the commit lead
-  since-disc : runs (next (world y) (calls (commit stamp) [])) (asEvents since) .disc ≡ day y (commit stamp ∷ since) .disc
+  -- where the calls behind it lead
+  since-disc : runs (next (world y) (calls c [])) (asEvents since) .disc ≡ day y (c ∷ since) .disc
   unfolding committed
   since-disc =
-      ap (λ (w : World). runs w (asEvents since) .disc) (next-done y (commit stamp) is-done)
+      ap (λ (w : World). runs w (asEvents since) .disc) (next-done y c is-done)
       ∙ ap (λ (w : World). w .disc) (went-since .ended)
-      ∙ ap (λ (z : Day). z .disc) (sym (first-done y (commit stamp) since ok))
+      ∙ ap (λ (z : Day). z .disc) (sym (first-done y c since ok))
 
-module _ (x : Day) (fresh : Bool) (ok : x .answer < 4294967296) (before since : List Call) (stamp : Option (List ℕ)) (a : AllDone x (opening fresh ∷ (before ++ (commit stamp ∷ since)))) where
-  pub told-since : TellsTime (day x (opening fresh ∷ (before ++ (commit stamp ∷ since))) .disc) (commits since) (stampOf stamp)
+module _ (x : Day) (fresh : Bool) (ok : x .answer < 4294967296) (before since : List Call) (c : Call) (is-save : saves c ≡ true) (a : AllDone x (opening fresh ∷ (before ++ (c ∷ since)))) where
+  pub told-since : TellsTime (day x (opening fresh ∷ (before ++ (c ∷ since))) .disc) (savesAmong since) (savedStamp c)
   told-since =
       let o : Day = opened x fresh in
       let h : History = startHistory fresh (x .disc) in
-      let e : outcome (x .disc) (x .ledger) (opening fresh) ≡ 0 = done-first x (opening fresh) (before ++ (commit stamp ∷ since)) ok a in
-      let o-done : o .answer < 4294967296 = called-done x (opening fresh) (before ++ (commit stamp ∷ since)) ok a in
-      let rest : AllDone o (before ++ (commit stamp ∷ since)) = rest-done x (opening fresh) (before ++ (commit stamp ∷ since)) ok a in
-      let b-done : AllDone o before = part-done before (commit stamp ∷ since) o rest in
+      let e : outcome (x .disc) (x .ledger) (opening fresh) ≡ 0 = done-first x (opening fresh) (before ++ (c ∷ since)) ok a in
+      let o-done : o .answer < 4294967296 = called-done x (opening fresh) (before ++ (c ∷ since)) ok a in
+      let rest : AllDone o (before ++ (c ∷ since)) = rest-done x (opening fresh) (before ++ (c ∷ since)) ok a in
+      let b-done : AllDone o before = part-done before (c ∷ since) o rest in
       let y : Day = day o before in
-      let y-rest : AllDone y (commit stamp ∷ since) = subst (λ (z : Day). z .answer < 4294967296) (joined before (commit stamp ∷ since) o) rest in
+      let y-rest : AllDone y (c ∷ since) = subst (λ (z : Day). z .answer < 4294967296) (joined before (c ∷ since) o) rest in
       let there : Went o h before = went before o h o-done b-done in
       let kept : Kept (world y) (history o h before) = kept-on before o h o-done b-done (start-kept fresh (x .disc) (x .ledger) e) in
       let hy : History = history o h before in
-      let same : runs (next (world y) (calls (commit stamp) [])) (asEvents since) .disc ≡ day x (opening fresh ∷ (before ++ (commit stamp ∷ since))) .disc =
-      since-disc stamp since y hy b-done y-rest kept
-      ∙ ap (λ (z : Day). z .disc) (sym (joined before (commit stamp ∷ since) o) ∙ sym (first-done x (opening fresh) (before ++ (commit stamp ∷ since)) ok)) in
-      subst (λ (d : Disc). TellsTime d (commits since) (stampOf stamp)) same
+      let same : runs (next (world y) (calls c [])) (asEvents since) .disc ≡ day x (opening fresh ∷ (before ++ (c ∷ since))) .disc =
+      since-disc c is-save since y hy b-done y-rest kept
+      ∙ ap (λ (z : Day). z .disc) (sym (joined before (c ∷ since) o) ∙ sym (first-done x (opening fresh) (before ++ (c ∷ since)) ok)) in
+      subst (λ (d : Disc). TellsTime d (savesAmong since) (savedStamp c)) same
       (told-there (world o) h (start-told fresh (x .disc) (x .ledger) e) (asEvents before) (there .allowed) (there .ended) (there .recalled)
-      (calls (commit stamp) []) (λ n. absurd (not-lost (y .ledger) n)) stamp refl (makes-a-page stamp since y hy b-done y-rest kept)
-      (asEvents since) (follow stamp since y hy b-done y-rest kept) (commits since) (counted stamp since y hy b-done y-rest kept))
+      (calls c []) (λ n. absurd (not-lost (y .ledger) n)) (makes-a-page c is-save since y hy b-done y-rest kept)
+      (asEvents since) (follow c is-save since y hy b-done y-rest kept) (savesAmong since) (counted c is-save since y hy b-done y-rest kept))
 
-  -- a commit that was done with a timestamp was given a right one
-  pub right-stamp : (s : List ℕ) → stamp ≡ some s → valid s ≡ true
-  right-stamp s e =
-      let o : Day = opened x fresh in
-      let rest : AllDone o (before ++ (commit stamp ∷ since)) = rest-done x (opening fresh) (before ++ (commit stamp ∷ since)) ok a in
-      let b-done : AllDone o before = part-done before (commit stamp ∷ since) o rest in
-      let y : Day = day o before in
-      let y-rest : AllDone y (commit stamp ∷ since) = subst (λ (z : Day). z .answer < 4294967296) (joined before (commit stamp ∷ since) o) rest in
-      not-false (valid s) (subst (λ (t : Option (List ℕ)). stampWrong t ≡ false) e (commit-done (y .disc) (y .ledger) stamp (done-first y (commit stamp) since b-done y-rest) .right-stamp))
+-- a commit that was done with a timestamp was given a right one
+pub right-stamp : (x : Day) (fresh : Bool) → x .answer < 4294967296 → (before since : List Call) (s : List ℕ) → AllDone x (opening fresh ∷ (before ++ (commit (some s) ∷ since))) → valid s ≡ true
+right-stamp x fresh ok before since s a =
+    let o : Day = opened x fresh in
+    let rest : AllDone o (before ++ (commit (some s) ∷ since)) = rest-done x (opening fresh) (before ++ (commit (some s) ∷ since)) ok a in
+    let b-done : AllDone o before = part-done before (commit (some s) ∷ since) o rest in
+    let y : Day = day o before in
+    let y-rest : AllDone y (commit (some s) ∷ since) = subst (λ (z : Day). z .answer < 4294967296) (joined before (commit (some s) ∷ since) o) rest in
+    not-false (valid s) (commit-done (y .disc) (y .ledger) (some s) (done-first y (commit (some s)) since b-done y-rest) .right-stamp)
 
 -- ---- what a program is told
 

@@ -9,8 +9,10 @@ use lib.ListN.{length, getD, take}
 use Rattle.vat.specs.Table.{sectorLength, unused}
 use Rattle.disc.specs.Disc.{Disc, lent, Sector, torn, recorded, put, puts}
 use Rattle.volume.specs.Volume.{unpack, grown}
-use Rattle.recorder.specs.Calls.{Call, begin, mount, write, release, closePacket, commit, read, lookBack, timeOf}
+use Rattle.recorder.specs.Calls.{Call, begin, mount, write, read, saves}
 use Rattle.recorder.specs.Effects.{after, sectorsOf}
+use Rattle.history.specs.Events.{Event, runs}
+use Rattle.history.specs.Closed.{TurnedAway}
 
 -- What the last call answered, outcome × 4,294,967,296 + second number; and the disc and the ledger as it left them.
 pub record Day : Type 0 where
@@ -49,11 +51,11 @@ opening false = mount
 abbrev pub readAt : Day → ℕ → List ℕ → List ℕ
 readAt x v out = after (x .disc) (x .ledger) (read v out) .buffer
 
--- A save of number v as a mount then answers and shows it: clean, at the block that commit told, the number at the block that write told, and as many
--- numbers as before, or one more.
-pub record ShowsSave (x : Day) (start : Call) (v : ℕ) (block : List ℕ) (answer : ℕ) (ledger : List ℕ) : Type 0 where
+-- A save of number v by the call c as a mount then answers and shows it: clean, at the block that the save told, the number at the block that write told,
+-- and as many numbers as before, or one more.
+pub record ShowsSave (x : Day) (start : Call) (v : ℕ) (block : List ℕ) (c : Call) (answer : ℕ) (ledger : List ℕ) : Type 0 where
   pub clean : answer ≡ 1
-  pub table : unpack ledger .last ≡ day x (start ∷ write v block ∷ commit none ∷ []) .answer
+  pub table : unpack ledger .last ≡ day x (start ∷ write v block ∷ c ∷ []) .answer
   pub entry : getD (unpack ledger .entries) v unused ≡ day x (start ∷ write v block ∷ []) .answer
   pub size :
       let before : ℕ = unpack (day x (start ∷ []) .ledger) .size in
@@ -67,18 +69,14 @@ backIf false last = last
 abbrev pub oneBack : ℕ → ℕ
 oneBack last = backIf (eqb last unused) last
 
--- How many commits are among the calls.
-abbrev pub commits : List Call → ℕ
-commits [] = 0
-commits (begin ∷ cs) = commits cs
-commits (mount ∷ cs) = commits cs
-commits (write v block ∷ cs) = commits cs
-commits (release v ∷ cs) = commits cs
-commits (closePacket ∷ cs) = commits cs
-commits (commit stamp ∷ cs) = commits cs + 1
-commits (read v block ∷ cs) = commits cs
-commits (lookBack k ∷ cs) = commits cs
-commits (timeOf k answer ∷ cs) = commits cs
+-- How many saves are among the calls.
+abbrev pub oneMoreIf : Bool → ℕ → ℕ
+oneMoreIf true n = n + 1
+oneMoreIf false n = n
+
+abbrev pub savesAmong : List Call → ℕ
+savesAmong [] = 0
+savesAmong (c ∷ cs) = oneMoreIf (saves c) (savesAmong cs)
 
 -- What a cut leaves at the call's next sector, if there is one: it stays as it was, or is torn to 2048 bytes of any kind.
 abbrev pub struck : Bool → Option (List ℕ) → ℕ → Disc → Disc
@@ -103,17 +101,9 @@ pub record CutBehind (x : Day) (cs : List Call) (c : Call) (j : ℕ) (tear : Opt
       let d : Disc = day x cs .disc in
       left ≡ struck (ltb j (length (sectorsBehind x cs c))) tear (recorded d + j) (puts d (recorded d) (take j (sectorsBehind x cs c)))
 
--- A commit that records n sectors, none if it is refused, has kept its table, the last of them.
+-- A save that records n sectors, none if it is refused, has kept its table, the last of them.
 abbrev pub tableKept : Call → ℕ → ℕ → Bool
-tableKept begin j n = false
-tableKept mount j n = false
-tableKept (write v block) j n = false
-tableKept (release v) j n = false
-tableKept closePacket j n = false
-tableKept (commit stamp) j n = ltb 0 n && eqb j n
-tableKept (read v block) j n = false
-tableKept (lookBack k) j n = false
-tableKept (timeOf k answer) j n = false
+tableKept c j n = saves c && (ltb 0 n && eqb j n)
 
 -- What number v reads after the cut: the block of the new save if its table was kept, and else the old one.
 abbrev pub readsOf : Bool → List ℕ → List ℕ → List ℕ
@@ -139,3 +129,11 @@ pub record StoppedMarking (x : Day) (cs : List Call) (c : Call) (j : ℕ) (left 
   pub some-marked :
       let d : Disc = day x cs .disc in
       puts d (recorded d) (take j (sectorsBehind x cs c)) .kinds ≡ left .kinds
+
+-- What any events leave of a disc, whatever ledger was there: calls that are done, refused or cut.
+abbrev pub leftBy : Disc → Option (List ℕ) → List Event → Disc
+leftBy d held tried = runs (record { disc = d; ledger = held }) tried .disc
+
+-- An answer that turns away a call on a closed disc.
+abbrev pub ClosedAnswer : ℕ → Type 0
+ClosedAnswer r = (n : ℕ) × TurnedAway n × (r ≡ n * 4294967296)

@@ -10,11 +10,16 @@ ghost use Prim.Native.Nat.{ℕ, _*_, _<_};
 ghost use lib.ListN.{length};
 ghost use Rattle.timestamp.specs.Timestamp.{toldLength, told};
 ghost use Rattle.vat.specs.Table.{sectorLength};
+ghost use Rattle.vat.specs.Sector.{noStamp};
+ghost use Rattle.anchor.specs.declared.Extent.{Extent};
+ghost use Rattle.anchor.specs.Anchor.{extent};
 ghost use Rattle.disc.specs.Disc.{Disc, lent};
 ghost use Rattle.volume.specs.Volume.{ledgerLength, unpack};
-ghost use Rattle.recorder.specs.Calls.{Call, begin, mount, write, release, closePacket, commit, read, lookBack, timeOf};
+ghost use Rattle.recorder.specs.Calls.{Call, begin, mount, write, release, closePacket, commit, closeSession, read, lookBack, timeOf, saves};
+ghost use Rattle.history.specs.Events.{Event};
+ghost use Rattle.history.specs.Times.{savedStamp};
 ghost use Rattle.alike.specs.Alike.{Alike};
-ghost use Rattle.client.specs.Day.{Day, ended, morning, day, AllDone, opening, readAt, ShowsSave, oneBack, commits, sectorsBehind, CutBehind, tableKept, readsOf, StoppedStoring, StoppedMarking};
+ghost use Rattle.client.specs.Day.{Day, ended, morning, day, AllDone, opening, readAt, ShowsSave, oneBack, savesAmong, sectorsBehind, CutBehind, tableKept, readsOf, StoppedStoring, StoppedMarking, leftBy, ClosedAnswer};
 
 // An answer from here on is a refusal.
 const REFUSED: u64 = 4294967296;
@@ -75,7 +80,7 @@ pub fn save_and_mount(
     block: &[u8],
 ) -> u64
     ensures { λ r. ⌜ ended r (now (image .exit)) (now (kinds .exit)) (now (ledger .exit)) ≡ day (morning (now (image .entry)) (now (kinds .entry)) (now (ledger .entry))) (opening fresh ∷ write v (now (block .entry)) ∷ commit none ∷ mount ∷ []) ⌝ }
-    ensures { λ r. ⌜ (AllDone (morning (now (image .entry)) (now (kinds .entry)) (now (ledger .entry))) (opening fresh ∷ write v (now (block .entry)) ∷ commit none ∷ []) → ShowsSave (morning (now (image .entry)) (now (kinds .entry)) (now (ledger .entry))) (opening fresh) v (now (block .entry)) r (now (ledger .exit))) ⌝ }
+    ensures { λ r. ⌜ (AllDone (morning (now (image .entry)) (now (kinds .entry)) (now (ledger .entry))) (opening fresh ∷ write v (now (block .entry)) ∷ commit none ∷ []) → ShowsSave (morning (now (image .entry)) (now (kinds .entry)) (now (ledger .entry))) (opening fresh) v (now (block .entry)) (commit none) r (now (ledger .exit))) ⌝ }
 {
     let saved = save(image, kinds, ledger, fresh, v, block);
     if REFUSED <= saved {
@@ -142,6 +147,74 @@ pub fn save_at_and_tell(
         return saved;
     }
     station::station_time_of(image, kinds, ledger, 0, answer)
+}
+
+// Number v is written and the session closed.
+fn close(
+    image: &mut [u8],
+    kinds: &mut [u8],
+    ledger: &mut [u8],
+    fresh: bool,
+    v: u32,
+    block: &[u8],
+    main_length: u32,
+    main_location: u32,
+    reserve_length: u32,
+    reserve_location: u32,
+    start: u32,
+) -> u64
+    ensures { λ r. ⌜ ended r (now (image .exit)) (now (kinds .exit)) (now (ledger .exit)) ≡ day (morning (now (image .entry)) (now (kinds .entry)) (now (ledger .entry))) (opening fresh ∷ write v (now (block .entry)) ∷ closeSession (extent «main_length» «main_location») (extent «reserve_length» «reserve_location») start ∷ []) ⌝ }
+{
+    let written = write_first(image, kinds, ledger, fresh, v, block);
+    if REFUSED <= written {
+        return written;
+    }
+    station::station_close_session(
+        image,
+        kinds,
+        ledger,
+        main_length,
+        main_location,
+        reserve_length,
+        reserve_location,
+        start,
+    )
+}
+
+// A closing saves: mounted, its table is the newest, where its calls told.
+pub fn close_and_mount(
+    image: &mut [u8],
+    kinds: &mut [u8],
+    ledger: &mut [u8],
+    fresh: bool,
+    v: u32,
+    block: &[u8],
+    main_length: u32,
+    main_location: u32,
+    reserve_length: u32,
+    reserve_location: u32,
+    start: u32,
+) -> u64
+    ensures { λ r. ⌜ ended r (now (image .exit)) (now (kinds .exit)) (now (ledger .exit)) ≡ day (morning (now (image .entry)) (now (kinds .entry)) (now (ledger .entry))) (opening fresh ∷ write v (now (block .entry)) ∷ closeSession (extent «main_length» «main_location») (extent «reserve_length» «reserve_location») start ∷ mount ∷ []) ⌝ }
+    ensures { λ r. ⌜ (AllDone (morning (now (image .entry)) (now (kinds .entry)) (now (ledger .entry))) (opening fresh ∷ write v (now (block .entry)) ∷ closeSession (extent «main_length» «main_location») (extent «reserve_length» «reserve_location») start ∷ []) → ShowsSave (morning (now (image .entry)) (now (kinds .entry)) (now (ledger .entry))) (opening fresh) v (now (block .entry)) (closeSession (extent «main_length» «main_location») (extent «reserve_length» «reserve_location») start) r (now (ledger .exit))) ⌝ }
+{
+    let closed = close(
+        image,
+        kinds,
+        ledger,
+        fresh,
+        v,
+        block,
+        main_length,
+        main_location,
+        reserve_length,
+        reserve_location,
+        start,
+    );
+    if REFUSED <= closed {
+        return closed;
+    }
+    station::station_mount(image, kinds, ledger)
 }
 
 // One save back stands the table that was mounted; before a first save there is none.
@@ -286,22 +359,42 @@ pub fn long_ago(
     v: u32,
     out: &mut [u8],
 ) -> u64
-    ensures { λ r. ⌜ ((start : Day) (fresh : Bool) (stamp : Option (List ℕ)) (x : List ℕ) (since : List Call) → start .answer < 4294967296 → AllDone start (opening fresh ∷ write v x ∷ commit stamp ∷ since) → commits since ≡ k → (lent (now (image .entry)) (now (kinds .entry))) ≡ day start (opening fresh ∷ write v x ∷ commit stamp ∷ since) .disc → length (now (ledger .entry)) ≡ ledgerLength → length (now (out .entry)) ≡ sectorLength → (r ≡ 0) × (now (out .exit) ≡ x)) ⌝ }
+    ensures { λ r. ⌜ ((start : Day) (fresh : Bool) (c : Call) (x : List ℕ) (since : List Call) → start .answer < 4294967296 → saves c ≡ true → AllDone start (opening fresh ∷ write v x ∷ c ∷ since) → savesAmong since ≡ k → (lent (now (image .entry)) (now (kinds .entry))) ≡ day start (opening fresh ∷ write v x ∷ c ∷ since) .disc → length (now (ledger .entry)) ≡ ledgerLength → length (now (out .entry)) ≡ sectorLength → (r ≡ 0) × (now (out .exit) ≡ x)) ⌝ }
 {
     show_back(image, kinds, ledger, k, v, out)
 }
 
-// Whatever was done before a commit and since, with k commits among what came since: k saves back its time is told, and 16 of a commit without one. Any
-// 1,848 bytes will do as ledger.
+// Whatever was done before a save and since, with k saves among what came since: k saves back its time is told, and 16 of a save without one. Any 1,848
+// bytes will do as ledger.
 pub fn told_long_ago(image: &[u8], kinds: &[u8], ledger: &[u8], k: u32, answer: &mut [u8]) -> u64
-    ensures { λ r. ⌜ ((start : Day) (fresh : Bool) (before since : List Call) (stamp : List ℕ) → start .answer < 4294967296 → AllDone start (opening fresh ∷ (before ++ (commit (some stamp) ∷ since))) → commits since ≡ k → (lent (now (image .entry)) (now (kinds .entry))) ≡ day start (opening fresh ∷ (before ++ (commit (some stamp) ∷ since))) .disc → length (now (ledger .entry)) ≡ ledgerLength → length (now (answer .entry)) ≡ toldLength → (r ≡ 0) × (now (answer .exit) ≡ told stamp)) ⌝ }
-    ensures { λ r. ⌜ ((start : Day) (fresh : Bool) (before since : List Call) → start .answer < 4294967296 → AllDone start (opening fresh ∷ (before ++ (commit none ∷ since))) → commits since ≡ k → (lent (now (image .entry)) (now (kinds .entry))) ≡ day start (opening fresh ∷ (before ++ (commit none ∷ since))) .disc → length (now (ledger .entry)) ≡ ledgerLength → length (now (answer .entry)) ≡ toldLength → (r ≡ 16 * 4294967296) × (now (answer .exit) ≡ now (answer .entry))) ⌝ }
+    ensures { λ r. ⌜ ((start : Day) (fresh : Bool) (before since : List Call) (stamp : List ℕ) → start .answer < 4294967296 → AllDone start (opening fresh ∷ (before ++ (commit (some stamp) ∷ since))) → savesAmong since ≡ k → (lent (now (image .entry)) (now (kinds .entry))) ≡ day start (opening fresh ∷ (before ++ (commit (some stamp) ∷ since))) .disc → length (now (ledger .entry)) ≡ ledgerLength → length (now (answer .entry)) ≡ toldLength → (r ≡ 0) × (now (answer .exit) ≡ told stamp)) ⌝ }
+    ensures { λ r. ⌜ ((start : Day) (fresh : Bool) (before since : List Call) (c : Call) → start .answer < 4294967296 → saves c ≡ true → savedStamp c ≡ noStamp → AllDone start (opening fresh ∷ (before ++ (c ∷ since))) → savesAmong since ≡ k → (lent (now (image .entry)) (now (kinds .entry))) ≡ day start (opening fresh ∷ (before ++ (c ∷ since))) .disc → length (now (ledger .entry)) ≡ ledgerLength → length (now (answer .entry)) ≡ toldLength → (r ≡ 16 * 4294967296) × (now (answer .exit) ≡ now (answer .entry))) ⌝ }
 {
     station::station_time_of(image, kinds, ledger, k, answer)
 }
 
+// Whatever was tried on a disc since its session was closed, done, refused or cut: v reads what was saved. Any 1,848 bytes will do as ledger.
+pub fn after_closing(image: &[u8], kinds: &[u8], ledger: &mut [u8], v: u32, out: &mut [u8]) -> u64
+    ensures { λ r. ⌜ ((start : Day) (fresh : Bool) (x : List ℕ) (main reserve : Extent) (n : ℕ) (held : Option (List ℕ)) (tried : List Event) → start .answer < 4294967296 → AllDone start (opening fresh ∷ write v x ∷ closeSession main reserve n ∷ []) → (lent (now (image .entry)) (now (kinds .entry))) ≡ leftBy (day start (opening fresh ∷ write v x ∷ closeSession main reserve n ∷ []) .disc) held tried → length (now (ledger .entry)) ≡ ledgerLength → length (now (out .entry)) ≡ sectorLength → (r ≡ 0) × (now (out .exit) ≡ x)) ⌝ }
+{
+    show(image, kinds, ledger, v, out)
+}
+
+// A write on it is turned away and alters nothing, whatever ledger and block are lent.
+pub fn write_on_closed(
+    image: &mut [u8],
+    kinds: &mut [u8],
+    ledger: &mut [u8],
+    v: u32,
+    block: &[u8],
+) -> u64
+    ensures { λ r. ⌜ ((start : Day) (fresh : Bool) (before : List Call) (main reserve : Extent) (n : ℕ) → start .answer < 4294967296 → AllDone start (opening fresh ∷ (before ++ (closeSession main reserve n ∷ []))) → (lent (now (image .entry)) (now (kinds .entry))) ≡ day start (opening fresh ∷ (before ++ (closeSession main reserve n ∷ []))) .disc → ClosedAnswer r × (ended r (now (image .exit)) (now (kinds .exit)) (now (ledger .exit)) ≡ ended r (now (image .entry)) (now (kinds .entry)) (now (ledger .entry)))) ⌝ }
+{
+    station::station_write(image, kinds, ledger, v, block)
+}
+
 // The morning after a power cut. After a save of x and a write of y, whatever call was cut, and after however many of its sectors: v reads y if that call
-// was a commit and kept its table, and else x. Any 1,848 bytes will do as ledger, and any bytes in the sectors that are not data.
+// saves and kept its table, and else x. Any 1,848 bytes will do as ledger, and any bytes in the sectors that are not data.
 pub fn after_cut(image: &[u8], kinds: &[u8], ledger: &mut [u8], v: u32, out: &mut [u8]) -> u64
     ensures { λ r. ⌜ ((start : Day) (fresh : Bool) (stamp : Option (List ℕ)) (x y : List ℕ) (c : Call) (j : ℕ) (tear : Option (List ℕ)) (left : Disc) → start .answer < 4294967296 → CutBehind start (opening fresh ∷ write v x ∷ commit stamp ∷ write v y ∷ []) c j tear left → Alike left (lent (now (image .entry)) (now (kinds .entry))) → length (now (ledger .entry)) ≡ ledgerLength → length (now (out .entry)) ≡ sectorLength → (r ≡ 0) × (now (out .exit) ≡ readsOf (tableKept c j (length (sectorsBehind start (opening fresh ∷ write v x ∷ commit stamp ∷ write v y ∷ []) c))) x y)) ⌝ }
 {

@@ -6,18 +6,18 @@
 use Prim.Native.Nat.{ℕ, suc, _+_, _*_}
 use mathlib.Core.Bool.{Bool, true, _&&_}
 use mathlib.Core.List.{List, [], _∷_, _++_}
-use mathlib.Core.Option.{Option, none, some}
-use mathlib.Core.Path.{_≡_, refl, sym, ap, _∙_, subst, subst₂}
+use mathlib.Core.Option.{none, some}
+use mathlib.Core.Path.{_≡_, sym, ap, _∙_, subst, subst₂}
 use lib.Dec.{T, eqb, eqb→eq}
 use lib.ListN.{length}
 use Rattle.le.specs.Field.{le}
 use Rattle.disc.specs.Disc.{Disc}
 use Rattle.recorder.specs.Calls.{begin, mount, write, commit, timeOf}
 use Rattle.recorder.specs.Refusals.{outcome}
-use Rattle.recorder.specs.Effects.{stampOf, after}
+use Rattle.recorder.specs.Effects.{after}
 use Rattle.history.specs.History.{History, feed}
 use Rattle.history.specs.Events.{World, Event, calls, cuts, AllAllowed, cutDisc, next, fed, runs, remembers, begunHistory}
-use Rattle.history.specs.Times.{telling, TellsTime, callOf, Saves}
+use Rattle.history.specs.Times.{TellsTime, callOf, savedStamp, Saves}
 use Rattle.history.proofs.Times.{save-times, told-there}
 use Rattle.bench.proofs.Starred.{opened, blank, block, full, stamp, answer}
 use Rattle.cuts.proofs.Pages.{both}
@@ -82,15 +82,15 @@ module _ (n : ℕ) (es : List Event) (e : Event) (later : List Event) (m k : ℕ
       (ap (λ (h : History). length (h .pages)) (sym (past-left later (q .allowed) (q .world) (q .past))) ∙ eqb→eq (length (r .past .pages)) (k + suc m) (parts .1 .1 .1 .1))
       ∙ ap (λ (i : ℕ). k + i) (sym fed-length)
 
-  pub drawn-time : (given : Option (List ℕ)) → callOf e ≡ commit given → TellsTime (runs (next (runs (start n) es) e) later .disc) k (stampOf given)
+  pub drawn-time : TellsTime (runs (next (runs (start n) es) e) later .disc) k (savedStamp (callOf e))
   unfolding AllAllowed
-  drawn-time given is =
+  drawn-time =
       let started : outcome (blank n) full begin ≡ 0 = eqb→eq (outcome (blank n) full begin) 0 (parts .0) in
       let saves : Saves (p .world) (p .past) e = fed-length ∙ ap suc (sym (eqb→eq (length (p .past .pages)) m (parts .1 .1 .0))) in
       let w = world-left es true (start n) begunHistory in
-      subst (λ (x : World). TellsTime (runs (next x e) later .disc) k (stampOf given)) w
+      subst (λ (x : World). TellsTime (runs (next x e) later .disc) k (savedStamp (callOf e))) w
       (told-there (start n) begunHistory (save-times .after-begin (blank n) full started) es before (sym w) (sym (past-left es true (start n) begunHistory))
-      e (here .1 .0) given is saves later (subst (λ (x : World). AllAllowed x later) next-world (behind .1)) k counted)
+      e (here .1 .0) saves later (subst (λ (x : World). AllAllowed x later) next-world (behind .1)) k counted)
 
 -- ---- the list
 
@@ -133,12 +133,12 @@ module _ (l lent : List ℕ) (ledger-lent : length l ≡ 1848) (answer-lent : le
 
   pub told-two-back : after left l (timeOf 2 lent) ≡ record { answer = 0; disc = left; ledger = l; buffer = le 4 0xFFFFFFE2 ++ le 4 0 }
   unfolding opened runs dated first-save
-  told-two-back = drawn-time 11 (written 1 ∷ []) first-save (written 2 ∷ plain-save ∷ cut-save ∷ asks) 0 2 shown-first (some (stamp 60 1970 1 1 0 30)) refl l lent ledger-lent answer-lent
+  told-two-back = drawn-time 11 (written 1 ∷ []) first-save (written 2 ∷ plain-save ∷ cut-save ∷ asks) 0 2 shown-first l lent ledger-lent answer-lent
 
   pub told-one-back : after left l (timeOf 1 lent) ≡ record { answer = 16 * 4294967296; disc = left; ledger = l; buffer = lent }
   unfolding opened runs dated plain-save
-  told-one-back = drawn-time 11 (written 1 ∷ first-save ∷ written 2 ∷ []) plain-save (cut-save ∷ asks) 1 1 shown-plain none refl l lent ledger-lent answer-lent
+  told-one-back = drawn-time 11 (written 1 ∷ first-save ∷ written 2 ∷ []) plain-save (cut-save ∷ asks) 1 1 shown-plain l lent ledger-lent answer-lent
 
   pub told-of-the-cut : after left l (timeOf 0 lent) ≡ record { answer = 0; disc = left; ledger = l; buffer = le 4 30 ++ le 4 1 }
   unfolding opened runs dated cut-save
-  told-of-the-cut = drawn-time 11 (written 1 ∷ first-save ∷ written 2 ∷ plain-save ∷ []) cut-save asks 2 0 shown-cut (some (stamp 2049 1970 1 1 0 30)) refl l lent ledger-lent answer-lent
+  told-of-the-cut = drawn-time 11 (written 1 ∷ first-save ∷ written 2 ∷ plain-save ∷ []) cut-save asks 2 0 shown-cut l lent ledger-lent answer-lent

@@ -13,7 +13,7 @@ use mathlib.Core.Path.{_≡_, refl, sym, ap, _∙_, subst}
 use lib.Dec.{T, eqb, leb, eqb→eq, leb→le}
 use lib.ListN.{length}
 use Rattle.disc.specs.Disc.{Disc}
-use Rattle.recorder.specs.Calls.{Call, begin, mount, write, release, closePacket, commit, read, lookBack, timeOf, bufferOf}
+use Rattle.recorder.specs.Calls.{Call, begin, mount, write, release, closePacket, commit, closeSession, read, lookBack, timeOf, bufferOf}
 use Rattle.recorder.specs.Refusals.{outcome}
 use Rattle.recorder.specs.Effects.{Effect, effect, After, settled, after, ifDone, secondNumber, sectorsOf}
 use Rattle.history.specs.History.{Snapshot, History, answered, feed}
@@ -30,6 +30,7 @@ restores (write n block) = false
 restores (release n) = false
 restores closePacket = false
 restores (commit stamp) = false
+restores (closeSession main reserve start) = false
 restores (read n block) = false
 restores (lookBack k) = true
 restores (timeOf k answer) = false
@@ -61,6 +62,7 @@ restoring (write n block) t = t
 restoring (release n) t = t
 restoring closePacket t = t
 restoring (commit stamp) t = t
+restoring (closeSession main reserve start) t = t
 restoring (read n block) t = t
 restoring (lookBack k) t = tt
 restoring (timeOf k answer) t = t

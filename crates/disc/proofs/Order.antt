@@ -5,7 +5,7 @@ use native.Mathlib.Nat.{not-suc-le-zero, le-of-suc-le-suc, add-zero}
 use native.Mathlib.Numerals.{add-one}
 use native.Mathlib.Omega.{arith}
 use mathlib.Core.Path.{_≡_, refl, sym, ap, _∙_}
-use mathlib.Core.Bool.{Bool, true, false, _&&_, and-true}
+use mathlib.Core.Bool.{Bool, true, false, _&&_, and-true, and-assoc}
 use mathlib.Core.List.{List, [], _∷_}
 use lib.Dec.{eqb, ltb, leb}
 use lib.ListN.{length, getD, take, drop, drop-of-length-le}
@@ -53,6 +53,13 @@ leading-past-recorded ks i e nz = go (ltb i (leading ks)) refl
     go true h = ltb-true i (leading ks) h
     go false h =
         absurd (nz (blank-kind ks (leading ks) i (and-right (every (λ k. leb k 3) ks) (blankFrom ks (leading ks)) e) (ltb-false i (leading ks) h)))
+
+-- ---- one kind after another
+
+pub kind-taken : (f : ℕ → Bool) (ks : List ℕ) (i : ℕ) (found : Bool) → i < length ks → ((found && f (getD ks i 0)) && every f (drop (i + 1) ks)) ≡ (found && every f (drop i ks))
+unfolding every
+kind-taken f ks i found h =
+    rw (drop-cons ks i 0 h, add-one i) (and-assoc found (f (getD ks i 0)) (every f (drop (suc i) ks)))
 
 -- ---- both halves at once
 

@@ -236,6 +236,14 @@ link-put kinds at (suc left) h =
     let e : suc left - 1 ≡ left = omega arith in
     ap (λ (n : ℕ). puts (lent [] (set kinds at 2)) (at + 1) (replicate n link) .kinds) e
 
+-- one data sector, then those that are left
+pub data-put : (d : Disc) (s : List ℕ) (at left : ℕ) → 0 < left → puts (put d at (plain s)) (at + 1) (replicate (left - 1) (plain s)) ≡ puts d at (replicate left (plain s))
+unfolding puts
+data-put d s at zero h = absurd (not-suc-le-zero h)
+data-put d s at (suc left) h =
+    let e : suc left - 1 ≡ left = omega arith in
+    ap (λ (n : ℕ). puts (put d at (plain s)) (at + 1) (replicate n (plain s))) e
+
 -- links change the kinds alone
 pub puts-links : (n : ℕ) (image kinds : List ℕ) (b : ℕ) → puts (lent image kinds) b (replicate n link) ≡ lent image (puts (lent [] kinds) b (replicate n link) .kinds)
 unfolding puts

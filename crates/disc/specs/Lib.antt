@@ -1,2 +1,3 @@
 pub mod Disc
 pub mod Tables
+pub mod Session

@@ -98,6 +98,18 @@ fn every_blank(kinds: &[u8]) -> bool
     most == 0
 }
 
+pub fn every_data(kinds: &[u8]) -> bool
+    ensures { λ r. ⌜ r ≡ every (λ k. eqb k 1) (now (kinds .entry)) ⌝ }
+{
+    let mut found = true;
+    let mut i: usize = 0;
+    while i < kinds.len() {
+        found = found & (kinds[i] == 1);
+        i += 1;
+    }
+    found
+}
+
 // The boundary by halving, then both sides of it.
 pub fn count(kinds: &[u8]) -> Extent
     ensures { λ r. ⌜ (r .in_order ≡ inOrder (now (kinds .entry))) × (r .in_order ≡ true → r .recorded ≡ leading (now (kinds .entry))) ⌝ }

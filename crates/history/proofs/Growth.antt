@@ -1,7 +1,7 @@
 -- The real format as an instance of the log, and what recording a list of sectors does to its disc: plain sectors, a table, or what a cut leaves.
 -- Assumes nothing.
 use Prim.Native.Nat.{ℕ, zero, suc, _+_, _≤_, _<_}
-use native.Mathlib.Nat.{add-zero, le-refl, not-suc-le-zero, le-of-suc-le-suc}
+use native.Mathlib.Nat.{add-zero, le-refl}
 use native.Mathlib.Numerals.{add-one}
 use native.Mathlib.Omega.{arith}
 use mathlib.Core.Path.{_≡_, refl, sym, ap, ap₂, _∙_, subst}
@@ -10,17 +10,20 @@ use mathlib.Core.List.{List, [], _∷_, _++_}
 use mathlib.Core.Logic.{inl, inr}
 use mathlib.Core.Option.{Option, none, some}
 use lib.Dec.{eqb, ltb}
-use lib.ListN.{length, take, replicate, length-replicate}
+use lib.ListN.{length, take, replicate}
 use lib.Seq.{take-append-le, length-take-le, take-length}
-use borrow.Author.Tests.{eq-eqb, ltb-true, eqb-true, lt-ltb, le-ltb}
+use borrow.Author.Tests.{eq-eqb, ltb-true, lt-ltb, le-ltb}
 use Rattle.le.specs.Bytes.{every}
 use Rattle.le.proofs.Rows.{and-left, and-right}
 use Rattle.vat.specs.Table.{sectorLength, unused, unusedOrBelow, entriesOf, previousOf, modifiedOf, isTable}
 use Rattle.vat.proofs.Theorems.{Named, named, recognised, of-kind-1}
+use Rattle.anchor.specs.declared.Extent.{Extent}
+use Rattle.anchor.proofs.Theorems.{anchor-no-table, zeros-no-table}
 use Rattle.disc.specs.Disc.{Disc, recorded, kindAt, sectorAt, readable, content, Sector, link, plain, torn, put, puts}
 use Rattle.disc.specs.Tables.{tableAt, mapAt, previousAt, timeAt}
+use Rattle.disc.specs.Session.{zeroSectors, zeroSector, closing}
 use Rattle.disc.proofs.Recording.{Sound, Whole, Recorded, put-recorded, plain-here, puts-append}
-use Rattle.recorder.proofs.Sectors.{AllWhole, links-whole, behindLinks, length-behind}
+use Rattle.recorder.proofs.Sectors.{AllWhole, whole-take, behind, length-behind}
 use Rattle.history.specs.Events.{Torn, tornAt, cutDisc}
 use Rattle.history.proofs.Log.{Format, AllBelow, NamesBelow, View, Extends, Plain, Saved, extends-on, plain-same, plain-on}
 
@@ -119,13 +122,13 @@ puts-plain (s ∷ ss) d ok room w n =
       counted = more .counted ∙ omega (arith, r .one-more);
     })
 
--- ---- links, then one data sector
+-- ---- sectors that are no tables, then one data sector
 
-links-no-tables : (n b : ℕ) → NoTables b (replicate n link)
+pub links-no-tables : (n b : ℕ) → NoTables b (replicate n link)
 links-no-tables zero b = tt
 links-no-tables (suc n) b = (tt, links-no-tables n (suc b))
 
-no-tables-append : (xs ys : List Sector) (b : ℕ) → NoTables b xs → NoTables (b + length xs) ys → NoTables b (xs ++ ys)
+pub no-tables-append : (xs ys : List Sector) (b : ℕ) → NoTables b xs → NoTables (b + length xs) ys → NoTables b (xs ++ ys)
 no-tables-append [] ys b p q = subst (λ (k : ℕ). NoTables k ys) (add-zero b) q
 no-tables-append (x ∷ xs) ys b p q =
     let e : b + suc (length xs) ≡ suc b + length xs = omega arith in
@@ -136,71 +139,76 @@ no-tables-take zero ss b a = tt
 no-tables-take (suc j) [] b a = tt
 no-tables-take (suc j) (s ∷ ss) b a = (a .0, no-tables-take j ss (suc b) (a .1))
 
-take-links : (j n : ℕ) → j ≤ n → take j (replicate n link) ≡ replicate j link
-take-links zero n h = refl
-take-links (suc j) zero h = absurd (not-suc-le-zero h)
-take-links (suc j) (suc n) h = ap {B = List Sector} (λ l. link ∷ l) (take-links j n (le-of-suc-le-suc h))
+pub behind-no-tables : (ss : List Sector) (s : List ℕ) (b : ℕ) → NoTables b ss → isTable 1 s (b + length ss) ≡ false → NoTables b (behind ss s)
+behind-no-tables ss s b n h = no-tables-append ss (plain s ∷ []) b n (h, tt)
 
-pub behind-no-tables : (n : ℕ) (s : List ℕ) (b : ℕ) → isTable 1 s (b + n) ≡ false → NoTables b (behindLinks n s)
-behind-no-tables n s b h =
-    no-tables-append (replicate n link) (plain s ∷ []) b (links-no-tables n b) (subst (λ (k : ℕ). isTable 1 s (b + k) ≡ false) (sym (length-replicate n link)) h, tt)
+-- what closing records before its table
+zeros-no-tables : (n b : ℕ) → NoTables b (replicate n zeroSector)
+zeros-no-tables zero b = tt
+zeros-no-tables (suc n) b = (zeros-no-table 1 b, zeros-no-tables n (suc b))
 
-module _ (d : Disc) (ok : Sound d) (n : ℕ) (s : List ℕ) (long : length s ≡ sectorLength) (room : recorded d + (n + 1) ≤ length (d .kinds)) where
-  linked : Disc
-  linked = puts d (recorded d) (replicate n link)
+pub closing-no-tables : (main reserve : Extent) (start b c : ℕ) → NoTables c (closing main reserve start b)
+unfolding closing
+closing-no-tables main reserve start b c = (anchor-no-table main reserve (start + b) 1 c, zeros-no-tables zeroSectors (suc c))
 
-  linked-grown : Grown d linked n
-  unfolding linked
-  linked-grown =
-      subst (λ (k : ℕ). Grown d (puts d (recorded d) (replicate n link)) k) (length-replicate n link)
-      (puts-plain (replicate n link) d ok (omega (arith, length-replicate n link)) (links-whole n) (links-no-tables n (recorded d)))
+module _ (d : Disc) (ok : Sound d) (ss : List Sector) (w : AllWhole ss) (n : NoTables (recorded d) ss) (s : List ℕ) (long : length s ≡ sectorLength) (room : recorded d + (length ss + 1) ≤ length (d .kinds)) where
+  before : Disc
+  before = puts d (recorded d) ss
 
-  linked-room : recorded linked < length (linked .kinds)
-  linked-room = omega (arith, linked-grown .counted, linked-grown .same-length)
+  before-grown : Grown d before (length ss)
+  unfolding before
+  before-grown = puts-plain ss d ok (omega arith) w n
 
-  -- the data sector goes behind the links
-  behind : puts d (recorded d) (behindLinks n s) ≡ put linked (recorded linked) (plain s)
-  unfolding puts linked
-  behind =
-      let e : recorded d + length (replicate n link) ≡ recorded linked = ap (λ (k : ℕ). recorded d + k) (length-replicate n link) ∙ sym (linked-grown .counted) in
-      puts-append (replicate n link) (plain s ∷ []) d (recorded d) ∙ ap (λ (k : ℕ). put (puts d (recorded d) (replicate n link)) k (plain s)) e
+  before-room : recorded before < length (before .kinds)
+  before-room = omega (arith, before-grown .counted, before-grown .same-length)
 
-  last-recorded : Recorded linked (put linked (recorded linked) (plain s)) (plain s)
-  last-recorded = put-recorded linked (linked-grown .still-sound) linked-room (plain s) long
+  -- the data sector goes behind the others
+  goes-behind : puts d (recorded d) (behind ss s) ≡ put before (recorded before) (plain s)
+  unfolding puts before
+  goes-behind = puts-append ss (plain s ∷ []) d (recorded d) ∙ ap (λ (k : ℕ). put (puts d (recorded d) ss) k (plain s)) (sym (before-grown .counted))
 
-  pub behind-content : content (puts d (recorded d) (behindLinks n s)) (recorded d + n) ≡ some s
+  last-recorded : Recorded before (put before (recorded before) (plain s)) (plain s)
+  last-recorded = put-recorded before (before-grown .still-sound) before-room (plain s) long
+
+  last-here : sectorAt (put before (recorded before) (plain s)) (recorded before) ≡ s
+  last-here = plain-here before (before-grown .still-sound) before-room s long
+
+  pub behind-extends : Extends F (puts d (recorded d) ss) (puts d (recorded d) (behind ss s))
+  unfolding before
+  behind-extends = subst (λ (x : Disc). Extends F (puts d (recorded d) ss) x) (sym goes-behind) (extends-of last-recorded)
+
+  pub behind-content : content (puts d (recorded d) (behind ss s)) (recorded d + length ss) ≡ some s
   unfolding content
   behind-content =
-      ap₂ content behind (sym (linked-grown .counted))
-      ∙ ap₂ (λ (k : ℕ) (t : List ℕ). readable (eqb k 1) t) (last-recorded .its-kind) (plain-here linked (linked-grown .still-sound) linked-room s long)
+      ap₂ content goes-behind (sym (before-grown .counted))
+      ∙ ap₂ (λ (k : ℕ) (t : List ℕ). readable (eqb k 1) t) (last-recorded .its-kind) last-here
 
-  pub behind-time : timeAt (puts d (recorded d) (behindLinks n s)) (recorded d + n) ≡ modifiedOf s
-  behind-time = ap₂ timeAt behind (sym (linked-grown .counted)) ∙ ap modifiedOf (plain-here linked (linked-grown .still-sound) linked-room s long)
+  pub behind-time : timeAt (puts d (recorded d) (behind ss s)) (recorded d + length ss) ≡ modifiedOf s
+  behind-time = ap₂ timeAt goes-behind (sym (before-grown .counted)) ∙ ap modifiedOf last-here
 
-  pub behind-sound : Sound (puts d (recorded d) (behindLinks n s))
-  behind-sound = subst Sound (sym behind) (last-recorded .still-sound)
+  pub behind-sound : Sound (puts d (recorded d) (behind ss s))
+  behind-sound = subst Sound (sym goes-behind) (last-recorded .still-sound)
 
-  pub behind-counted : recorded (puts d (recorded d) (behindLinks n s)) ≡ suc (recorded d + n)
-  behind-counted = ap recorded behind ∙ last-recorded .one-more ∙ ap suc (linked-grown .counted)
+  pub behind-counted : recorded (puts d (recorded d) (behind ss s)) ≡ suc (recorded d + length ss)
+  behind-counted = ap recorded goes-behind ∙ last-recorded .one-more ∙ ap suc (before-grown .counted)
 
-  -- a table behind the links is a save
-  pub behind-saved : (v : View) → recorded d + n < unused → isTable 1 s (recorded d + n) ≡ true → entriesOf s ≡ v .map → previousOf s ≡ v .last
-      → Saved F d (puts d (recorded d) (behindLinks n s)) v (recorded d + n)
+  -- a table behind them is a save
+  pub behind-saved : (v : View) → recorded d + length ss < unused → isTable 1 s (recorded d + length ss) ≡ true → entriesOf s ≡ v .map → previousOf s ≡ v .last
+      → Saved F d (puts d (recorded d) (behind ss s)) v (recorded d + length ss)
   behind-saved v small is-table maps links =
-      let r : ℕ = recorded linked in
-      let here : sectorAt (put linked r (plain s)) r ≡ s = plain-here linked (linked-grown .still-sound) linked-room s long in
-      let counted : recorded d + n ≡ r = sym (linked-grown .counted) in
-      let all : Saved F d (put linked r (plain s)) v r =
+      let r : ℕ = recorded before in
+      let counted : recorded d + length ss ≡ r = sym (before-grown .counted) in
+      let all : Saved F d (put before r (plain s)) v r =
       record {
-        extends = extends-on F (linked-grown .plainly .extends) (extends-of last-recorded);
+        extends = extends-on F (before-grown .plainly .extends) (extends-of last-recorded);
         behind = omega arith;
         small = omega arith;
         last-sector = last-recorded .one-more;
-        a-table = ap₂ (λ (k : ℕ) (t : List ℕ). isTable k t r) (last-recorded .its-kind) here ∙ subst (λ (b : ℕ). isTable 1 s b ≡ true) counted is-table;
-        its-map = ap entriesOf here ∙ maps;
-        its-previous = ap previousOf here ∙ links;
+        a-table = ap₂ (λ (k : ℕ) (t : List ℕ). isTable k t r) (last-recorded .its-kind) last-here ∙ subst (λ (b : ℕ). isTable 1 s b ≡ true) counted is-table;
+        its-map = ap entriesOf last-here ∙ maps;
+        its-previous = ap previousOf last-here ∙ links;
       } in
-      subst (λ (e : Disc). Saved F d e v (recorded d + n)) (sym behind) (subst (λ (b : ℕ). Saved F d (put linked r (plain s)) v b) (sym counted) all)
+      subst (λ (e : Disc). Saved F d e v (recorded d + length ss)) (sym goes-behind) (subst (λ (b : ℕ). Saved F d (put before r (plain s)) v b) (sym counted) all)
 
 -- ---- what a cut leaves
 
@@ -233,17 +241,13 @@ cut-left ss d j tear ok room some-of w n t = go (ltb j (length ss)) refl tear t
           still-sound = put-recorded d₁ (g .still-sound) here (torn bytes) t .still-sound;
         })
 
--- fewer than all of a save's sectors are links
-pub cut-links : (n : ℕ) (s : List ℕ) (j : ℕ) → j ≤ n → take j (behindLinks n s) ≡ replicate j link
-cut-links n s j h =
-    take-append-le j (replicate n link) (plain s ∷ []) (subst (λ (k : ℕ). j ≤ k) (sym (length-replicate n link)) h) ∙ take-links j n h
-
-pub cut-links-left : (n : ℕ) (s : List ℕ) (d : Disc) (j : ℕ) (tear : Option (List ℕ)) → Sound d → recorded d + (n + 1) ≤ length (d .kinds) → j ≤ n → Torn tear
-    → Left d (cutDisc d (behindLinks n s) j tear)
-cut-links-left n s d j tear ok room h t =
-    cut-left (behindLinks n s) d j tear ok (omega (arith, length-behind n s)) (omega (arith, length-behind n s))
-    (subst AllWhole (sym (cut-links n s j h)) (links-whole j))
-    (subst (λ (l : List Sector). NoTables (recorded d) l) (sym (cut-links n s j h)) (links-no-tables j (recorded d))) t
+-- fewer than all of a save's sectors: none of them is its table
+pub cut-before-left : (ss : List Sector) (s : List ℕ) (d : Disc) (j : ℕ) (tear : Option (List ℕ)) → Sound d → AllWhole ss → NoTables (recorded d) ss
+    → recorded d + (length ss + 1) ≤ length (d .kinds) → j ≤ length ss → Torn tear → Left d (cutDisc d (behind ss s) j tear)
+cut-before-left ss s d j tear ok w n room h t =
+    let same : take j (behind ss s) ≡ take j ss = take-append-le j ss (plain s ∷ []) h in
+    cut-left (behind ss s) d j tear ok (omega (arith, length-behind ss s)) (omega (arith, length-behind ss s))
+    (subst AllWhole (sym same) (whole-take j ss w)) (subst (λ (l : List Sector). NoTables (recorded d) l) (sym same) (no-tables-take j ss (recorded d) n)) t
 
 -- a cut that keeps all sectors leaves what a call that is done leaves
 pub cut-all : (ss : List Sector) (d : Disc) (tear : Option (List ℕ)) (j : ℕ) → j ≡ length ss → cutDisc d ss j tear ≡ puts d (recorded d) ss

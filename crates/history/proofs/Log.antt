@@ -61,15 +61,15 @@ abbrev pub orUnused : Option ℕ → ℕ
 orUnused none = unused
 orUnused (some b) = b
 
-isNone : Option ℕ → ℕ
+isNone : {A : Type 0} → Option A → ℕ
 isNone none = 1
 isNone (some b) = 0
 
-none-some : (b : ℕ) → _≡_ {A = Option ℕ} none (some b) → ⊥
+pub none-some : {A : Type 0} (b : A) → _≡_ {A = Option A} none (some b) → ⊥
 unfolding isNone
 none-some b e = let z : _≡_ {A = ℕ} 1 0 = ap isNone e in omega arith
 
-some-same : (a b : ℕ) → some a ≡ some b → a ≡ b
+pub some-same : {A : Type 0} (a b : A) → some a ≡ some b → a ≡ b
 some-same a b e = cc
 
 lt-or-ge : (a b : ℕ) → (a < b) ⊎ (b ≤ a)

@@ -3,35 +3,35 @@
 use Prim.Native.Nat.{ℕ, zero, suc, _+_, _≤_, _<_}
 use native.Mathlib.Omega.{arith}
 use mathlib.Core.Path.{_≡_, refl, sym, ap, ap₂, _∙_, subst, subst₂}
-use mathlib.Core.Bool.{Bool, true, false, _&&_, _||_}
+use mathlib.Core.Bool.{Bool, true, false, _&&_}
 use mathlib.Core.List.{List, [], _∷_}
-use mathlib.Core.Logic.{_⊎_, inl, inr}
+use mathlib.Core.Logic.{inl, inr}
 use mathlib.Core.Option.{Option, none, some}
 use lib.Dec.{eqb, lit<, eqb·suc-zero}
-use lib.ListN.{length}
+use lib.ListN.{length, replicate, length-replicate}
 use lib.Arith.{lt-of-le-ne}
 use borrow.Author.Tests.{eqb-true, eqb-false}
 use Rattle.le.proofs.Runs.{Words}
-use Rattle.vat.specs.Table.{sectorLength, unused, unusedOrBelow, isTable}
-use Rattle.vat.specs.Sector.{sector}
-use Rattle.vat.proofs.Theorems.{Named, recognised, Tells, tells, ReadsBack, reads-back}
-use Rattle.disc.specs.Disc.{Disc, recorded, blanks, kindAt, sectorAt, content, Sector, puts}
+use Rattle.vat.specs.Table.{unused, isTable}
+use Rattle.vat.proofs.Theorems.{Named, Tells, tells}
+use Rattle.disc.specs.Disc.{Disc, recorded, kindAt, sectorAt, content, Sector, link, puts}
 use Rattle.disc.specs.declared.Walk.the-variants.{Reached}
-use Rattle.disc.specs.Tables.{tableAt, mapAt, previousAt, timeAt, newest, blockFound}
+use Rattle.disc.specs.Tables.{tableAt, mapAt, previousAt, newest, blockFound}
 use Rattle.disc.proofs.Recording.{Sound, leading-le}
 use Rattle.disc.proofs.Found.{table-recorded, newest-table, walk-table}
 use Rattle.volume.specs.declared.Volume.{Volume}
 use Rattle.volume.specs.Volume.{idle, readOnly, unpack, pack, mapOf, begun, filled, wrote, released, closed, committed}
 use Rattle.volume.proofs.State.{Proper, unpack-pack, proper-begun, proper-filled, proper-wrote, proper-released, proper-closed, proper-committed, grownMap, map-filled, map-wrote, map-released, length-map}
-use Rattle.recorder.specs.Calls.{Call, begin, mount, write, release, closePacket, commit, read, lookBack, timeOf}
+use Rattle.recorder.specs.Calls.{Call, begin, mount, write, release, closePacket, commit, closeSession, read, lookBack, timeOf, saves}
 use Rattle.recorder.specs.Refusals.{links, target, walkFrom, walked, outcome}
-use Rattle.recorder.specs.Effects.{blockReached, stampOf, effect, settled, after, secondNumber, sectorsIf, sectorsOf}
-use Rattle.recorder.proofs.Done.{Fits, WriteDone, CommitDone, begin-done, mount-done, write-done, release-done, close-done, commit-done, look-back-done}
+use Rattle.recorder.specs.Effects.{Effect, blockReached, effect, settled, after, secondNumber, sectorsIf, sectorsOf}
+use Rattle.recorder.proofs.Done.{WriteDone, begin-done, mount-done, write-done, release-done, close-done, look-back-done}
 use Rattle.history.specs.History.{History, Told, Fed, answered, cut, cutCommit, feed}
-use Rattle.history.specs.Events.{World, Event, calls, cuts, ledgerHeld, onlyTells, Follows, Torn, Allowed, cutDisc, ledgerAfter, next, told, kept, cutShort, fed}
-use Rattle.history.proofs.Log.{AllBelow, all-below-more, View, State, Step, Saved, plain-same, at, working}
-use Rattle.recorder.proofs.Sectors.{whole-take, behindLinks, length-behind, behind-whole}
-use Rattle.history.proofs.Growth.{F, names-below, below-to, all-below-of, all-below-to, Grown, puts-plain, no-tables-take, behind-no-tables, behind-content, behind-time, behind-sound, behind-counted, behind-saved, Left, cut-left, cut-links-left, cut-all, cut-none}
+use Rattle.history.specs.Events.{World, Event, calls, cuts, ledgerHeld, onlyTells, CountsAsDone, Restores, Follows, Torn, Allowed, cutDisc, ledgerAfter, next, told, kept, cutShort, fed}
+use Rattle.history.proofs.Log.{AllBelow, View, State, Step, plain-same, at, working}
+use Rattle.recorder.proofs.Sectors.{links-whole, whole-take, behind, length-behind, behind-whole}
+use Rattle.history.proofs.Growth.{F, names-below, NoTables, Grown, puts-plain, links-no-tables, no-tables-take, behind-no-tables, behind-content, behind-counted, Left, cut-left, cut-before-left, cut-all, cut-none}
+use Rattle.history.proofs.Saving.{Saving, saving-done, enough, tableSector, beforeTable, before-whole, before-no-tables, room, small, at-table, leaves-behind, savedDisc, save, save-sound}
 
 -- ---- the world as the log sees it
 
@@ -113,7 +113,7 @@ done-next : (w : World) (c : Call) (junk : List ℕ) → onlyTells c ≡ false �
 unfolding next after
 done-next w c junk t e = rw (t, e)
 
-done-fed : (w : World) (c : Call) (junk : List ℕ) → outcome (w .disc) (ledgerHeld (w .ledger) junk) c ≡ 0
+pub done-fed : (w : World) (c : Call) (junk : List ℕ) → outcome (w .disc) (ledgerHeld (w .ledger) junk) c ≡ 0
     → fed w (calls c junk) ≡ answered (told c) 0 (effect (w .disc) (ledgerHeld (w .ledger) junk) c .second)
 unfolding fed secondNumber
 done-fed w c junk e = rw e
@@ -211,11 +211,15 @@ committed-view : (v : Volume) (b : ℕ) → viewIs (committed b v) ≡ working F
 unfolding committed
 committed-view v b = refl
 
+-- a write's block is no table behind its links
+written-no-tables : (d : Disc) (l : List ℕ) (n : ℕ) (block : List ℕ) → WriteDone d l n block → NoTables (recorded d) (behind (replicate (links (unpack l)) link) block)
+written-no-tables d l n block f =
+    let m : ℕ = links (unpack l) in
+    let here : target (unpack l) ≡ recorded d + length (replicate {A = Sector} m link) = omega (arith, length-replicate {A = Sector} m link, f .fit .same-recorded) in
+    behind-no-tables (replicate m link) block (recorded d) (links-no-tables m (recorded d)) (subst (λ (b : ℕ). isTable 1 block b ≡ false) here (f .no-table))
+
 -- the ledger is there, since a lost one lets only begin, mount and look back be done
 module _ (d : Disc) (l : List ℕ) (sound : Sound d) (good : Proper (unpack l)) where
-  enough : Fits d (unpack l) → unpack l .size ≤ length (unpack l .entries)
-  enough f = omega (arith, f .few, good .long)
-
   release-step : (n : ℕ) → outcome d l (release n) ≡ 0
       → GoodStep (record { disc = d; ledger = some l }) (answered (Told.release n) 0 0) (record { disc = d; ledger = some (pack (released n (unpack l))) })
   release-step n e =
@@ -252,110 +256,60 @@ module _ (d : Disc) (l : List ℕ) (sound : Sound d) (good : Proper (unpack l)) 
   unfolding feed
   read-step n second = record { good = record { sound-disc = sound; ledger-good = good }; step = Step.quiet (λ h. refl) }
 
-  -- what write and commit record fits the disc
-  pub room : (n : ℕ) → n + 1 ≤ blanks d → recorded d + (n + 1) ≤ length (d .kinds)
-  room n h = omega arith
-
-  small : (n : ℕ) → n + 1 ≤ blanks d → recorded d + n < unused
-  small n h = omega (arith, sound .few)
-
   write-step : (n : ℕ) (block : List ℕ) → outcome d l (write n block) ≡ 0
       → GoodStep (record { disc = d; ledger = some l }) (answered (Told.write n block) 0 (target (unpack l)))
-      (record { disc = puts d (recorded d) (behindLinks (links (unpack l)) block); ledger = some (pack (wrote n (target (unpack l)) (unpack l))) })
+      (record { disc = puts d (recorded d) (behind (replicate (links (unpack l)) link) block); ledger = some (pack (wrote n (target (unpack l)) (unpack l))) })
   write-step n block e =
       let f : WriteDone d l n block = write-done d l n block e in
       let v : Volume = unpack l in
-      let m : ℕ = links v in
-      let enough-room : m + 1 ≤ blanks d = omega (arith, f .room) in
-      let here : target v ≡ recorded d + m = ap (λ (r : ℕ). r + m) (f .fit .same-recorded) in
-      let lower : recorded d + m < unused = small m enough-room in
-      let fits : recorded d + (m + 1) ≤ length (d .kinds) = room m enough-room in
-      let no-table : isTable 1 block (recorded d + m) ≡ false = subst (λ (b : ℕ). isTable 1 block b ≡ false) here (f .no-table) in
-      let d′ : Disc = puts d (recorded d) (behindLinks m block) in
-      let g : Grown d d′ (length (behindLinks m block)) =
-      puts-plain (behindLinks m block) d sound (omega (arith, length-behind m block)) (behind-whole m block (f .block-long)) (behind-no-tables m block (recorded d) no-table) in
+      let ss : List Sector = replicate (links v) link in
+      let count : length ss ≡ links v = length-replicate (links v) link in
+      let here : target v ≡ recorded d + length ss = omega (arith, count, f .fit .same-recorded) in
+      let fits : recorded d + (length ss + 1) ≤ length (d .kinds) = omega (arith, count, f .room) in
+      let lower : recorded d + length ss < unused = omega (arith, fits, sound .few) in
+      let plain-links : NoTables (recorded d) ss = links-no-tables (links v) (recorded d) in
+      let d′ : Disc = puts d (recorded d) (behind ss block) in
+      let g : Grown d d′ (length (behind ss block)) =
+      puts-plain (behind ss block) d sound (omega (arith, length-behind ss block)) (behind-whole ss block (links-whole (links v)) (f .block-long)) (written-no-tables d l n block f) in
       let ok : Proper (wrote n (target v) v) = proper-wrote v good n (target v) (f .fit .few) (omega arith) in
       let before : viewIs v ≡ working F (mapOf v) (v .last) = working-view v (f .not-looking) in
       let after-view : viewIs (unpack (pack (wrote n (target v) v))) ≡ working F (grownMap (eqb n (length (mapOf v))) (mapOf v) n (target v)) (v .last) =
-      packed-view (wrote n (target v) v) ok ∙ wrote-view v n (target v) (f .no-gap) (enough (f .fit)) (omega (arith, f .below-limit, good .long)) in
+      packed-view (wrote n (target v) v) ok ∙ wrote-view v n (target v) (f .no-gap) (enough d l sound good (f .fit)) (omega (arith, f .below-limit, good .long)) in
       record {
         good = record { sound-disc = g .still-sound; ledger-good = packed-good (wrote n (target v) v) ok };
         step =
             subst₂ (λ (a b : View). Step F (at F d (some a)) (answered (Told.write n block) 0 (target v)) (at F d′ (some b))) (sym before) (sym after-view)
             (Step.wrote (mapOf v) (v .last) n (target v) block (g .plainly)
-            (omega (arith, behind-counted d sound m block (f .block-long) fits)) (λ z. omega arith)
-            (ap (content d′) here ∙ behind-content d sound m block (f .block-long) fits));
+            (omega (arith, behind-counted d sound ss (links-whole (links v)) plain-links block (f .block-long) fits)) (λ z. omega arith)
+            (ap (content d′) here ∙ behind-content d sound ss (links-whole (links v)) plain-links block (f .block-long) fits));
       }
 
-  -- the last table lies below what is recorded
-  last-below : Fits d (unpack l) → (b : ℕ) → recorded d ≤ b → unusedOrBelow b (unpack l .last) ≡ true
-  last-below f b h = go (eqb (unpack l .last) unused) refl (f .last-known)
-    where
-      go : (t : Bool) → eqb (unpack l .last) unused ≡ t → (t || tableAt d (unpack l .last)) ≡ true → unusedOrBelow b (unpack l .last) ≡ true
-      go true z e = below-to b (unpack l .last) (inr (eqb-true (unpack l .last) unused z))
-      go false z e = below-to b (unpack l .last) (inl (omega (arith, table-recorded d sound (unpack l .last) e)))
-
-  unfoldable pub tableSector : Option (List ℕ) → List ℕ
-  tableSector stamp = sector (mapOf (unpack l)) (unpack l .last) (stampOf stamp) (target (unpack l))
-
-  -- the sector that commit records is a table of the working map, at the block that it takes
-  module _ (stamp : Option (List ℕ)) (f : CommitDone d l stamp) where
-    pub at-target : target (unpack l) ≡ recorded d + links (unpack l)
-    at-target = ap (λ (r : ℕ). r + links (unpack l)) (f .fit .same-recorded)
-
-    read-back : ReadsBack (mapOf (unpack l)) (unpack l .last) (stampOf stamp) (target (unpack l))
-    read-back =
-        let v : Volume = unpack l in
-        let b : ℕ = target v in
-        let lower : recorded d + links v < unused = small (links v) (f .room) in
-        let below : AllBelow b (mapOf v) = all-below-more (v .recorded) b (mapOf v) (omega arith) (all-below-of (v .recorded) (mapOf v) (f .fit .entries-below)) in
-        reads-back (mapOf v) (v .last) (stampOf stamp) b (omega (arith, length-map v (enough (f .fit)), f .fit .few)) (all-below-to b (mapOf v) below)
-        (last-below (f .fit) b (omega (arith, at-target))) (f .timely) (omega (arith, at-target))
-
-    pub sector-long : length (tableSector stamp) ≡ sectorLength
-    unfolding tableSector
-    sector-long = recognised 1 (sector (mapOf (unpack l)) (unpack l .last) (stampOf stamp) (target (unpack l))) (target (unpack l)) (read-back .is-table) .whole
-
-    pub save : Saved F d (puts d (recorded d) (behindLinks (links (unpack l)) (tableSector stamp))) (working F (mapOf (unpack l)) (unpack l .last)) (recorded d + links (unpack l))
-    unfolding tableSector
-    save =
-        let v : Volume = unpack l in
-        behind-saved d sound (links v) (tableSector stamp) sector-long (room (links v) (f .room)) (working F (mapOf v) (v .last)) (small (links v) (f .room))
-        (subst (λ (b : ℕ). isTable 1 (sector (mapOf v) (v .last) (stampOf stamp) (target v)) b ≡ true) at-target (read-back .is-table)) (read-back .entries) (read-back .previous-table)
-
-    -- and its time is the commit's
-    pub saved-time : timeAt (puts d (recorded d) (behindLinks (links (unpack l)) (tableSector stamp))) (recorded d + links (unpack l)) ≡ stampOf stamp
-    unfolding tableSector
-    saved-time = behind-time d sound (links (unpack l)) (tableSector stamp) sector-long (room (links (unpack l)) (f .room)) ∙ read-back .modified
-
-  commit-step : (stamp : Option (List ℕ)) → outcome d l (commit stamp) ≡ 0
-      → GoodStep (record { disc = d; ledger = some l }) (answered Told.commit 0 (target (unpack l)))
-      (record { disc = puts d (recorded d) (behindLinks (links (unpack l)) (tableSector stamp)); ledger = some (pack (committed (target (unpack l)) (unpack l))) })
-  commit-step stamp e =
-      let f : CommitDone d l stamp = commit-done d l stamp e in
+  -- a save, whichever call makes it
+  save-step : (c : Call) → saves c ≡ true → outcome d l c ≡ 0
+      → GoodStep (record { disc = d; ledger = some l }) (answered Told.commit 0 (effect d l c .second)) (doneWorld (record { disc = d; ledger = some l }) l c)
+  unfolding tableSector
+  save-step c is-save e =
+      let s : Saving d l c = saving-done d l c is-save e in
       let v : Volume = unpack l in
-      let b : ℕ = target v in
-      let m : ℕ = links v in
-      let d′ : Disc = puts d (recorded d) (behindLinks m (tableSector stamp)) in
-      let ok : Proper (committed b v) = proper-committed v good b (omega (arith, at-target stamp f, small m (f .room))) in
-      let before : viewIs v ≡ working F (mapOf v) (v .last) = working-view v (f .not-looking) in
-      let after-view : viewIs (unpack (pack (committed b v))) ≡ working F (mapOf v) (recorded d + m) =
-      packed-view (committed b v) ok ∙ committed-view v b ∙ ap (working F (mapOf v)) (at-target stamp f) in
-      record {
-        good =
-            record {
-              sound-disc = behind-sound d sound m (tableSector stamp) (sector-long stamp f) (room m (f .room));
-              ledger-good = packed-good (committed b v) ok;
-            };
+      let b : ℕ = target v + length (s .between) in
+      let end : ℕ = recorded d + length (beforeTable d l sound good c s) in
+      let d′ : Disc = savedDisc d l sound good c s in
+      let ok : Proper (committed b v) = proper-committed v good b (omega (arith, at-table d l sound good c s, small d l sound good c s)) in
+      let before : viewIs v ≡ working F (mapOf v) (v .last) = working-view v (s .done .not-looking) in
+      let after-view : viewIs (unpack (pack (committed b v))) ≡ working F (mapOf v) end =
+      packed-view (committed b v) ok ∙ committed-view v b ∙ ap (working F (mapOf v)) (at-table d l sound good c s) in
+      subst (λ (x : Effect). GoodStep (record { disc = d; ledger = some l }) (answered Told.commit 0 (x .second)) (record { disc = puts d (recorded d) (x .sectors); ledger = some (x .ledger) })) (sym (s .leaves))
+      (record {
+        good = record { sound-disc = save-sound d l sound good c s; ledger-good = packed-good (committed b v) ok };
         step =
             subst₂ (λ (x y : View). Step F (at F d (some x)) (answered Told.commit 0 b) (at F d′ (some y))) (sym before) (sym after-view)
-            (Step.committed (mapOf v) (v .last) (recorded d + m) b (save stamp f));
-      }
+            (Step.committed (mapOf v) (v .last) end b (save d l sound good c s));
+      })
 
 done-step : (d : Disc) (o : Option (List ℕ)) (c : Call) (junk : List ℕ) → onlyTells c ≡ false → Good (record { disc = d; ledger = o }) → Follows (record { disc = d; ledger = o }) c junk
     → outcome d (ledgerHeld o junk) c ≡ 0
     → GoodStep (record { disc = d; ledger = o }) (answered (told c) 0 (effect d (ledgerHeld o junk) c .second)) (doneWorld (record { disc = d; ledger = o }) (ledgerHeld o junk) c)
-unfolding effect puts tableSector
+unfolding effect puts
 done-step d o begin junk t g f e = begin-step (record { disc = d; ledger = o }) (ledgerHeld o junk) g e
 done-step d o mount junk t g f e = mount-step (record { disc = d; ledger = o }) (ledgerHeld o junk) g e
 done-step d o (lookBack k) junk t g f e = look-back-step (record { disc = d; ledger = o }) (ledgerHeld o junk) k g e
@@ -364,11 +318,13 @@ done-step d none (write n block) junk t g f e = absurd (f refl (e, refl))
 done-step d none (release n) junk t g f e = absurd (f refl (e, refl))
 done-step d none closePacket junk t g f e = absurd (f refl (e, refl))
 done-step d none (commit stamp) junk t g f e = absurd (f refl (e, refl))
+done-step d none (closeSession main reserve start) junk t g f e = absurd (f refl (e, refl))
 done-step d none (read n block) junk t g f e = absurd (f refl (e, refl))
 done-step d (some l) (write n block) junk t g f e = write-step d l (g .sound-disc) (g .ledger-good) n block e
 done-step d (some l) (release n) junk t g f e = release-step d l (g .sound-disc) (g .ledger-good) n e
 done-step d (some l) closePacket junk t g f e = close-step d l (g .sound-disc) (g .ledger-good) e
-done-step d (some l) (commit stamp) junk t g f e = commit-step d l (g .sound-disc) (g .ledger-good) stamp e
+done-step d (some l) (commit stamp) junk t g f e = save-step d l (g .sound-disc) (g .ledger-good) (commit stamp) refl e
+done-step d (some l) (closeSession main reserve start) junk t g f e = save-step d l (g .sound-disc) (g .ledger-good) (closeSession main reserve start) refl e
 done-step d (some l) (read n block) junk t g f e = read-step d l (g .sound-disc) (g .ledger-good) n 0
 
 settled-step : (w : World) (c : Call) (junk : List ℕ) → onlyTells c ≡ false → Good w → Follows w c junk → GoodStep w (fed w (calls c junk)) (next w (calls c junk))
@@ -400,6 +356,7 @@ call-step w (write n block) junk g f = settled-step w (write n block) junk refl 
 call-step w (release n) junk g f = settled-step w (release n) junk refl g f
 call-step w closePacket junk g f = settled-step w closePacket junk refl g f
 call-step w (commit stamp) junk g f = settled-step w (commit stamp) junk refl g f
+call-step w (closeSession main reserve start) junk g f = settled-step w (closeSession main reserve start) junk refl g f
 call-step w (read n block) junk g f = settled-step w (read n block) junk refl g f
 call-step w (lookBack k) junk g f = settled-step w (lookBack k) junk refl g f
 call-step w (timeOf k answer) junk g f = time-step w k answer junk g
@@ -433,7 +390,7 @@ records-none : (n : ℕ) → sectorsIf n [] ≡ []
 records-none zero = refl
 records-none (suc n) = refl
 
-refused-records-none : (d : Disc) (l : List ℕ) (c : Call) (n : ℕ) → outcome d l c ≡ suc n → sectorsOf d l c ≡ []
+pub refused-records-none : (d : Disc) (l : List ℕ) (c : Call) (n : ℕ) → outcome d l c ≡ suc n → sectorsOf d l c ≡ []
 unfolding sectorsOf
 refused-records-none d l c n e = rw e
 
@@ -441,7 +398,7 @@ pub done-records : (d : Disc) (l : List ℕ) (c : Call) → outcome d l c ≡ 0 
 unfolding sectorsOf
 done-records d l c e = rw e
 
-write-records : (d : Disc) (l : List ℕ) (n : ℕ) (block : List ℕ) → effect d l (write n block) .sectors ≡ behindLinks (links (unpack l)) block
+write-records : (d : Disc) (l : List ℕ) (n : ℕ) (block : List ℕ) → effect d l (write n block) .sectors ≡ behind (replicate (links (unpack l)) link) block
 unfolding effect
 write-records d l n block = refl
 
@@ -454,84 +411,89 @@ cut-write-left d none n block junk j tear g f h t zero e = absurd (f refl (e, re
 cut-write-left d (some l) n block junk j tear g f h t zero e =
     let w : WriteDone d l n block = write-done d l n block e in
     let m : ℕ = links (unpack l) in
-    let ss : List Sector = behindLinks m block in
-    let here : target (unpack l) ≡ recorded d + m = ap (λ (r : ℕ). r + m) (w .fit .same-recorded) in
+    let ss : List Sector = behind (replicate m link) block in
+    let count : length ss ≡ m + 1 = length-behind (replicate m link) block ∙ ap (λ (k : ℕ). k + 1) (length-replicate m link) in
     let same : sectorsOf d l (write n block) ≡ ss = done-records d l (write n block) e ∙ write-records d l n block in
     subst (λ (x : List Sector). Left d (cutDisc d x j tear)) (sym same)
-    (cut-left ss d j tear (g .sound-disc) (omega (arith, length-behind m block, w .room)) (subst (λ (x : List Sector). j ≤ length x) same h)
-    (whole-take j ss (behind-whole m block (w .block-long)))
-    (no-tables-take j ss (recorded d) (behind-no-tables m block (recorded d) (subst (λ (b : ℕ). isTable 1 block b ≡ false) here (w .no-table)))) t)
+    (cut-left ss d j tear (g .sound-disc) (omega (arith, count, w .room)) (subst (λ (x : List Sector). j ≤ length x) same h)
+    (whole-take j ss (behind-whole (replicate m link) block (links-whole m) (w .block-long)))
+    (no-tables-take j ss (recorded d) (written-no-tables d l n block w)) t)
 
-pub commit-records : (d : Disc) (l : List ℕ) (ok : Sound d) (good : Proper (unpack l)) (stamp : Option (List ℕ)) → effect d l (commit stamp) .sectors ≡ behindLinks (links (unpack l)) (tableSector d l ok good stamp)
-unfolding effect tableSector
-commit-records d l ok good stamp = refl
+-- a save does not bring a lost ledger back
+pub no-save-follows : (d : Disc) (l : List ℕ) (c : Call) → saves c ≡ true → (CountsAsDone d l c → Restores c) → outcome d l c ≡ 0 → ⊥
+no-save-follows d l begin s f e = mathlib.Core.Bool.false≢true s
+no-save-follows d l mount s f e = mathlib.Core.Bool.false≢true s
+no-save-follows d l (write n block) s f e = f (e, refl)
+no-save-follows d l (release n) s f e = f (e, refl)
+no-save-follows d l closePacket s f e = f (e, refl)
+no-save-follows d l (commit stamp) s f e = f (e, refl)
+no-save-follows d l (closeSession main reserve start) s f e = f (e, refl)
+no-save-follows d l (read n block) s f e = f (e, refl)
+no-save-follows d l (lookBack k) s f e = mathlib.Core.Bool.false≢true s
+no-save-follows d l (timeOf k answer) s f e = mathlib.Core.Bool.false≢true s
 
 not-all : (j n m : ℕ) → j ≤ n → (j ≡ n → ⊥) → n ≡ m + 1 → j ≤ m
 not-all j n m h ne e = let less : j < n = lt-of-le-ne h ne in omega arith
 
-cut-commit-step : (d : Disc) (o : Option (List ℕ)) (stamp : Option (List ℕ)) (junk : List ℕ) (j : ℕ) (tear : Option (List ℕ)) → Good (record { disc = d; ledger = o })
-    → Follows (record { disc = d; ledger = o }) (commit stamp) junk → j ≤ length (sectorsOf d (ledgerHeld o junk) (commit stamp)) → Torn tear
-    → (m : ℕ) → outcome d (ledgerHeld o junk) (commit stamp) ≡ m
-    → GoodStep (record { disc = d; ledger = o }) (cutCommit (kept d (ledgerHeld o junk) (commit stamp) j)) (cutWorld (cutDisc d (sectorsOf d (ledgerHeld o junk) (commit stamp)) j tear))
-cut-commit-step d o stamp junk j tear g f h t (suc m) e =
+-- a save that would have been done, cut after j of its sectors
+module _ (d : Disc) (l : List ℕ) (g : Good (record { disc = d; ledger = some l })) (c : Call) (s : Saving d l c) (e : outcome d l c ≡ 0) where
+  abbrev firsts : List Sector
+  firsts = beforeTable d l (g .sound-disc) (g .ledger-good) c s
+
+  abbrev table : List ℕ
+  table = tableSector d l (g .sound-disc) (g .ledger-good) c s
+
+  all-records : sectorsOf d l c ≡ behind firsts table
+  all-records = done-records d l c e ∙ leaves-behind d l (g .sound-disc) (g .ledger-good) c s
+
+  cut-done-step : (j : ℕ) (tear : Option (List ℕ)) → j ≤ length (sectorsOf d l c) → Torn tear → (t : Bool) → eqb j (length (sectorsOf d l c)) ≡ t
+      → GoodStep (record { disc = d; ledger = some l }) (cutCommit (kept d l c j)) (cutWorld (cutDisc d (sectorsOf d l c) j tear))
+  cut-done-step j tear h t true z =
+      let is-kept : kept d l c j ≡ true = ap₂ (λ (x : ℕ) (y : Bool). eqb x 0 && y) e z in
+      let all : cutDisc d (sectorsOf d l c) j tear ≡ savedDisc d l (g .sound-disc) (g .ledger-good) c s =
+      cut-all (sectorsOf d l c) d tear j (eqb-true j (length (sectorsOf d l c)) z) ∙ ap (puts d (recorded d)) all-records in
+      subst₂ (λ (x : Bool) (y : Disc). GoodStep (record { disc = d; ledger = some l }) (cutCommit x) (cutWorld y)) (sym is-kept) (sym all)
+      (record {
+        good = record { sound-disc = save-sound d l (g .sound-disc) (g .ledger-good) c s; ledger-good = tt };
+        step =
+            subst (λ (v : View). Step F (at F d (some v)) (cutCommit true) (at F (savedDisc d l (g .sound-disc) (g .ledger-good) c s) none)) (sym (working-view (unpack l) (s .done .not-looking)))
+            (Step.lost-saved (mapOf (unpack l)) (unpack l .last) (recorded d + length firsts) (save d l (g .sound-disc) (g .ledger-good) c s));
+      })
+  cut-done-step j tear h t false z =
+      let not-kept : kept d l c j ≡ false = ap₂ (λ (x : ℕ) (y : Bool). eqb x 0 && y) e z in
+      let fewer : j ≤ length firsts = not-all j (length (sectorsOf d l c)) (length firsts) h (eqb-false j (length (sectorsOf d l c)) z) (ap length all-records ∙ length-behind firsts table) in
+      subst₂ (λ (x : Bool) (y : List Sector). GoodStep (record { disc = d; ledger = some l }) (cutCommit x) (cutWorld (cutDisc d y j tear))) (sym not-kept) (sym all-records)
+      (lost-step (record { disc = d; ledger = some l }) (cutCommit false) (cutDisc d (behind firsts table) j tear) unsaved-clears
+      (cut-before-left firsts table d j tear (g .sound-disc) (before-whole d l (g .sound-disc) (g .ledger-good) c s) (before-no-tables d l (g .sound-disc) (g .ledger-good) c s) (room d l (g .sound-disc) (g .ledger-good) c s) fewer t))
+
+cut-save-step : (d : Disc) (o : Option (List ℕ)) (c : Call) → saves c ≡ true → (junk : List ℕ) (j : ℕ) (tear : Option (List ℕ)) → Good (record { disc = d; ledger = o })
+    → Follows (record { disc = d; ledger = o }) c junk → j ≤ length (sectorsOf d (ledgerHeld o junk) c) → Torn tear
+    → (m : ℕ) → outcome d (ledgerHeld o junk) c ≡ m
+    → GoodStep (record { disc = d; ledger = o }) (cutCommit (kept d (ledgerHeld o junk) c j)) (cutWorld (cutDisc d (sectorsOf d (ledgerHeld o junk) c) j tear))
+cut-save-step d o c is-save junk j tear g f h t (suc m) e =
     let l : List ℕ = ledgerHeld o junk in
-    let unsaved : kept d l (commit stamp) j ≡ false = ap (λ (x : ℕ). eqb x 0 && eqb j (length (sectorsOf d l (commit stamp)))) e ∙ ap (λ (x : Bool). x && eqb j (length (sectorsOf d l (commit stamp)))) (eqb·suc-zero m) in
-    subst (λ (x : Bool). GoodStep (record { disc = d; ledger = o }) (cutCommit x) (cutWorld (cutDisc d (sectorsOf d l (commit stamp)) j tear))) (sym unsaved)
-    (lost-step (record { disc = d; ledger = o }) (cutCommit false) (cutDisc d (sectorsOf d l (commit stamp)) j tear) unsaved-clears
-    (nothing-left d (g .sound-disc) (sectorsOf d l (commit stamp)) j tear (refused-records-none d l (commit stamp) m e) h))
-cut-commit-step d none stamp junk j tear g f h t zero e = absurd (f refl (e, refl))
-cut-commit-step d (some l) stamp junk j tear g f h t zero e = go (eqb j (length (sectorsOf d l (commit stamp)))) refl
-  where
-    done : CommitDone d l stamp
-    done = commit-done d l stamp e
-
-    same : sectorsOf d l (commit stamp) ≡ behindLinks (links (unpack l)) (tableSector d l (g .sound-disc) (g .ledger-good) stamp)
-    same = done-records d l (commit stamp) e ∙ commit-records d l (g .sound-disc) (g .ledger-good) stamp
-
-    count : length (sectorsOf d l (commit stamp)) ≡ links (unpack l) + 1
-    count = ap length same ∙ length-behind (links (unpack l)) (tableSector d l (g .sound-disc) (g .ledger-good) stamp)
-
-    is-kept : (t : Bool) → eqb j (length (sectorsOf d l (commit stamp))) ≡ t → kept d l (commit stamp) j ≡ t
-    is-kept t z = ap₂ (λ (x : ℕ) (y : Bool). eqb x 0 && y) e z
-
-    before : viewIs (unpack l) ≡ working F (mapOf (unpack l)) (unpack l .last)
-    before = working-view (unpack l) (done .not-looking)
-
-    go : (t : Bool) → eqb j (length (sectorsOf d l (commit stamp))) ≡ t
-        → GoodStep (record { disc = d; ledger = some l }) (cutCommit (kept d l (commit stamp) j)) (cutWorld (cutDisc d (sectorsOf d l (commit stamp)) j tear))
-    go true z =
-        let all : cutDisc d (sectorsOf d l (commit stamp)) j tear ≡ puts d (recorded d) (behindLinks (links (unpack l)) (tableSector d l (g .sound-disc) (g .ledger-good) stamp)) =
-        cut-all (sectorsOf d l (commit stamp)) d tear j (eqb-true j (length (sectorsOf d l (commit stamp))) z) ∙ ap (puts d (recorded d)) same in
-        subst₂ (λ (x : Bool) (y : Disc). GoodStep (record { disc = d; ledger = some l }) (cutCommit x) (cutWorld y)) (sym (is-kept true z)) (sym all)
-        (record {
-          good =
-              record {
-                sound-disc = behind-sound d (g .sound-disc) (links (unpack l)) (tableSector d l (g .sound-disc) (g .ledger-good) stamp) (sector-long d l (g .sound-disc) (g .ledger-good) stamp done) (room d l (g .sound-disc) (g .ledger-good) (links (unpack l)) (done .room));
-                ledger-good = tt;
-              };
-          step =
-              subst (λ (v : View). Step F (at F d (some v)) (cutCommit true) (at F (puts d (recorded d) (behindLinks (links (unpack l)) (tableSector d l (g .sound-disc) (g .ledger-good) stamp))) none)) (sym before)
-              (Step.lost-saved (mapOf (unpack l)) (unpack l .last) (recorded d + links (unpack l)) (save d l (g .sound-disc) (g .ledger-good) stamp done));
-        })
-    go false z =
-        let fewer : j ≤ links (unpack l) = not-all j (length (sectorsOf d l (commit stamp))) (links (unpack l)) h (eqb-false j (length (sectorsOf d l (commit stamp))) z) count in
-        subst₂ (λ (x : Bool) (y : List Sector). GoodStep (record { disc = d; ledger = some l }) (cutCommit x) (cutWorld (cutDisc d y j tear))) (sym (is-kept false z)) (sym same)
-        (lost-step (record { disc = d; ledger = some l }) (cutCommit false) (cutDisc d (behindLinks (links (unpack l)) (tableSector d l (g .sound-disc) (g .ledger-good) stamp)) j tear) unsaved-clears
-        (cut-links-left (links (unpack l)) (tableSector d l (g .sound-disc) (g .ledger-good) stamp) d j tear (g .sound-disc) (room d l (g .sound-disc) (g .ledger-good) (links (unpack l)) (done .room)) fewer t))
+    let unsaved : kept d l c j ≡ false = ap (λ (x : ℕ). eqb x 0 && eqb j (length (sectorsOf d l c))) e ∙ ap (λ (x : Bool). x && eqb j (length (sectorsOf d l c))) (eqb·suc-zero m) in
+    subst (λ (x : Bool). GoodStep (record { disc = d; ledger = o }) (cutCommit x) (cutWorld (cutDisc d (sectorsOf d l c) j tear))) (sym unsaved)
+    (lost-step (record { disc = d; ledger = o }) (cutCommit false) (cutDisc d (sectorsOf d l c) j tear) unsaved-clears
+    (nothing-left d (g .sound-disc) (sectorsOf d l c) j tear (refused-records-none d l c m e) h))
+cut-save-step d none c is-save junk j tear g f h t zero e = absurd (no-save-follows d junk c is-save (f refl) e)
+cut-save-step d (some l) c is-save junk j tear g f h t zero e =
+    cut-done-step d l g c (saving-done d l c is-save e) e j tear h t (eqb j (length (sectorsOf d l c))) refl
 
 -- the calls that record nothing
-abbrev Idle : Call → Type 0
+abbrev pub Idle : Call → Type 0
 Idle begin = Unit
 Idle mount = Unit
 Idle (write n block) = ⊥
 Idle (release n) = Unit
 Idle closePacket = Unit
 Idle (commit stamp) = ⊥
+Idle (closeSession main reserve start) = ⊥
 Idle (read n block) = Unit
 Idle (lookBack k) = Unit
 Idle (timeOf k answer) = Unit
 
-records-nothing : (d : Disc) (l : List ℕ) (c : Call) → Idle c → sectorsOf d l c ≡ []
+pub records-nothing : (d : Disc) (l : List ℕ) (c : Call) → Idle c → sectorsOf d l c ≡ []
 unfolding sectorsOf effect
 records-nothing d l begin i = records-none (outcome d l begin)
 records-nothing d l mount i = records-none (outcome d l mount)
@@ -539,6 +501,7 @@ records-nothing d l (write n block) i = absurd i
 records-nothing d l (release n) i = records-none (outcome d l (release n))
 records-nothing d l closePacket i = records-none (outcome d l closePacket)
 records-nothing d l (commit stamp) i = absurd i
+records-nothing d l (closeSession main reserve start) i = absurd i
 records-nothing d l (read n block) i = records-none (outcome d l (read n block))
 records-nothing d l (lookBack k) i = records-none (outcome d l (lookBack k))
 records-nothing d l (timeOf k answer) i = records-none (outcome d l (timeOf k answer))
@@ -560,7 +523,9 @@ cut-step d o (write n block) junk j tear g f h t =
     (cut-write-left d o n block junk j tear g f h t (outcome d (ledgerHeld o junk) (write n block)) refl)
 cut-step d o (release n) junk j tear g f h t = idle-cut d o (release n) junk j tear g h (records-nothing d (ledgerHeld o junk) (release n) tt)
 cut-step d o closePacket junk j tear g f h t = idle-cut d o closePacket junk j tear g h (records-nothing d (ledgerHeld o junk) closePacket tt)
-cut-step d o (commit stamp) junk j tear g f h t = cut-commit-step d o stamp junk j tear g f h t (outcome d (ledgerHeld o junk) (commit stamp)) refl
+cut-step d o (commit stamp) junk j tear g f h t = cut-save-step d o (commit stamp) refl junk j tear g f h t (outcome d (ledgerHeld o junk) (commit stamp)) refl
+cut-step d o (closeSession main reserve start) junk j tear g f h t =
+    cut-save-step d o (closeSession main reserve start) refl junk j tear g f h t (outcome d (ledgerHeld o junk) (closeSession main reserve start)) refl
 cut-step d o (read n block) junk j tear g f h t = idle-cut d o (read n block) junk j tear g h (records-nothing d (ledgerHeld o junk) (read n block) tt)
 cut-step d o (lookBack k) junk j tear g f h t = idle-cut d o (lookBack k) junk j tear g h (records-nothing d (ledgerHeld o junk) (lookBack k) tt)
 cut-step d o (timeOf k answer) junk j tear g f h t = idle-cut d o (timeOf k answer) junk j tear g h (records-nothing d (ledgerHeld o junk) (timeOf k answer) tt)

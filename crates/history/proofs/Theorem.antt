@@ -1,8 +1,8 @@
 -- Demand 3, proved: after every list of events that document 01 allows, mount and look back show the history's pages.
 --     power-cuts         the claim of specs/Claim.antt
 --     begun-kept, mounted-kept, all-kept  what holds of disc, ledger and history after a begin or a mount, and after any events that follow
---     remounts           a commit that is done, then a mount or a look back on the disc that it leaves
---     commit-then-mount  the same of any 1,848 bytes as ledger
+--     remounts           a save that is done, then a mount or a look back on the disc that it leaves
+--     save-then-mount    the same of any 1,848 bytes as ledger
 -- Assumes nothing.
 use Prim.Native.Nat.{ℕ, suc, _+_, _*_, _<_}
 use native.Mathlib.Nat.{not-suc-le-zero}
@@ -26,17 +26,18 @@ use Rattle.le.proofs.Runs.{AllBytes}
 use Rattle.volume.specs.declared.Volume.{Volume}
 use Rattle.volume.specs.Volume.{ledgerLength, idle, readOnly, unpack, pack, mapOf, filled}
 use Rattle.volume.proofs.State.{Proper, unpack-pack, proper-unpack, map-filled, length-map}
-use Rattle.recorder.specs.Calls.{Call, begin, mount, commit, lookBack}
-use Rattle.recorder.specs.Refusals.{test, ledgerLent, isSome, walkFrom, walked, isBroken, isEnded, walkTests, tests, outcome, links, target}
+use Rattle.recorder.specs.Calls.{Call, begin, mount, lookBack, saves}
+use Rattle.recorder.specs.Refusals.{test, ledgerLent, isSome, walkFrom, walked, isBroken, isEnded, walkTests, tests, outcome, target}
 use Rattle.recorder.specs.Effects.{effect, blockReached, cleanNumber, after}
-use Rattle.recorder.proofs.Done.{skip, stop, none-left, skip-basic, skip-walk, begin-done, mount-done, CommitDone, commit-done}
-use Rattle.history.specs.History.{Snapshot, History, feed}
-use Rattle.history.specs.Events.{World, Event, calls, onlyTells, AllAllowed, next, fed, runs, remembers, shown, pageOf, afterCall, begunHistory, mountedHistory}
+use Rattle.recorder.proofs.Done.{skip, stop, none-left, skip-basic, skip-walk, begin-done, mount-done, SaveDone}
+use Rattle.history.specs.History.{Snapshot, History, Told, saved, done, feed}
+use Rattle.history.specs.Events.{World, Event, calls, onlyTells, AllAllowed, next, told, fed, runs, remembers, shown, pageOf, afterCall, begunHistory, mountedHistory}
+use Rattle.history.specs.Times.{savedStamp}
 use Rattle.history.specs.Claim.{Shows, DoneShowing, Mounts, Claim, PowerCuts}
-use Rattle.history.proofs.Log.{Inv, Pages, Saved, pageFrom, newest-saved, kept, walk-page, head-link, working}
-use Rattle.recorder.proofs.Sectors.{behindLinks}
-use Rattle.history.proofs.Growth.{F, names-below, behind-sound}
-use Rattle.history.proofs.Steps.{Good, GoodStep, stateOf, event-step, walked-table, proper-table, tableSector, sector-long, room, save, at-target, commit-records}
+use Rattle.history.proofs.Log.{HeldIf, Inv, Pages, Saved, pageFrom, newest-saved, kept, walk-page, head-link, working}
+use Rattle.history.proofs.Growth.{F, names-below}
+use Rattle.history.proofs.Steps.{Good, GoodStep, stateOf, event-step, walked-table, proper-table}
+use Rattle.history.proofs.Saving.{told-save, Saving, saving-done, beforeTable, at-table, leaves-behind, savedDisc, save, save-sound}
 use Rattle.history.proofs.Shown.{shows-table}
 
 -- ---- the invariant over a list
@@ -136,7 +137,7 @@ looks-pages d l ok long (p ∷ ps) n k h =
     subst (λ (q : Snapshot). DoneShowing d l (lookBack k) q) (sym (way .2 .page))
     (look-back-shows d l ok long k (n .0) (way .0) (n .1) (walked-reached d l ok long k (n .0) (way .0) (n .1) (way .1)))
 
-claimed : (w : World) (h : History) → Kept w h → Claim (w .disc) h
+pub claimed : (w : World) (h : History) → Kept w h → Claim (w .disc) h
 claimed w h r =
     record {
       mounts = λ l long. mounts-pages (w .disc) l (r .good .sound-disc) long (h .pages) (r .inv .pages);
@@ -189,26 +190,38 @@ power-cuts =
           claimed (runs (afterCall d l mount) es) (remembers (afterCall d l mount) (mountedHistory d) es) (all-kept es (afterCall d l mount) (mountedHistory d) (mounted-kept d l e) a);
     }
 
--- ---- a commit, then a mount
+-- ---- a save makes the draft a page
 
--- what mount and look back 1 say of the disc that a commit left, lent any 1,848 bytes: the same map and size, that block as last table, clean; and one
+module _ (d : Disc) (l : List ℕ) (h : History) (k : Kept (record { disc = d; ledger = some l }) h) (c : Call) (is-save : saves c ≡ true) (e : outcome d l c ≡ 0) where
+  -- a save that is done has a draft
+  pub drafted : (p : Snapshot) × (h .draft ≡ some p)
+  drafted =
+      let v : Volume = unpack l in
+      let held = subst (λ (t : Bool). HeldIf F t d (mapOf v) (v .last) (h .draft)) (saving-done d l c is-save e .done .not-looking) (k .inv .draft) in
+      (_, held .shown)
+
+  pub saved-page : (second : ℕ) → done (told c) second h .pages ≡ drafted .0 ∷ h .pages
+  saved-page second = ap (λ (t : Told). done t second h .pages) (told-save c is-save) ∙ ap (λ (o : Option Snapshot). saved o (h .pages)) (drafted .1)
+
+-- ---- a save, then a mount
+
+-- what mount and look back 1 say of the disc that a save left, lent any 1,848 bytes: the same map and size, that block as last table, clean; and one
 -- step back the table that was the ledger's last, if there was one
-pub record Remounted (d : Disc) (l : List ℕ) (stamp : Option (List ℕ)) (m : List ℕ) : Type 0 where
-  pub clean : after (after d l (commit stamp) .disc) m mount .answer ≡ 1
-  pub same-map : mapOf (unpack (after (after d l (commit stamp) .disc) m mount .ledger)) ≡ mapOf (unpack l)
-  pub same-size : unpack (after (after d l (commit stamp) .disc) m mount .ledger) .size ≡ unpack l .size
-  pub that-block : unpack (after (after d l (commit stamp) .disc) m mount .ledger) .last ≡ after d l (commit stamp) .answer
-  pub one-back : (unpack l .last ≡ unused → ⊥) → after (after d l (commit stamp) .disc) m (lookBack 1) .answer ≡ unpack l .last
-  pub none-back : unpack l .last ≡ unused → after (after d l (commit stamp) .disc) m (lookBack 1) .answer ≡ 9 * 4294967296
+pub record Remounted (d : Disc) (l : List ℕ) (c : Call) (m : List ℕ) : Type 0 where
+  pub clean : after (after d l c .disc) m mount .answer ≡ 1
+  pub same-map : mapOf (unpack (after (after d l c .disc) m mount .ledger)) ≡ mapOf (unpack l)
+  pub same-size : unpack (after (after d l c .disc) m mount .ledger) .size ≡ unpack l .size
+  pub that-block : unpack (after (after d l c .disc) m mount .ledger) .last ≡ after d l c .answer
+  pub one-back : (unpack l .last ≡ unused → ⊥) → after (after d l c .disc) m (lookBack 1) .answer ≡ unpack l .last
+  pub none-back : unpack l .last ≡ unused → after (after d l c .disc) m (lookBack 1) .answer ≡ 9 * 4294967296
 
-pub committed-disc : (d : Disc) (l : List ℕ) (ok : Sound d) (good : Proper (unpack l)) (stamp : Option (List ℕ)) → outcome d l (commit stamp) ≡ 0
-    → after d l (commit stamp) .disc ≡ puts d (recorded d) (behindLinks (links (unpack l)) (tableSector d l ok good stamp))
+pub saved-disc : (d : Disc) (l : List ℕ) (ok : Sound d) (good : Proper (unpack l)) (c : Call) (s : Saving d l c) → outcome d l c ≡ 0 → after d l c .disc ≡ savedDisc d l ok good c s
 unfolding after
-committed-disc d l ok good stamp e = rw e (ap (puts d (recorded d)) (commit-records d l ok good stamp))
+saved-disc d l ok good c s e = rw e (ap (puts d (recorded d)) (leaves-behind d l ok good c s))
 
-committed-block : (d : Disc) (l : List ℕ) (stamp : Option (List ℕ)) → outcome d l (commit stamp) ≡ 0 → after d l (commit stamp) .answer ≡ target (unpack l)
-unfolding after effect
-committed-block d l stamp e = rw e
+saved-block : (d : Disc) (l : List ℕ) (c : Call) (s : Saving d l c) → outcome d l c ≡ 0 → after d l c .answer ≡ target (unpack l) + length (s .between)
+unfolding after
+saved-block d l c s e = rw e (ap (λ x. x .second) (s .leaves))
 
 mount-clean : (d : Disc) (m : List ℕ) → Sound d → length m ≡ ledgerLength → (b : ℕ) → newest d ≡ some b → recorded d ≡ suc b → after d m mount .answer ≡ 1
 unfolding after effect
@@ -226,38 +239,38 @@ module _ (d : Disc) (b t : ℕ) (n : newest d ≡ some b) (named : previousAt d 
   unfolding walked walk
   steps-off none-there = ap (walkFrom d 1) n ∙ rw (named, eq-eqb t unused none-there)
 
-pub remounts : (d : Disc) (l : List ℕ) → Proper (unpack l) → (stamp : Option (List ℕ)) → outcome d l (commit stamp) ≡ 0 → (m : List ℕ) → length m ≡ ledgerLength → Remounted d l stamp m
+pub remounts : (d : Disc) (l : List ℕ) → Proper (unpack l) → (c : Call) → saves c ≡ true → outcome d l c ≡ 0 → (m : List ℕ) → length m ≡ ledgerLength → Remounted d l c m
 unfolding filled
-remounts d l good stamp e m long =
+remounts d l good c is-save e m long =
     let v : Volume = unpack l in
-    let f : CommitDone d l stamp = commit-done d l stamp e in
+    let s : Saving d l c = saving-done d l c is-save e in
+    let f : SaveDone d l (s .between) (savedStamp c) = s .done in
     let ok : Sound d = f .sound-disc in
-    let b : ℕ = recorded d + links v in
-    let s : List ℕ = tableSector d l ok good stamp in
-    let d′ : Disc = puts d (recorded d) (behindLinks (links v) s) in
-    let same : after d l (commit stamp) .disc ≡ d′ = committed-disc d l ok good stamp e in
-    let ok′ : Sound d′ = behind-sound d ok (links v) s (sector-long d l ok good stamp f) (room d l ok good (links v) (f .room)) in
-    let saved : Saved F d d′ (working F (mapOf v) (v .last)) b = save d l ok good stamp f in
-    let n : newest d′ ≡ some b = newest-saved F (working F (mapOf v) (v .last)) b saved in
+    let b : ℕ = recorded d + length (beforeTable d l ok good c s) in
+    let d′ : Disc = savedDisc d l ok good c s in
+    let same : after d l c .disc ≡ d′ = saved-disc d l ok good c s e in
+    let ok′ : Sound d′ = save-sound d l ok good c s in
+    let made : Saved F d d′ (working F (mapOf v) (v .last)) b = save d l ok good c s in
+    let n : newest d′ ≡ some b = newest-saved F (working F (mapOf v) (v .last)) b made in
     let state : Volume = filled (mapAt d′ b) b (recorded d′) idle in
-    let proper : Proper state = proper-table d′ ok′ b idle (lit< tt) (saved .a-table) in
+    let proper : Proper state = proper-table d′ ok′ b idle (lit< tt) (made .a-table) in
     let left : unpack (after d′ m mount .ledger) ≡ state = ap unpack (mount-leaves d′ m ok′ long b n) ∙ unpack-pack state proper in
-    let map : mapOf state ≡ mapOf v = map-filled (mapAt d′ b) b (recorded d′) idle ∙ saved .its-map in
+    let map : mapOf state ≡ mapOf v = map-filled (mapAt d′ b) b (recorded d′) idle ∙ made .its-map in
     let counted : length (mapOf v) ≡ v .size = length-map v (omega (arith, f .fit .few, good .long)) in
     let old-table : (v .last ≡ unused → ⊥) → tableAt d (v .last) ≡ true = λ used. ap (λ (t : Bool). t || tableAt d (v .last)) (sym (ne-eqb (v .last) unused used)) ∙ f .fit .last-known in
     let all : (e : Disc) → e ≡ d′ → unpack (after e m mount .ledger) ≡ state = λ e p. ap (λ (x : Disc). unpack (after x m mount .ledger)) p ∙ left in
     record {
-      clean = ap (λ (x : Disc). after x m mount .answer) same ∙ mount-clean d′ m ok′ long b n (saved .last-sector);
-      same-map = ap mapOf (all (after d l (commit stamp) .disc) same) ∙ map;
-      same-size = ap (λ (x : Volume). x .size) (all (after d l (commit stamp) .disc) same) ∙ ap length (saved .its-map) ∙ counted;
-      that-block = ap (λ (x : Volume). x .last) (all (after d l (commit stamp) .disc) same) ∙ sym (committed-block d l stamp e ∙ at-target d l ok good stamp f);
+      clean = ap (λ (x : Disc). after x m mount .answer) same ∙ mount-clean d′ m ok′ long b n (made .last-sector);
+      same-map = ap mapOf (all (after d l c .disc) same) ∙ map;
+      same-size = ap (λ (x : Volume). x .size) (all (after d l c .disc) same) ∙ ap length (made .its-map) ∙ counted;
+      that-block = ap (λ (x : Volume). x .last) (all (after d l c .disc) same) ∙ sym (saved-block d l c s e ∙ at-table d l ok good c s);
       one-back = λ used.
           let inside : v .last < recorded d = table-recorded d ok (v .last) (old-table used) in
           ap (λ (x : Disc). after x m (lookBack 1) .answer) same
-          ∙ look-back-tells d′ m ok′ long 1 b (v .last) n (steps-to d′ b (v .last) n (saved .its-previous) used (saved .extends .tables (v .last) inside ∙ old-table used));
+          ∙ look-back-tells d′ m ok′ long 1 b (v .last) n (steps-to d′ b (v .last) n (made .its-previous) used (made .extends .tables (v .last) inside ∙ old-table used));
       none-back = λ none-there.
-          ap (λ (x : Disc). after x m (lookBack 1) .answer) same ∙ look-back-ends d′ m ok′ long 1 b n (steps-off d′ b (v .last) n (saved .its-previous) none-there);
+          ap (λ (x : Disc). after x m (lookBack 1) .answer) same ∙ look-back-ends d′ m ok′ long 1 b n (steps-off d′ b (v .last) n (made .its-previous) none-there);
     }
 
-pub commit-then-mount : (d : Disc) (l : List ℕ) → AllBytes l → (stamp : Option (List ℕ)) → outcome d l (commit stamp) ≡ 0 → (m : List ℕ) → length m ≡ ledgerLength → Remounted d l stamp m
-commit-then-mount d l bytes = remounts d l (proper-unpack l bytes)
+pub save-then-mount : (d : Disc) (l : List ℕ) → AllBytes l → (c : Call) → saves c ≡ true → outcome d l c ≡ 0 → (m : List ℕ) → length m ≡ ledgerLength → Remounted d l c m
+save-then-mount d l bytes = remounts d l (proper-unpack l bytes)

@@ -1,11 +1,11 @@
--- The time of each save, proved: a commit's time is told of its save, k saves back when k saves have followed it.
---     retells, commit-then-time   of the disc that a commit leaves, right away
+-- The time of each save, proved: a call's time is told of its save, k saves back when k saves have followed it.
+--     retells, save-then-time     of the disc that a save leaves, right away
 --     save-times                  the claim of specs/Times.antt
 -- Assumes nothing.
 use Prim.Native.Nat.{ℕ, zero, suc, _+_}
 use native.Mathlib.Omega.{arith}
-use mathlib.Core.Path.{_≡_, refl, sym, ap, _∙_, subst, subst₂}
-use mathlib.Core.Bool.{Bool, true, false, _&&_, not}
+use mathlib.Core.Path.{_≡_, refl, sym, ap, ap₂, _∙_, subst, subst₂}
+use mathlib.Core.Bool.{Bool, true, false, not}
 use mathlib.Core.List.{List, [], _∷_, _++_}
 use mathlib.Core.Option.{Option, none, some}
 use lib.Dec.{eqb}
@@ -13,26 +13,27 @@ use lib.ListN.{length}
 use borrow.Author.Tests.{eq-eqb, eqb-true}
 use Rattle.le.proofs.Rows.{and-left, and-right}
 use Rattle.le.proofs.Runs.{AllBytes}
-use Rattle.timestamp.specs.Timestamp.{toldLength, valid, told}
+use Rattle.timestamp.specs.Timestamp as stamps
+use Rattle.timestamp.specs.Timestamp.{toldLength, valid}
 use Rattle.disc.specs.Disc.{Disc, Sector, recorded, puts}
 use Rattle.disc.specs.declared.Walk.{Walk}
 use Rattle.disc.specs.declared.Walk.the-variants.{Reached}
-use Rattle.disc.specs.Tables.{tableAt, previousAt, timeAt, newest, walk}
+use Rattle.disc.specs.Tables.{timeAt, newest}
 use Rattle.disc.proofs.Recording.{Sound}
 use Rattle.volume.specs.Volume.{ledgerLength, unpack, mapOf}
 use Rattle.volume.proofs.State.{Proper, proper-unpack}
-use Rattle.recorder.specs.Calls.{Call, begin, mount, commit, timeOf}
-use Rattle.recorder.specs.Refusals.{Test, test, first, answerLent, walkFrom, walked, walkTests, timeReached, timeBack, links, tests, outcome}
-use Rattle.recorder.specs.Effects.{stampOf, effect, After, after, sectorsOf}
-use Rattle.recorder.proofs.Done.{skip, stop, none-left, skip-basic, skip-walk, CommitDone, commit-done}
-use Rattle.recorder.proofs.Sectors.{behindLinks}
-use Rattle.history.specs.History.{History, Fed, answered, cutCommit, Told, savedIf, feed}
-use Rattle.history.specs.Events.{World, Event, calls, cuts, ledgerHeld, Allowed, AllAllowed, cutDisc, next, kept, fed, runs, remembers, afterCall, begunHistory, mountedHistory}
-use Rattle.history.specs.Times.{telling, TellsTime, callOf, Saves, ToldLater, EachTold, SaveTimes}
+use Rattle.recorder.specs.Calls.{Call, begin, mount, timeOf, saves}
+use Rattle.recorder.specs.Refusals.{Test, test, first, answerLent, walkFrom, walked, walkTests, timeReached, timeBack, tests, outcome}
+use Rattle.recorder.specs.Effects.{effect, After, after, sectorsOf}
+use Rattle.recorder.proofs.Done.{skip, stop, none-left, skip-basic, skip-walk}
+use Rattle.history.specs.History.{History, Fed, feed}
+use Rattle.history.specs.Events.{World, Event, calls, cuts, ledgerHeld, Follows, Allowed, AllAllowed, cutDisc, next, told, kept, cutIf, fed, runs, remembers, afterCall, begunHistory, mountedHistory}
+use Rattle.history.specs.Times.{telling, TellsTime, callOf, savedStamp, Saves, ToldLater, EachTold, SaveTimes}
 use Rattle.history.proofs.Log.{newest-saved, working}
-use Rattle.history.proofs.Growth.{F, behind-sound, cut-all}
-use Rattle.history.proofs.Steps.{Good, GoodStep, stateOf, event-step, refused-fed, done-records, tableSector, sector-long, room, save, saved-time, commit-records}
-use Rattle.history.proofs.Theorem.{Kept, all-kept, begun-kept, mounted-kept, committed-disc}
+use Rattle.history.proofs.Growth.{F, cut-all}
+use Rattle.history.proofs.Steps.{Good, GoodStep, event-step, refused-fed, done-fed, done-records, no-save-follows}
+use Rattle.history.proofs.Saving.{unsaved, Saving, saving-done, beforeTable, leaves-behind, savedDisc, save, save-sound, save-time}
+use Rattle.history.proofs.Theorem.{Kept, all-kept, begun-kept, mounted-kept, saved-disc}
 use Rattle.history.proofs.Back.{way-walk, Behind, Since, since-kept}
 
 -- ---- what is told on a sound disc
@@ -54,7 +55,7 @@ module _ (d : Disc) (l answer : List ℕ) (ok : Sound d) (long : length l ≡ le
       go : (u : Bool) → valid (timeAt d t) ≡ u → after d l (timeOf k answer) ≡ telling (valid (timeAt d t)) d l answer (timeAt d t)
       go true z =
           let done : outcome d l (timeOf k answer) ≡ 0 = asked ∙ skip 16 (not (valid (timeAt d t))) [] (ap not z) ∙ none-left in
-          rw (done, z) (ap {B = After} (λ (w : Walk). record { answer = 0; disc = d; ledger = l; buffer = told (timeReached d w) }) way)
+          rw (done, z) (ap {B = After} (λ (w : Walk). record { answer = 0; disc = d; ledger = l; buffer = stamps.told (timeReached d w) }) way)
       go false z =
           let refused : outcome d l (timeOf k answer) ≡ 16 = asked ∙ stop 16 (not (valid (timeAt d t))) [] (ap not z) in
           rw (refused, z)
@@ -66,85 +67,80 @@ behind-tells d ok k b stamp r l answer long whole =
     let way : walked d k ≡ Reached b = ap (walkFrom d k) (r .is-newest) ∙ way-walk F d k (r .newest) b (r .way) in
     tells-time d l answer ok long whole k (r .newest) b (r .is-newest) way ∙ ap (λ (s : List ℕ). telling (valid s) d l answer s) (r .time)
 
--- ---- a commit makes its save
+-- ---- a call makes its save
 
-module _ (d : Disc) (l : List ℕ) (ok : Sound d) (good : Proper (unpack l)) (stamp : Option (List ℕ)) (f : CommitDone d l stamp) where
-  saved : Disc
-  saved = puts d (recorded d) (behindLinks (links (unpack l)) (tableSector d l ok good stamp))
+saved-behind : (d : Disc) (l : List ℕ) (ok : Sound d) (good : Proper (unpack l)) (c : Call) (s : Saving d l c)
+    → Behind F (savedDisc d l ok good c s) 0 (recorded d + length (beforeTable d l ok good c s)) (savedStamp c)
+saved-behind d l ok good c s =
+    let t = save d l ok good c s in
+    let b : ℕ = recorded d + length (beforeTable d l ok good c s) in
+    record {
+      newest = b;
+      is-newest = newest-saved F (working F (mapOf (unpack l)) (unpack l .last)) b t;
+      way = (refl, omega (arith, t .last-sector));
+      time = save-time d l ok good c s;
+    }
 
-  saved-behind : Behind F saved 0 (recorded d + links (unpack l)) (stampOf stamp)
-  unfolding saved
-  saved-behind =
-      let s = save d l ok good stamp f in
-      record {
-        newest = recorded d + links (unpack l);
-        is-newest = newest-saved F (working F (mapOf (unpack l)) (unpack l .last)) (recorded d + links (unpack l)) s;
-        way = (refl, omega (arith, s .last-sector));
-        time = saved-time d l ok good stamp f;
-      }
+-- of the disc that a save leaves, on a ledger whose state is proper; and on any that holds bytes
+pub retells : (d : Disc) (l : List ℕ) → Proper (unpack l) → (c : Call) → saves c ≡ true → outcome d l c ≡ 0 → TellsTime (after d l c .disc) 0 (savedStamp c)
+retells d l good c is-save e =
+    let s : Saving d l c = saving-done d l c is-save e in
+    let ok : Sound d = s .done .sound-disc in
+    subst (λ (x : Disc). TellsTime x 0 (savedStamp c)) (sym (saved-disc d l ok good c s e))
+    (behind-tells (savedDisc d l ok good c s) (save-sound d l ok good c s) 0 (recorded d + length (beforeTable d l ok good c s)) (savedStamp c) (saved-behind d l ok good c s))
 
-  saved-sound : Sound saved
-  unfolding saved
-  saved-sound = behind-sound d ok (links (unpack l)) (tableSector d l ok good stamp) (sector-long d l ok good stamp f) (room d l ok good (links (unpack l)) (f .room))
-
--- of the disc that a commit leaves, on a ledger whose state is proper; and on any that holds bytes
-pub retells : (d : Disc) (l : List ℕ) → Proper (unpack l) → (stamp : Option (List ℕ)) → outcome d l (commit stamp) ≡ 0 → TellsTime (after d l (commit stamp) .disc) 0 (stampOf stamp)
-unfolding saved
-retells d l good stamp e =
-    let f : CommitDone d l stamp = commit-done d l stamp e in
-    let ok : Sound d = f .sound-disc in
-    subst (λ (x : Disc). TellsTime x 0 (stampOf stamp)) (sym (committed-disc d l ok good stamp e))
-    (behind-tells (saved d l ok good stamp f) (saved-sound d l ok good stamp f) 0 (recorded d + links (unpack l)) (stampOf stamp) (saved-behind d l ok good stamp f))
-
-pub commit-then-time : (d : Disc) (l : List ℕ) → AllBytes l → (stamp : Option (List ℕ)) → outcome d l (commit stamp) ≡ 0 → TellsTime (after d l (commit stamp) .disc) 0 (stampOf stamp)
-commit-then-time d l bytes = retells d l (proper-unpack l bytes)
+pub save-then-time : (d : Disc) (l : List ℕ) → AllBytes l → (c : Call) → saves c ≡ true → outcome d l c ≡ 0 → TellsTime (after d l c .disc) 0 (savedStamp c)
+save-then-time d l bytes = retells d l (proper-unpack l bytes)
 
 -- ---- an event that makes a save
 
-abbrev Made : Disc → Option (List ℕ) → Type 0
-Made d stamp = (b : ℕ) × Behind F d 0 b (stampOf stamp)
+abbrev Made : Disc → Call → Type 0
+Made d c = (b : ℕ) × Behind F d 0 b (savedStamp c)
 
-not-more : (n : ℕ) → n ≡ suc n → ⊥
-not-more n e = omega arith
+not-more : {A : Type 0} (n : ℕ) → n ≡ suc n → A
+not-more n e = absurd (omega arith)
 
-commit-made : (d : Disc) (o : Option (List ℕ)) (h : History) (stamp : Option (List ℕ)) (junk : List ℕ) → Good (record { disc = d; ledger = o })
-    → Allowed (record { disc = d; ledger = o }) (calls (commit stamp) junk) → Saves (record { disc = d; ledger = o }) h (calls (commit stamp) junk)
-    → (m : ℕ) → outcome d (ledgerHeld o junk) (commit stamp) ≡ m → Made (next (record { disc = d; ledger = o }) (calls (commit stamp) junk) .disc) stamp
-unfolding next feed saved
-commit-made d o h stamp junk g a more (suc m) e =
-    let w : World = record { disc = d; ledger = o } in
-    absurd (not-more (length (h .pages)) (ap (λ (x : Fed). length (feed h x .pages)) (sym (refused-fed w (commit stamp) junk m e)) ∙ more))
-commit-made d none h stamp junk g a more zero e = absurd (a refl (e, refl))
-commit-made d (some l) h stamp junk g a more zero e =
-    let f : CommitDone d l stamp = commit-done d l stamp e in
-    (recorded d + links (unpack l), subst (λ (x : Disc). Behind F x 0 (recorded d + links (unpack l)) (stampOf stamp)) (sym (committed-disc d l (g .sound-disc) (g .ledger-good) stamp e)) (saved-behind d l (g .sound-disc) (g .ledger-good) stamp f))
+-- what a save records makes one
+saved-made : (d : Disc) (o : Option (List ℕ)) (c : Call) (junk : List ℕ) → Good (record { disc = d; ledger = o }) → Follows (record { disc = d; ledger = o }) c junk
+    → saves c ≡ true → outcome d (ledgerHeld o junk) c ≡ 0 → Made (puts d (recorded d) (effect d (ledgerHeld o junk) c .sectors)) c
+saved-made d none c junk g f is e = absurd (no-save-follows d junk c is (f refl) e)
+saved-made d (some l) c junk g f is e =
+    let s : Saving d l c = saving-done d l c is e in
+    let b : ℕ = recorded d + length (beforeTable d l (g .sound-disc) (g .ledger-good) c s) in
+    (b, subst (λ (ss : List Sector). Behind F (puts d (recorded d) ss) 0 b (savedStamp c)) (sym (leaves-behind d l (g .sound-disc) (g .ledger-good) c s)) (saved-behind d l (g .sound-disc) (g .ledger-good) c s))
 
-cut-commit-made : (d : Disc) (o : Option (List ℕ)) (h : History) (stamp : Option (List ℕ)) (junk : List ℕ) (j : ℕ) (tear : Option (List ℕ)) → Good (record { disc = d; ledger = o })
-    → Allowed (record { disc = d; ledger = o }) (cuts (commit stamp) junk j tear) → Saves (record { disc = d; ledger = o }) h (cuts (commit stamp) junk j tear)
-    → (t : Bool) → kept d (ledgerHeld o junk) (commit stamp) j ≡ t → Made (next (record { disc = d; ledger = o }) (cuts (commit stamp) junk j tear) .disc) stamp
-unfolding next fed feed saved
-cut-commit-made d o h stamp junk j tear g a more false z =
-    absurd (not-more (length (h .pages)) (ap (λ (x : Bool). length (savedIf x (h .draft) (h .pages))) (sym z) ∙ more))
-cut-commit-made d none h stamp junk j tear g a more true z =
-    absurd (a .0 refl (eqb-true (outcome d junk (commit stamp)) 0 (and-left (eqb (outcome d junk (commit stamp)) 0) (eqb j (length (sectorsOf d junk (commit stamp)))) z), refl))
-cut-commit-made d (some l) h stamp junk j tear g a more true z =
-    let out : Bool = eqb (outcome d l (commit stamp)) 0 in
-    let all : Bool = eqb j (length (sectorsOf d l (commit stamp))) in
-    let e : outcome d l (commit stamp) ≡ 0 = eqb-true (outcome d l (commit stamp)) 0 (and-left out all z) in
-    let f : CommitDone d l stamp = commit-done d l stamp e in
-    let records : sectorsOf d l (commit stamp) ≡ behindLinks (links (unpack l)) (tableSector d l (g .sound-disc) (g .ledger-good) stamp) =
-    done-records d l (commit stamp) e ∙ commit-records d l (g .sound-disc) (g .ledger-good) stamp in
-    let same : cutDisc d (sectorsOf d l (commit stamp)) j tear ≡ saved d l (g .sound-disc) (g .ledger-good) stamp f =
-    cut-all (sectorsOf d l (commit stamp)) d tear j (eqb-true j (length (sectorsOf d l (commit stamp))) (and-right out all z)) ∙ ap (puts d (recorded d)) records in
-    (recorded d + links (unpack l), subst (λ (x : Disc). Behind F x 0 (recorded d + links (unpack l)) (stampOf stamp)) (sym same) (saved-behind d l (g .sound-disc) (g .ledger-good) stamp f))
+module _ (d : Disc) (o : Option (List ℕ)) (h : History) (c : Call) (junk : List ℕ) (g : Good (record { disc = d; ledger = o })) (f : Follows (record { disc = d; ledger = o }) c junk) where
+  abbrev w : World
+  w = record { disc = d; ledger = o }
 
-made : (w : World) (h : History) → Good w → (e : Event) → Allowed w e → (stamp : Option (List ℕ)) → callOf e ≡ commit stamp → Saves w h e → Made (next w e .disc) stamp
-made w h g (calls c junk) a stamp is more =
-    subst (λ (x : Call). Allowed w (calls x junk) → Saves w h (calls x junk) → Made (next w (calls x junk) .disc) stamp) (sym is)
-    (λ a more. commit-made (w .disc) (w .ledger) h stamp junk g a more (outcome (w .disc) (ledgerHeld (w .ledger) junk) (commit stamp)) refl) a more
-made w h g (cuts c junk j tear) a stamp is more =
-    subst (λ (x : Call). Allowed w (cuts x junk j tear) → Saves w h (cuts x junk j tear) → Made (next w (cuts x junk j tear) .disc) stamp) (sym is)
-    (λ a more. cut-commit-made (w .disc) (w .ledger) h stamp junk j tear g a more (kept (w .disc) (ledgerHeld (w .ledger) junk) (commit stamp) j) refl) a more
+  abbrev held : List ℕ
+  held = ledgerHeld o junk
+
+  call-made : Saves w h (calls c junk) → (t : Bool) → saves c ≡ t → (m : ℕ) → outcome d held c ≡ m → Made (next w (calls c junk) .disc) c
+  unfolding next after feed
+  call-made more t is (suc m) e =
+      not-more (length (h .pages)) (ap (λ (x : Fed). length (feed h x .pages)) (sym (refused-fed w c junk m e)) ∙ more)
+  call-made more false is zero e =
+      not-more (length (h .pages)) (ap length (sym (unsaved c is (effect d held c .second) h)) ∙ ap (λ (x : Fed). length (feed h x .pages)) (sym (done-fed w c junk e)) ∙ more)
+  call-made more true is zero e = rw e (saved-made d o c junk g f is e)
+
+  cut-made : (j : ℕ) (tear : Option (List ℕ)) → Saves w h (cuts c junk j tear) → (t : Bool) → saves c ≡ t → (k : Bool) → kept d held c j ≡ k → Made (next w (cuts c junk j tear) .disc) c
+  unfolding next fed feed
+  cut-made j tear more false is k z =
+      not-more (length (h .pages)) (ap (λ (t : Bool). length (feed h (cutIf t (told c) (kept d held c j)) .pages)) (sym is) ∙ more)
+  cut-made j tear more true is false z =
+      not-more (length (h .pages)) (ap₂ (λ (t x : Bool). length (feed h (cutIf t (told c) x) .pages)) (sym is) (sym z) ∙ more)
+  cut-made j tear more true is true z =
+      let out : Bool = eqb (outcome d held c) 0 in
+      let all : Bool = eqb j (length (sectorsOf d held c)) in
+      let e : outcome d held c ≡ 0 = eqb-true (outcome d held c) 0 (and-left out all z) in
+      let same : cutDisc d (sectorsOf d held c) j tear ≡ puts d (recorded d) (effect d held c .sectors) =
+      cut-all (sectorsOf d held c) d tear j (eqb-true j (length (sectorsOf d held c)) (and-right out all z)) ∙ ap (puts d (recorded d)) (done-records d held c e) in
+      subst (λ (x : Disc). Made x c) (sym same) (saved-made d o c junk g f is e)
+
+made : (w : World) (h : History) → Good w → (e : Event) → Allowed w e → Saves w h e → Made (next w e .disc) (callOf e)
+made w h g (calls c junk) a more = call-made (w .disc) (w .ledger) h c junk g a more (saves c) refl (outcome (w .disc) (ledgerHeld (w .ledger) junk) c) refl
+made w h g (cuts c junk j tear) a more = cut-made (w .disc) (w .ledger) h c junk g (a .0) j tear more (saves c) refl (kept (w .disc) (ledgerHeld (w .ledger) junk) c j) refl
 
 -- ---- and any events that follow
 
@@ -158,19 +154,20 @@ all-since (e ∷ es) w h r a s =
 
 each-told : (w : World) (h : History) → Kept w h → EachTold w h
 unfolding AllAllowed runs remembers
-each-told w h r es a e allowed stamp is more later follow k counted =
+each-told w h r es a e allowed more later follow k counted =
+    let stamp : List ℕ = savedStamp (callOf e) in
     let w₁ : World = runs w es in
     let h₁ : History = remembers w h es in
     let r₁ : Kept w₁ h₁ = all-kept es w h r a in
     let r₂ : Kept (next w₁ e) (feed h₁ (fed w₁ e)) = all-kept (e ∷ []) w₁ h₁ r₁ (allowed, tt) in
     let r₃ : Kept (runs (next w₁ e) later) (remembers (next w₁ e) (feed h₁ (fed w₁ e)) later) = all-kept later (next w₁ e) (feed h₁ (fed w₁ e)) r₂ follow in
-    let b = made w₁ h₁ (r₁ .good) e allowed stamp is more in
-    let s : Since F (next w₁ e .disc) (feed h₁ (fed w₁ e) .pages) (length (feed h₁ (fed w₁ e) .pages)) (b .0) (stampOf stamp) = record { followed = 0; counted = omega arith; behind = b .1 } in
-    let t : Since F (runs (next w₁ e) later .disc) (remembers (next w₁ e) (feed h₁ (fed w₁ e)) later .pages) (length (feed h₁ (fed w₁ e) .pages)) (b .0) (stampOf stamp) =
+    let b = made w₁ h₁ (r₁ .good) e allowed more in
+    let s : Since F (next w₁ e .disc) (feed h₁ (fed w₁ e) .pages) (length (feed h₁ (fed w₁ e) .pages)) (b .0) stamp = record { followed = 0; counted = omega arith; behind = b .1 } in
+    let t : Since F (runs (next w₁ e) later .disc) (remembers (next w₁ e) (feed h₁ (fed w₁ e)) later .pages) (length (feed h₁ (fed w₁ e) .pages)) (b .0) stamp =
     all-since later (next w₁ e) (feed h₁ (fed w₁ e)) r₂ follow s in
     let same : t .followed ≡ k = omega (arith, t .counted, counted) in
-    subst (λ (n : ℕ). TellsTime (runs (next w₁ e) later .disc) n (stampOf stamp)) same
-    (behind-tells (runs (next w₁ e) later .disc) (r₃ .good .sound-disc) (t .followed) (b .0) (stampOf stamp) (t .behind))
+    subst (λ (n : ℕ). TellsTime (runs (next w₁ e) later .disc) n stamp) same
+    (behind-tells (runs (next w₁ e) later .disc) (r₃ .good .sound-disc) (t .followed) (b .0) stamp (t .behind))
 
 pub save-times : SaveTimes
 save-times =
@@ -179,8 +176,8 @@ save-times =
       after-mount = λ d l e. each-told (afterCall d l mount) (mountedHistory d) (mounted-kept d l e);
     }
 
--- the claim, put to the world and the history that the events before the commit are known to leave
+-- the claim, put to the world and the history that the events before the save are known to leave
 pub told-there : (w : World) (h : History) → EachTold w h → (es : List Event) → AllAllowed w es → {w₁ : World} {h₁ : History} → runs w es ≡ w₁ → remembers w h es ≡ h₁
-    → (e : Event) → Allowed w₁ e → (stamp : Option (List ℕ)) → callOf e ≡ commit stamp → Saves w₁ h₁ e → ToldLater (next w₁ e) (feed h₁ (fed w₁ e)) (stampOf stamp)
+    → (e : Event) → Allowed w₁ e → Saves w₁ h₁ e → ToldLater (next w₁ e) (feed h₁ (fed w₁ e)) (savedStamp (callOf e))
 told-there w h claim es a p q e =
-    subst₂ (λ (x : World) (y : History). Allowed x e → (stamp : Option (List ℕ)) → callOf e ≡ commit stamp → Saves x y e → ToldLater (next x e) (feed y (fed x e)) (stampOf stamp)) p q (claim es a e)
+    subst₂ (λ (x : World) (y : History). Allowed x e → Saves x y e → ToldLater (next x e) (feed y (fed x e)) (savedStamp (callOf e))) p q (claim es a e)

@@ -9,7 +9,7 @@ use lib.ListN.{length, take}
 use Rattle.vat.specs.Table.{sectorLength, unused}
 use Rattle.disc.specs.Disc.{Disc, Sector, torn, recorded, content, put, puts}
 use Rattle.disc.specs.Tables.{mapAt, newest, blockFound}
-use Rattle.recorder.specs.Calls.{Call, begin, mount, write, release, closePacket, commit, read, lookBack, timeOf}
+use Rattle.recorder.specs.Calls.{Call, begin, mount, write, release, closePacket, commit, closeSession, read, lookBack, timeOf, saves}
 use Rattle.recorder.specs.Refusals.{outcome}
 use Rattle.recorder.specs.Effects.{after, secondNumber, sectorsOf}
 use Rattle.history.specs.History.{Entry, unusedEntry, shows, Snapshot, History, Told, Fed, answered, cut, cutCommit, feed}
@@ -38,6 +38,7 @@ onlyTells (write n block) = false
 onlyTells (release n) = false
 onlyTells closePacket = false
 onlyTells (commit stamp) = false
+onlyTells (closeSession main reserve start) = false
 onlyTells (read n block) = false
 onlyTells (lookBack k) = false
 onlyTells (timeOf k answer) = true
@@ -53,6 +54,7 @@ Restores (write n block) = ⊥
 Restores (release n) = ⊥
 Restores closePacket = ⊥
 Restores (commit stamp) = ⊥
+Restores (closeSession main reserve start) = ⊥
 Restores (read n block) = ⊥
 Restores (lookBack k) = Unit
 Restores (timeOf k answer) = ⊥
@@ -93,7 +95,7 @@ next w (calls c junk) =
 next w (cuts c junk j tear) =
     record { disc = cutDisc (w .disc) (sectorsOf (w .disc) (ledgerHeld (w .ledger) junk) c) j tear; ledger = none }
 
--- What the history is told of a call.
+-- What the history is told of a call: "a closing counts as a commit".
 abbrev pub told : Call → Told
 told begin = Told.begin
 told mount = Told.mount
@@ -101,24 +103,21 @@ told (write n block) = Told.write n block
 told (release n) = Told.release n
 told closePacket = Told.closePacket
 told (commit stamp) = Told.commit
+told (closeSession main reserve start) = Told.commit
 told (read n block) = Told.read n
 told (lookBack k) = Told.lookBack k
 told (timeOf k answer) = Told.timeOf k
 
--- A commit's table sector is kept if it would have been done and all of its sectors are there.
+-- The table sector of a save is kept if it would have been done and all of its sectors are there.
 abbrev pub kept : Disc → List ℕ → Call → ℕ → Bool
 kept d l c j = eqb (outcome d l c) 0 && eqb j (length (sectorsOf d l c))
 
+abbrev pub cutIf : Bool → Told → Bool → Fed
+cutIf true c kept = cutCommit kept
+cutIf false c kept = cut c
+
 abbrev pub cutShort : Disc → List ℕ → Call → ℕ → Fed
-cutShort d l begin j = cut Told.begin
-cutShort d l mount j = cut Told.mount
-cutShort d l (write n block) j = cut (Told.write n block)
-cutShort d l (release n) j = cut (Told.release n)
-cutShort d l closePacket j = cut Told.closePacket
-cutShort d l (commit stamp) j = cutCommit (kept d l (commit stamp) j)
-cutShort d l (read n block) j = cut (Told.read n)
-cutShort d l (lookBack k) j = cut (Told.lookBack k)
-cutShort d l (timeOf k answer) j = cut (Told.timeOf k)
+cutShort d l c j = cutIf (saves c) (told c) (kept d l c j)
 
 unfoldable pub fed : World → Event → Fed
 fed w (calls c junk) =

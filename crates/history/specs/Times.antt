@@ -2,13 +2,13 @@
 use Prim.Native.Nat.{ℕ, suc, _+_, _*_}
 use mathlib.Core.Bool.{Bool, true, false}
 use mathlib.Core.List.{List}
-use mathlib.Core.Option.{Option}
 use mathlib.Core.Path.{_≡_}
 use lib.ListN.{length}
 use Rattle.timestamp.specs.Timestamp.{toldLength, valid, told}
 use Rattle.disc.specs.Disc.{Disc}
 use Rattle.volume.specs.Volume.{ledgerLength}
-use Rattle.recorder.specs.Calls.{Call, begin, mount, commit, timeOf}
+use Rattle.vat.specs.Sector.{noStamp}
+use Rattle.recorder.specs.Calls.{Call, begin, mount, write, release, closePacket, commit, closeSession, read, lookBack, timeOf}
 use Rattle.recorder.specs.Refusals.{outcome}
 use Rattle.recorder.specs.Effects.{stampOf, After, after}
 use Rattle.history.specs.History.{History, feed}
@@ -29,6 +29,19 @@ abbrev pub callOf : Event → Call
 callOf (calls c junk) = c
 callOf (cuts c junk j tear) = c
 
+-- The timestamp that a save's table has: a commit's; a closing has none. The other calls make no save.
+abbrev pub savedStamp : Call → List ℕ
+savedStamp begin = noStamp
+savedStamp mount = noStamp
+savedStamp (write n block) = noStamp
+savedStamp (release n) = noStamp
+savedStamp closePacket = noStamp
+savedStamp (commit stamp) = stampOf stamp
+savedStamp (closeSession main reserve start) = noStamp
+savedStamp (read n block) = noStamp
+savedStamp (lookBack k) = noStamp
+savedStamp (timeOf k answer) = noStamp
+
 -- The event makes a save: the history has one page more.
 abbrev pub Saves : World → History → Event → Type 0
 Saves w h e = length (feed h (fed w e) .pages) ≡ suc (length (h .pages))
@@ -38,12 +51,12 @@ abbrev pub ToldLater : World → History → List ℕ → Type 0
 ToldLater w h stamp =
     (later : List Event) → AllAllowed w later → (k : ℕ) → length (remembers w h later .pages) ≡ k + length (h .pages) → TellsTime (runs w later .disc) k stamp
 
--- Whatever events come first, so it is of each commit that makes its save.
+-- Whatever events come first, so it is of each one that makes a save.
 abbrev pub EachTold : World → History → Type 0
 EachTold w h =
     (es : List Event) → AllAllowed w es
-    → (e : Event) → Allowed (runs w es) e → (stamp : Option (List ℕ)) → callOf e ≡ commit stamp → Saves (runs w es) (remembers w h es) e
-    → ToldLater (next (runs w es) e) (feed (remembers w h es) (fed (runs w es) e)) (stampOf stamp)
+    → (e : Event) → Allowed (runs w es) e → Saves (runs w es) (remembers w h es) e
+    → ToldLater (next (runs w es) e) (feed (remembers w h es) (fed (runs w es) e)) (savedStamp (callOf e))
 
 -- Whatever disc and state a begin or a mount was done on.
 pub record SaveTimes : Type 0 where

@@ -86,7 +86,17 @@ read-lay (r ∷ rs) s at width t =
     read-lay rs (putLe (r .width) s (r .at) (r .value)) at width (both-right here (clear at width rs) t)
     ∙ read-sets-apart width s at (r .at) (le (r .width) (r .value)) (outside at width r (both-left here (clear at width rs) t))
 
--- and so is a part
+-- a row that no later one touches is read back
+pub read-laid : (ps qs : List Row) (r : Row) (s : List ℕ) → T (clear (r .at) (r .width) qs) → r .at + r .width ≤ length s → r .value < 256 ^ r .width
+    → readLe (r .width) (lay s (ps ++ (r ∷ qs))) (r .at) ≡ r .value
+unfolding lay
+read-laid ps qs r s t inside f =
+    let before : List ℕ = lay s ps in
+    ap (λ (l : List ℕ). readLe (r .width) l (r .at)) (lay-append ps (r ∷ qs) s)
+    ∙ read-lay qs (putLe (r .width) before (r .at) (r .value)) (r .at) (r .width) t
+    ∙ read-put (r .width) before (r .at) (r .value) (rw (length-lay ps s) inside) f
+
+-- a part that no row touches stays
 pub part-lay : (rs : List Row) (s : List ℕ) (at width : ℕ) → T (clear at width rs) → take width (drop at (lay s rs)) ≡ take width (drop at s)
 unfolding lay
 part-lay [] s at width t = refl

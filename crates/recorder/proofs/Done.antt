@@ -7,25 +7,30 @@ use mathlib.Core.Bool.{Bool, true, false, _&&_, _||_, not}
 use mathlib.Core.List.{List, [], _∷_, _++_}
 use mathlib.Core.Option.{Option, none, some}
 use lib.Dec.{eqb, ltb, leb}
-use lib.ListN.{length, getD, take, drop}
+use lib.ListN.{length, getD, take, drop, length-replicate}
 use lib.Seq.{getD-take}
 use borrow.Author.Tests.{eqb-true, eqb-false, ltb-true, ltb-false, leb-true, leb-false, not-false}
 use Rattle.le.specs.Bytes.{every}
 use Rattle.le.proofs.Rows.{and-left, and-right}
 use Rattle.timestamp.specs.Timestamp.{stampLength, toldLength, valid}
 use Rattle.vat.specs.Table.{sectorLength, limit, unused, unusedOrBelow, wholeLength, isTable}
+use Rattle.vat.specs.Sector.{noStamp}
 use Rattle.vat.proofs.Theorems.{tells}
-use Rattle.disc.specs.Disc.{Disc, sized, inOrder, recorded, blanks, kindAt, sectorAt}
+use Rattle.anchor.specs.declared.Extent.{Extent}
+use Rattle.anchor.specs.Anchor.{farthestStart, anchorTagged}
+use Rattle.disc.specs.Disc.{Disc, sized, inOrder, recorded, blanks, kindAt, sectorAt, Sector}
 use Rattle.disc.specs.declared.Walk.{Walk}
 use Rattle.disc.specs.declared.Walk.the-variants.{Reached, Broken, Ended}
 use Rattle.disc.specs.Tables.{tableAt, newest}
+use Rattle.disc.specs.Session.{closing, closingLength, sessionClosed}
 use Rattle.disc.proofs.Recording.{sized-tells, Sound, sound, sound-sized, sound-order}
 use Rattle.disc.proofs.Found.{sector-end, table-within}
 use Rattle.volume.specs.declared.Volume.{Volume}
 use Rattle.volume.specs.Volume.{ledgerLength, idle, packetOpen, readOnly, mapOf, unpack, isUnused, fits}
-use Rattle.recorder.specs.Calls.{Call, begin, mount, write, release, closePacket, commit, read, lookBack, timeOf}
-use Rattle.recorder.specs.Refusals.{Test, test, orElse, first, linkCount, linksIf, links, target, reserve, basic, ledgerLent, blockLent, stampLong, stampLent, answerLent, unfit, forbidden, writeTests, stampWrong, commitTests, notInUse, isSome, walked, isBroken, isEnded, walkTests, timeBack, timeWrong, tests, outcome}
+use Rattle.recorder.specs.Calls.{Call, begin, mount, write, release, closePacket, commit, closeSession, read, lookBack, timeOf}
+use Rattle.recorder.specs.Refusals.{Test, test, orElse, first, linkCount, linksIf, links, target, reserve, basic, ledgerLent, blockLent, stampLong, stampLent, answerLent, unfit, gate, forbiddenAt, writeTests, stampWrong, commitTests, closingTests, notInUse, isSome, walked, isBroken, isEnded, walkTests, timeBack, timeWrong, tests, outcome}
 use Rattle.recorder.specs.Effects.{stampOf}
+use Rattle.recorder.proofs.Sectors.{AllWhole, closing-whole, length-closing}
 
 -- ---- lists of tests
 
@@ -149,21 +154,25 @@ fitting d v e =
       last-known = and-left g (h && i) e₄;
     }
 
--- 4 and 5 do not apply
+-- 4, 5 and 17 do not apply
 pub record Working (d : Disc) (l : List ℕ) (rest : List Test) : Type 0 where
   pub fit : Fits d (unpack l)
   pub not-looking : eqb (unpack l .mode) readOnly ≡ false
+  pub not-closed : sessionClosed d ≡ false
   pub rest-passed : first rest ≡ 0
 
-pub working-passed : (d : Disc) (l : List ℕ) (rest : List Test) → first (unfit d l ∷ forbidden l ∷ rest) ≡ 0 → Working d l rest
+pub working-passed : (d : Disc) (l : List ℕ) (rest : List Test) → first (gate d l ++ rest) ≡ 0 → Working d l rest
 working-passed d l rest e =
     let four : Bool = not (fits d (unpack l)) in
     let five : Bool = eqb (unpack l .mode) readOnly in
-    let e₂ : first (test 5 five ∷ rest) ≡ 0 = later 3 four (test 5 five ∷ rest) e in
+    let seventeen : Bool = sessionClosed d in
+    let e₂ : first (test 5 five ∷ test 17 seventeen ∷ rest) ≡ 0 = later 3 four (test 5 five ∷ test 17 seventeen ∷ rest) e in
+    let e₃ : first (test 17 seventeen ∷ rest) ≡ 0 = later 4 five (test 17 seventeen ∷ rest) e₂ in
     record {
-      fit = fitting d (unpack l) (not-false (fits d (unpack l)) (passed 3 four (test 5 five ∷ rest) e));
-      not-looking = passed 4 five rest e₂;
-      rest-passed = later 4 five rest e₂;
+      fit = fitting d (unpack l) (not-false (fits d (unpack l)) (passed 3 four (test 5 five ∷ test 17 seventeen ∷ rest) e));
+      not-looking = passed 4 five (test 17 seventeen ∷ rest) e₂;
+      not-closed = passed 16 seventeen rest e₃;
+      rest-passed = later 16 seventeen rest e₃;
     }
 
 -- ---- the tests that several calls begin with
@@ -172,7 +181,7 @@ abbrev pub fittingTests : Disc → List ℕ → Bool → List Test
 fittingTests d l lengths = basic d lengths ++ (unfit d l ∷ [])
 
 abbrev pub workingTests : Disc → List ℕ → Bool → List Test
-workingTests d l lengths = basic d lengths ++ (unfit d l ∷ forbidden l ∷ [])
+workingTests d l lengths = basic d lengths ++ gate d l
 
 -- 1 to 4 do not apply
 pub record Admitted (d : Disc) (l : List ℕ) (whole : Bool) : Type 0 where
@@ -197,7 +206,7 @@ pub fitting-admits : (d : Disc) (l : List ℕ) (whole : Bool) → first (fitting
 fitting-admits d l whole e = admitted d l whole [] e
 
 pub working-admits : (d : Disc) (l : List ℕ) (whole : Bool) → first (workingTests d l (ledgerLent l && whole)) ≡ 0 → Admitted d l whole
-working-admits d l whole e = admitted d l whole (forbidden l ∷ []) e
+working-admits d l whole e = admitted d l whole (test 5 (eqb (unpack l .mode) readOnly) ∷ test 17 (sessionClosed d) ∷ []) e
 
 pub links-few : (v : Volume) → links v ≤ linkCount
 unfolding links
@@ -222,10 +231,11 @@ ledger-accepted d l begin e = alone-long d l (test 6 (isSome (newest d)) ∷ [])
 ledger-accepted d l mount e = alone-long d l (test 7 (not (isSome (newest d))) ∷ []) e
 ledger-accepted d l (write n block) e =
     lent-long d l (eqb (length block) sectorLength)
-    (unfit d l ∷ forbidden l ∷ writeTests (blanks d) (unpack l) n block) e
-ledger-accepted d l (release n) e = alone-long d l (unfit d l ∷ forbidden l ∷ test 10 (notInUse (unpack l) n) ∷ []) e
-ledger-accepted d l closePacket e = alone-long d l (unfit d l ∷ forbidden l ∷ []) e
-ledger-accepted d l (commit stamp) e = lent-long d l (stampLong stamp) (unfit d l ∷ forbidden l ∷ commitTests (blanks d) (unpack l) stamp) e
+    (gate d l ++ writeTests d (unpack l) n block) e
+ledger-accepted d l (release n) e = alone-long d l (gate d l ++ (test 10 (notInUse (unpack l) n) ∷ [])) e
+ledger-accepted d l closePacket e = alone-long d l (gate d l) e
+ledger-accepted d l (commit stamp) e = lent-long d l (stampLong stamp) (gate d l ++ commitTests d (unpack l) stamp) e
+ledger-accepted d l (closeSession main reserve start) e = alone-long d l (gate d l ++ closingTests d (unpack l) start) e
 ledger-accepted d l (read n block) e =
     lent-long d l (eqb (length block) sectorLength)
     (unfit d l ∷ test 10 (notInUse (unpack l) n) ∷ test 11 (not (eqb (kindAt d (getD (unpack l .entries) n unused)) 1)) ∷ []) e
@@ -298,8 +308,12 @@ pub record WriteDone (d : Disc) (l : List ℕ) (n : ℕ) (block : List ℕ) : Ty
   pub not-looking : eqb (unpack l .mode) readOnly ≡ false
   pub below-limit : n < limit
   pub no-gap : n ≤ unpack l .size
-  pub room : links (unpack l) + 1 + reserve ≤ blanks d
+  pub room : links (unpack l) + 1 + reserve (length (d .kinds)) ≤ blanks d
   pub no-table : isTable 1 block (target (unpack l)) ≡ false
+
+neither : (a b : Bool) → (a || b) ≡ false → a ≡ false
+neither true b e = e
+neither false b e = refl
 
 pub write-done : (d : Disc) (l : List ℕ) (n : ℕ) (block : List ℕ) → outcome d l (write n block) ≡ 0 → WriteDone d l n block
 unfolding outcome tests
@@ -307,11 +321,12 @@ write-done d l n block e =
     let v : Volume = unpack l in
     let thirteen : Bool = leb limit n in
     let twelve : Bool = ltb (v .size) n in
-    let fourteen : Bool = ltb (blanks d) (links v + 1 + reserve) in
-    let fifteen : Bool = isTable 1 block (target v) in
+    let needed : ℕ = links v + 1 + reserve (length (d .kinds)) in
+    let fourteen : Bool = ltb (blanks d) needed in
+    let fifteen : Bool = forbiddenAt (target v) block in
     let behind : List Test = test 14 fourteen ∷ test 15 fifteen ∷ [] in
-    let rest : List Test = writeTests (blanks d) v n block in
-    let b : Basic d (blockLent l block) (unfit d l ∷ forbidden l ∷ rest) = basic-passed d (blockLent l block) (unfit d l ∷ forbidden l ∷ rest) e in
+    let rest : List Test = writeTests d v n block in
+    let b : Basic d (blockLent l block) (gate d l ++ rest) = basic-passed d (blockLent l block) (gate d l ++ rest) e in
     let w : Working d l rest = working-passed d l rest (b .rest-passed) in
     let e₁ : first (test 12 twelve ∷ behind) ≡ 0 = later 12 thirteen (test 12 twelve ∷ behind) (w .rest-passed) in
     let e₂ : first behind ≡ 0 = later 11 twelve behind e₁ in
@@ -322,8 +337,8 @@ write-done d l n block e =
       not-looking = w .not-looking;
       below-limit = leb-false limit n (passed 12 thirteen (test 12 twelve ∷ behind) (w .rest-passed));
       no-gap = ltb-false (v .size) n (passed 11 twelve behind e₁);
-      room = ltb-false (blanks d) (links v + 1 + reserve) (passed 13 fourteen (test 15 fifteen ∷ []) e₂);
-      no-table = passed 14 fifteen [] (later 13 fourteen (test 15 fifteen ∷ []) e₂);
+      room = ltb-false (blanks d) needed (passed 13 fourteen (test 15 fifteen ∷ []) e₂);
+      no-table = neither (isTable 1 block (target v)) (anchorTagged block (target v)) (passed 14 fifteen [] (later 13 fourteen (test 15 fifteen ∷ []) e₂));
     }
 
 in-use : (v : Volume) (n : ℕ) → notInUse v n ≡ false → n < v .size
@@ -371,43 +386,81 @@ pub release-done : (d : Disc) (l : List ℕ) (n : ℕ) → outcome d l (release 
 unfolding outcome tests
 release-done d l n e =
     let ten : Bool = notInUse (unpack l) n in
-    let b : Basic d (ledgerLent l) (unfit d l ∷ forbidden l ∷ test 10 ten ∷ []) = basic-passed d (ledgerLent l) (unfit d l ∷ forbidden l ∷ test 10 ten ∷ []) e in
+    let b : Basic d (ledgerLent l) (gate d l ++ (test 10 ten ∷ [])) = basic-passed d (ledgerLent l) (gate d l ++ (test 10 ten ∷ [])) e in
     let w : Working d l (test 10 ten ∷ []) = working-passed d l (test 10 ten ∷ []) (b .rest-passed) in
     (b .sound-disc, w, in-use (unpack l) n (passed 9 ten [] (w .rest-passed)))
 
 pub close-done : (d : Disc) (l : List ℕ) → outcome d l closePacket ≡ 0 → Sound d × Working d l []
 unfolding outcome tests
 close-done d l e =
-    let b : Basic d (ledgerLent l) (unfit d l ∷ forbidden l ∷ []) = basic-passed d (ledgerLent l) (unfit d l ∷ forbidden l ∷ []) e in
+    let b : Basic d (ledgerLent l) (gate d l) = basic-passed d (ledgerLent l) (gate d l) e in
     (b .sound-disc, working-passed d l [] (b .rest-passed))
 
-pub record CommitDone (d : Disc) (l : List ℕ) (stamp : Option (List ℕ)) : Type 0 where
+-- a save, with what it records between its links and its table, and the timestamp of the table
+pub record SaveDone (d : Disc) (l : List ℕ) (between : List Sector) (stamp : List ℕ) : Type 0 where
   pub sound-disc : Sound d
-  pub timely : length (stampOf stamp) ≡ stampLength
+  pub timely : length stamp ≡ stampLength
   pub fit : Fits d (unpack l)
   pub not-looking : eqb (unpack l .mode) readOnly ≡ false
-  pub right-stamp : stampWrong stamp ≡ false
-  pub room : links (unpack l) + 1 ≤ blanks d
+  pub whole : AllWhole between
+  pub room : links (unpack l) + length between + 1 ≤ blanks d
 
 stamp-long : (stamp : Option (List ℕ)) → stampLong stamp ≡ true → length (stampOf stamp) ≡ stampLength
 stamp-long none e = refl
 stamp-long (some stamp) e = eqb-true (length stamp) stampLength e
 
+pub record CommitDone (d : Disc) (l : List ℕ) (stamp : Option (List ℕ)) : Type 0 where
+  pub right-stamp : stampWrong stamp ≡ false
+  pub saving : SaveDone d l [] (stampOf stamp)
+
 pub commit-done : (d : Disc) (l : List ℕ) (stamp : Option (List ℕ)) → outcome d l (commit stamp) ≡ 0 → CommitDone d l stamp
 unfolding outcome tests
 commit-done d l stamp e =
+    let needed : ℕ = links (unpack l) + 0 + 1 in
     let sixteen : Bool = stampWrong stamp in
-    let fourteen : Bool = ltb (blanks d) (links (unpack l) + 1) in
-    let rest : List Test = commitTests (blanks d) (unpack l) stamp in
-    let b : Basic d (stampLent l stamp) (unfit d l ∷ forbidden l ∷ rest) = basic-passed d (stampLent l stamp) (unfit d l ∷ forbidden l ∷ rest) e in
+    let fourteen : Bool = ltb (blanks d) needed in
+    let rest : List Test = commitTests d (unpack l) stamp in
+    let b : Basic d (stampLent l stamp) (gate d l ++ rest) = basic-passed d (stampLent l stamp) (gate d l ++ rest) e in
     let w : Working d l rest = working-passed d l rest (b .rest-passed) in
     record {
-      sound-disc = b .sound-disc;
-      timely = stamp-long stamp (and-right (ledgerLent l) (stampLong stamp) (b .lent));
-      fit = w .fit;
-      not-looking = w .not-looking;
       right-stamp = passed 15 sixteen (test 14 fourteen ∷ []) (w .rest-passed);
-      room = ltb-false (blanks d) (links (unpack l) + 1) (passed 13 fourteen [] (later 15 sixteen (test 14 fourteen ∷ []) (w .rest-passed)));
+      saving =
+          record {
+            sound-disc = b .sound-disc;
+            timely = stamp-long stamp (and-right (ledgerLent l) (stampLong stamp) (b .lent));
+            fit = w .fit;
+            not-looking = w .not-looking;
+            whole = tt;
+            room = ltb-false (blanks d) needed (passed 13 fourteen [] (later 15 sixteen (test 14 fourteen ∷ []) (w .rest-passed)));
+          };
+    }
+
+pub record ClosingDone (d : Disc) (l : List ℕ) (main reserve : Extent) (start : ℕ) : Type 0 where
+  pub near : start ≤ farthestStart
+  pub saving : SaveDone d l (closing main reserve start (target (unpack l))) noStamp
+
+pub closing-done : (d : Disc) (l : List ℕ) (main reserve : Extent) (start : ℕ) → outcome d l (closeSession main reserve start) ≡ 0 → ClosingDone d l main reserve start
+unfolding outcome tests
+closing-done d l main reserve start e =
+    let v : Volume = unpack l in
+    let needed : ℕ = links v + closingLength + 1 in
+    let eighteen : Bool = ltb farthestStart start in
+    let fourteen : Bool = ltb (blanks d) needed in
+    let rest : List Test = closingTests d v start in
+    let b : Basic d (ledgerLent l) (gate d l ++ rest) = basic-passed d (ledgerLent l) (gate d l ++ rest) e in
+    let w : Working d l rest = working-passed d l rest (b .rest-passed) in
+    let enough : needed ≤ blanks d = ltb-false (blanks d) needed (passed 13 fourteen [] (later 17 eighteen (test 14 fourteen ∷ []) (w .rest-passed))) in
+    record {
+      near = ltb-false farthestStart start (passed 17 eighteen (test 14 fourteen ∷ []) (w .rest-passed));
+      saving =
+          record {
+            sound-disc = b .sound-disc;
+            timely = length-replicate {A = ℕ} stampLength 0;
+            fit = w .fit;
+            not-looking = w .not-looking;
+            whole = closing-whole main reserve start (target v);
+            room = rw (length-closing main reserve start (target v)) enough;
+          };
     }
 
 way-reached : (w : Walk) → isBroken w ≡ false → isEnded w ≡ false → (b : ℕ) × (w ≡ Reached b)

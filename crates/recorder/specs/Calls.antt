@@ -1,7 +1,9 @@
--- The calls (document 01, 'The calls', and document 02), each with its number and the buffer that it is lent beside disc and ledger.
+-- The calls (document 01, 'The calls', and document 02), each with its numbers and the buffer that it is lent beside disc and ledger.
 use Prim.Native.Nat.{ℕ}
+use mathlib.Core.Bool.{Bool, true, false}
 use mathlib.Core.List.{List, []}
 use mathlib.Core.Option.{Option, none, some}
+use Rattle.anchor.specs.declared.Extent.{Extent}
 
 pub data Call : Type 0 where
   begin : Call
@@ -10,6 +12,7 @@ pub data Call : Type 0 where
   release : ℕ → Call
   closePacket : Call
   commit : Option (List ℕ) → Call  -- "A second form of commit takes a 12-byte ECMA-167 timestamp"
+  closeSession : Extent → Extent → ℕ → Call  -- "The host gives the two extents and the partition's start"
   read : ℕ → List ℕ → Call
   lookBack : ℕ → Call
   timeOf : ℕ → List ℕ → Call
@@ -26,6 +29,20 @@ bufferOf (write v block) = block
 bufferOf (release v) = []
 bufferOf closePacket = []
 bufferOf (commit stamp) = stampBuffer stamp
+bufferOf (closeSession main reserve start) = []
 bufferOf (read v block) = block
 bufferOf (lookBack k) = []
 bufferOf (timeOf k answer) = answer
+
+-- The calls that save: "In the cut rule a closing counts as a commit."
+abbrev pub saves : Call → Bool
+saves begin = false
+saves mount = false
+saves (write v block) = false
+saves (release v) = false
+saves closePacket = false
+saves (commit stamp) = true
+saves (closeSession main reserve start) = true
+saves (read v block) = false
+saves (lookBack k) = false
+saves (timeOf k answer) = false

@@ -5,7 +5,7 @@ use mathlib.Core.Bool.{Bool, true, false}
 use mathlib.Core.List.{List, [], _∷_, _++_}
 use mathlib.Core.Option.{Option, none, some}
 use lib.Dec.{eqb}
-use lib.ListN.{getD, replicate}
+use lib.ListN.{length, getD, replicate}
 use Rattle.timestamp.specs.Timestamp.{told}
 use Rattle.vat.specs.Table.{unused}
 use Rattle.vat.specs.Sector.{noStamp, sector}
@@ -13,9 +13,10 @@ use Rattle.disc.specs.Disc.{Disc, lent, Sector, link, plain, recorded, sectorAt
 use Rattle.disc.specs.declared.Walk.{Walk}
 use Rattle.disc.specs.declared.Walk.the-variants.{Reached, Broken, Ended}
 use Rattle.disc.specs.Tables.{mapAt, newest, blockFound}
+use Rattle.disc.specs.Session.{closing}
 use Rattle.volume.specs.declared.Volume.{Volume}
 use Rattle.volume.specs.Volume.{idle, readOnly, unpack, pack, mapOf, begun, filled, wrote, released, closed, committed}
-use Rattle.recorder.specs.Calls.{Call, begin, mount, write, release, closePacket, commit, read, lookBack, timeOf, stampBuffer, bufferOf}
+use Rattle.recorder.specs.Calls.{Call, begin, mount, write, release, closePacket, commit, closeSession, read, lookBack, timeOf, stampBuffer, bufferOf}
 use Rattle.recorder.specs.Refusals.{links, target, walked, timeBack, outcome}
 
 pub record Effect : Type 0 where
@@ -44,6 +45,18 @@ abbrev pub stampOf : Option (List ℕ) → List ℕ
 stampOf none = noStamp
 stampOf (some stamp) = stamp
 
+-- A save: links, the sectors between them and the table, of which a commit has none, and the table sector, which names the ledger's last table as previous
+-- and becomes the last table itself. Of a closing "the second number and ledger are as after a commit".
+abbrev pub saved : Volume → List Sector → List ℕ → List ℕ → Effect
+saved v between stamp buffer =
+    let b : ℕ = target v + length between in
+    record {
+      second = b;
+      sectors = (replicate (links v) link ++ between) ++ (plain (sector (mapOf v) (v .last) stamp b) ∷ []);
+      ledger = pack (committed b v);
+      buffer = buffer;
+    }
+
 unfoldable pub effect : Disc → List ℕ → Call → Effect
 effect d l begin = settles 0 (pack (begun (recorded d)))
 effect d l mount =
@@ -59,14 +72,10 @@ effect d l (write n block) =
     }
 effect d l (release n) = settles 0 (pack (released n (unpack l)))
 effect d l closePacket = settles 0 (pack (closed (unpack l)))
-effect d l (commit stamp) =
+effect d l (commit stamp) = saved (unpack l) [] (stampOf stamp) (stampBuffer stamp)
+effect d l (closeSession main reserve start) =
     let v : Volume = unpack l in
-    record {
-      second = target v;
-      sectors = replicate (links v) link ++ (plain (sector (mapOf v) (v .last) (stampOf stamp) (target v)) ∷ []);
-      ledger = pack (committed (target v) v);
-      buffer = stampBuffer stamp;
-    }
+    saved v (closing main reserve start (target v)) noStamp []
 effect d l (read n block) =
     record { second = 0; sectors = []; ledger = l; buffer = sectorAt d (getD (unpack l .entries) n unused) }
 effect d l (lookBack k) =

@@ -9,13 +9,15 @@ use lib.Dec.{eqb, ltb, leb}
 use lib.ListN.{length, getD}
 use Rattle.timestamp.specs.Timestamp.{stampLength, toldLength, valid}
 use Rattle.vat.specs.Table.{sectorLength, limit, unused, isTable}
+use Rattle.anchor.specs.Anchor.{farthestStart, anchorTagged}
 use Rattle.disc.specs.Disc.{Disc, sized, inOrder, blanks, kindAt}
 use Rattle.disc.specs.declared.Walk.{Walk}
 use Rattle.disc.specs.declared.Walk.the-variants.{Reached, Broken, Ended}
 use Rattle.disc.specs.Tables.{tableAt, previousAt, timeAt, newest, walk}
+use Rattle.disc.specs.Session.{closingLength, sessionClosed}
 use Rattle.volume.specs.declared.Volume.{Volume}
 use Rattle.volume.specs.Volume.{ledgerLength, idle, readOnly, unpack, fits}
-use Rattle.recorder.specs.Calls.{Call, begin, mount, write, release, closePacket, commit, read, lookBack, timeOf}
+use Rattle.recorder.specs.Calls.{Call, begin, mount, write, release, closePacket, commit, closeSession, read, lookBack, timeOf}
 
 pub record Test : Type 0 where
   pub number : ℕ
@@ -32,7 +34,7 @@ unfoldable pub first : List Test → ℕ
 first [] = 0
 first (t ∷ ts) = let later : ℕ = first ts in orElse (t .applies) (t .number) later
 
--- "an underrun costs seven blocks": the links that write and commit record first, "in mode 0 with recorded above 0".
+-- "an underrun costs seven blocks": the links that write, commit and closing record first, "in mode 0 with recorded above 0".
 abbrev pub linkCount : ℕ
 linkCount = 7
 
@@ -43,13 +45,17 @@ linksIf false = 0
 unfoldable pub links : Volume → ℕ
 links v = linksIf (eqb (v .mode) idle && ltb 0 (v .recorded))
 
--- The block that a write or a commit takes.
+-- The block behind them, which a write or a commit takes, and a closing's pointer.
 abbrev pub target : Volume → ℕ
 target v = v .recorded + links v
 
--- "Write needs links + 1 + 8 blank sectors".
-abbrev pub reserve : ℕ
-reserve = 8
+-- "Write needs links + 1 + 8 blank sectors", and "on discs of 1,000 sectors or more a write must leave 264 instead of 8".
+abbrev pub reserveIf : Bool → ℕ
+reserveIf true = 264
+reserveIf false = 8
+
+unfoldable pub reserve : ℕ → ℕ
+reserve sectors = reserveIf (leb 1000 sectors)
 
 -- 1, 2, 3: the disc's size, the lent lengths, the kinds.
 abbrev pub basic : Disc → Bool → List Test
@@ -72,21 +78,26 @@ stampLent l stamp = ledgerLent l && stampLong stamp
 abbrev pub answerLent : List ℕ → List ℕ → Bool
 answerLent l answer = ledgerLent l && eqb (length answer) toldLength
 
--- 4: the ledger does not fit. 5: looking only.
+-- 4: the ledger does not fit.
 abbrev pub unfit : Disc → List ℕ → Test
 unfit d l = test 4 (not (fits d (unpack l)))
 
-abbrev pub forbidden : List ℕ → Test
-forbidden l = test 5 (eqb (unpack l .mode) readOnly)
+-- What every call that may record is asked behind 1, 2 and 3: the ledger fits; 5, looking only; and 17, "write, release, commit, close packet or closing
+-- on a closed disc, tested directly after 5".
+abbrev pub gate : Disc → List ℕ → List Test
+gate d l = unfit d l ∷ test 5 (eqb (unpack l .mode) readOnly) ∷ test 17 (sessionClosed d) ∷ []
 
--- Write's own tests, with so many blank sectors on the disc: the number, the room, the lent block. "13 comes directly before 12": "a number at or above
--- the limit gives 13, even above size".
-abbrev pub writeTests : ℕ → Volume → ℕ → List ℕ → List Test
-writeTests blank v n block =
+-- 15, what no write may put at block b: a table sector, and "every block with such a tag" as a closing's pointer has.
+abbrev pub forbiddenAt : ℕ → List ℕ → Bool
+forbiddenAt b block = isTable 1 block b || anchorTagged block b
+
+-- Write's own tests: the number, the room, the lent block. "13 comes directly before 12": "a number at or above the limit gives 13, even above size".
+abbrev pub writeTests : Disc → Volume → ℕ → List ℕ → List Test
+writeTests d v n block =
     test 13 (leb limit n)
     ∷ test 12 (ltb (v .size) n)
-    ∷ test 14 (ltb blank (links v + 1 + reserve))
-    ∷ test 15 (isTable 1 block (target v))
+    ∷ test 14 (ltb (blanks d) (links v + 1 + reserve (length (d .kinds))))
+    ∷ test 15 (forbiddenAt (target v) block)
     ∷ []
 
 -- 16, "a timestamp given .. breaks these limits": "tested after 5 on a commit".
@@ -94,9 +105,17 @@ abbrev pub stampWrong : Option (List ℕ) → Bool
 stampWrong none = false
 stampWrong (some stamp) = not (valid stamp)
 
--- A commit's own tests, with so many blank sectors on the disc: the timestamp, if it has one, and the room.
-abbrev pub commitTests : ℕ → Volume → Option (List ℕ) → List Test
-commitTests blank v stamp = test 16 (stampWrong stamp) ∷ test 14 (ltb blank (links v + 1)) ∷ []
+-- 14 of a save that records so many sectors between its links and its table: commit "needs links + 1 blank sectors", and closing "links + 257".
+abbrev pub noRoom : Disc → Volume → ℕ → Test
+noRoom d v between = test 14 (ltb (blanks d) (links v + between + 1))
+
+-- A commit's own tests: the timestamp, if it has one, and the room.
+abbrev pub commitTests : Disc → Volume → Option (List ℕ) → List Test
+commitTests d v stamp = test 16 (stampWrong stamp) ∷ noRoom d v 0 ∷ []
+
+-- A closing's: 18, "the partition start exceeds 400,000", and the room.
+abbrev pub closingTests : Disc → Volume → ℕ → List Test
+closingTests d v start = test 18 (ltb farthestStart start) ∷ noRoom d v closingLength ∷ []
 
 -- 10: "v not below size, or .. an unused entry".
 abbrev pub notInUse : Volume → ℕ → Bool
@@ -145,10 +164,11 @@ timeWrong d k = test 16 (not (valid (timeBack d k)))
 unfoldable pub tests : Disc → List ℕ → Call → List Test
 tests d l begin = basic d (ledgerLent l) ++ (test 6 (isSome (newest d)) ∷ [])
 tests d l mount = basic d (ledgerLent l) ++ (test 7 (not (isSome (newest d))) ∷ [])
-tests d l (write n block) = basic d (blockLent l block) ++ (unfit d l ∷ forbidden l ∷ writeTests (blanks d) (unpack l) n block)
-tests d l (release n) = basic d (ledgerLent l) ++ (unfit d l ∷ forbidden l ∷ test 10 (notInUse (unpack l) n) ∷ [])
-tests d l closePacket = basic d (ledgerLent l) ++ (unfit d l ∷ forbidden l ∷ [])
-tests d l (commit stamp) = basic d (stampLent l stamp) ++ (unfit d l ∷ forbidden l ∷ commitTests (blanks d) (unpack l) stamp)
+tests d l (write n block) = basic d (blockLent l block) ++ (gate d l ++ writeTests d (unpack l) n block)
+tests d l (release n) = basic d (ledgerLent l) ++ (gate d l ++ (test 10 (notInUse (unpack l) n) ∷ []))
+tests d l closePacket = basic d (ledgerLent l) ++ gate d l
+tests d l (commit stamp) = basic d (stampLent l stamp) ++ (gate d l ++ commitTests d (unpack l) stamp)
+tests d l (closeSession main reserve start) = basic d (ledgerLent l) ++ (gate d l ++ closingTests d (unpack l) start)
 tests d l (read n block) =
     let v : Volume = unpack l in
     basic d (blockLent l block)

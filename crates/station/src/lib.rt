@@ -1,14 +1,16 @@
 // The calls as C functions for the host program. Each slice is a pointer and then a length; the answer is outcome × 4,294,967,296 + second number.
 // No function has a precondition. Its promise is one equation: the answer and every lent buffer at the end are what the definition `after` says of what
 // the buffers held at the beginning.
+use anchor::Extent;
 use vat::table::SECTOR;
 use volume::Volume;
 ghost use mathlib.Core.Path.{_≡_};
 ghost use mathlib.Core.List.{[]};
 ghost use mathlib.Core.Option.{none, some};
 ghost use Prim.Native.Nat.{_*_};
+ghost use Rattle.anchor.specs.Anchor.{extent};
 ghost use Rattle.disc.specs.Disc.{lent};
-ghost use Rattle.recorder.specs.Calls.{begin, mount, write, release, closePacket, commit, read, lookBack, timeOf};
+ghost use Rattle.recorder.specs.Calls.{begin, mount, write, release, closePacket, commit, closeSession, read, lookBack, timeOf};
 ghost use Rattle.recorder.specs.Effects.{left, after};
 
 // "A refusal's second number is 0".
@@ -115,6 +117,34 @@ pub extern "C" fn station_commit_at(
         return refusal(outcome);
     }
     calls::effects::save(image, kinds, ledger, stamp) as u64
+}
+
+#[no_mangle]
+pub extern "C" fn station_close_session(
+    image: &mut [u8],
+    kinds: &mut [u8],
+    ledger: &mut [u8],
+    main_length: u32,
+    main_location: u32,
+    reserve_length: u32,
+    reserve_location: u32,
+    partition_start: u32,
+) -> u64
+    ensures { λ r. ⌜ left r (now (image .exit)) (now (kinds .exit)) (now (ledger .exit)) [] ≡ after (lent (now (image .entry)) (now (kinds .entry))) (now (ledger .entry)) (closeSession (extent «main_length» «main_location») (extent «reserve_length» «reserve_location») «partition_start») ⌝ }
+{
+    let main = Extent {
+        length: main_length,
+        location: main_location,
+    };
+    let reserve = Extent {
+        length: reserve_length,
+        location: reserve_location,
+    };
+    let outcome = calls::admit::close_session(image, kinds, ledger, main, reserve, partition_start);
+    if outcome != 0 {
+        return refusal(outcome);
+    }
+    calls::effects::close(image, kinds, ledger, main, reserve, partition_start) as u64
 }
 
 #[no_mangle]

@@ -16,7 +16,7 @@ use Rattle.le.proofs.Bytes.{take-sets-before, drop-sets-after}
 use Rattle.le.proofs.Fields.{length-le, length-put, read-put, read-sets-apart}
 use Rattle.crc.specs.Crc.{crcOf}
 use Rattle.crc.proofs.Laws.{crc-lt}
-use Rattle.tag.specs.Tag.{checksum, crcLength, bodyCrc, sealed, checked, seal}
+use Rattle.tag.specs.Tag.{checksum, crcLength, bodyCrc, summed, sealed, checked, seal}
 
 -- the two rows that sealing lays
 abbrev pub sealRows : List ℕ → List Row
@@ -48,15 +48,21 @@ body-lt : (s : List ℕ) → bodyCrc s < 65536
 unfolding bodyCrc
 body-lt s = crc-lt (take (crcLength s) (drop 16 s))
 
+pub summed-seal : (s : List ℕ) → 16 ≤ length s → summed (seal s) ≡ true
+unfolding summed seal
+summed-seal s h =
+    let t : List ℕ = putLe 2 s 8 (bodyCrc s) in
+    let u : List ℕ = checked t in
+    let long : 16 ≤ length t = omega (arith, length-put 2 s 8 (bodyCrc s)) in
+    eq-eqb (readLe 1 u 4) (checksum u) (read-put 1 t 4 (checksum t) (omega arith) (checksum-lt t) ∙ sym (checksum-kept t (checksum t)))
+
 pub sealed-seal : (s : List ℕ) → 16 ≤ length s → sealed (seal s) ≡ true
 unfolding sealed seal
 sealed-seal s h =
     let t : List ℕ = putLe 2 s 8 (bodyCrc s) in
     let u : List ℕ = checked t in
-    let long : 16 ≤ length t = omega (arith, length-put 2 s 8 (bodyCrc s)) in
-    let sum : readLe 1 u 4 ≡ checksum u = read-put 1 t 4 (checksum t) (omega arith) (checksum-lt t) ∙ sym (checksum-kept t (checksum t)) in
     let crc : readLe 2 u 8 ≡ bodyCrc u =
     read-sets-apart 2 t 8 4 (le 1 (checksum t)) (inr (rw (length-le 1 (checksum t)) (lit≤ tt)))
     ∙ read-put 2 s 8 (bodyCrc s) (omega arith) (body-lt s)
     ∙ sym (body-kept 1 t 4 (checksum t) (lit≤ tt) ∙ body-kept 2 s 8 (bodyCrc s) (lit≤ tt)) in
-    ap₂ (λ (a b : Bool). a && b) (eq-eqb (readLe 1 u 4) (checksum u) sum) (eq-eqb (readLe 2 u 8) (bodyCrc u) crc)
+    ap₂ (λ (a b : Bool). a && b) (summed-seal s h) (eq-eqb (readLe 2 u 8) (bodyCrc u) crc)

@@ -1,4 +1,4 @@
--- The sums in the tag of a descriptor (ECMA-167 3/7.2; document 01, 'The table sector at block b', bytes 4, 8 and 10).
+-- The sums in the tag of a descriptor (ECMA-167 3/7.2; document 01, 'The table sector at block b', bytes 4, 8 and 10; document 02, R-5).
 -- They are the same for every descriptor; a descriptor's own rows stand with it.
 use Prim.Native.Nat.{ℕ, _+_, _%_}
 use mathlib.Core.Bool.{Bool, _&&_}
@@ -21,9 +21,13 @@ crcLength s = readLe 2 s 10
 unfoldable pub bodyCrc : List ℕ → ℕ
 bodyCrc s = crcOf (take (crcLength s) (drop 16 s))
 
+-- "a right tag checksum": the tag of s holds its own sum.
+unfoldable pub summed : List ℕ → Bool
+summed s = eqb (readLe 1 s 4) (checksum s)
+
 -- The descriptor s holds both of its sums.
 unfoldable pub sealed : List ℕ → Bool
-sealed s = eqb (readLe 1 s 4) (checksum s) && eqb (readLe 2 s 8) (bodyCrc s)
+sealed s = summed s && eqb (readLe 2 s 8) (bodyCrc s)
 
 -- The descriptor s with its CRC put, then its checksum, which sums the CRC too.
 abbrev pub checked : List ℕ → List ℕ

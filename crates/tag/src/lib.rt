@@ -2,7 +2,7 @@
 ghost use mathlib.Core.Path.{_≡_};
 ghost use Prim.Native.Nat.{_+_, _≤_};
 ghost use lib.ListN.{length};
-ghost use Rattle.tag.specs.Tag.{checksum, crcLength, bodyCrc, sealed, seal};
+ghost use Rattle.tag.specs.Tag.{checksum, crcLength, bodyCrc, summed, sealed, seal};
 
 fn checksum(s: &[u8]) -> u8
     requires { ⌜ 16 ≤ length (now s) ⌝ }
@@ -21,12 +21,19 @@ fn body_crc(s: &[u8]) -> u16
     crc::crc(&s[16..end])
 }
 
+pub fn summed(s: &[u8]) -> bool
+    requires { ⌜ 16 ≤ length (now s) ⌝ }
+    ensures { λ r. ⌜ r ≡ summed (now (s .entry)) ⌝ }
+{
+    le::read8(s, 4) == checksum(s)
+}
+
 // The cheap sum first: a wrong one spares the CRC.
 pub fn sealed(s: &[u8]) -> bool
     requires { ⌜ 16 + crcLength (now s) ≤ length (now s) ⌝ }
     ensures { λ r. ⌜ r ≡ sealed (now (s .entry)) ⌝ }
 {
-    if le::read8(s, 4) != checksum(s) {
+    if !summed(s) {
         return false;
     }
     le::read16(s, 8) == body_crc(s)

@@ -1,5 +1,6 @@
-// Runs the CRC, the table sector and timestamps on outside vectors, and prints what it finds. What must come stands in the file `stdout`; an
+// Runs the CRC, the table sector, timestamps and a closing's pointer on outside vectors, and prints what it finds. What must come stands in the file `stdout`; an
 // independent program, tests/vectors.py, makes it.
+use anchor::Extent;
 use vat::sector::record;
 use vat::table::UNUSED;
 use vat::table::entry_count;
@@ -282,6 +283,42 @@ fn full_table() {
     show_changes(&mut sector[16..2044]);
 }
 
+fn show_tag(s: &[u8], b: u32) {
+    if s.len() != 2048 {
+        return;
+    }
+    say(b"tag at ");
+    io::print_decimal(STDOUT, b as u64);
+    if anchor::tagged(s, b) {
+        say(b": pointer\n");
+    } else {
+        say(b": none\n");
+    }
+}
+
+// A closing's pointer with tag location 401,491: at both ends of the blocks where its tag is one, one further, and with a bit of its checksum changed.
+fn pointer() {
+    let mut sector = [0u8; 2048];
+    let main = Extent {
+        length: 32768,
+        location: 96,
+    };
+    let reserve = Extent {
+        length: 32769,
+        location: 240,
+    };
+    ramp(&mut sector);
+    anchor::record(&mut sector, main, reserve, 401491);
+    show_rows(&sector);
+    show_tag(&sector, 1491);
+    show_tag(&sector, 1490);
+    show_tag(&sector, 401491);
+    show_tag(&sector, 401492);
+    let sum = le::read8(&sector, 4);
+    le::put8(&mut sector, 4, sum ^ 1);
+    show_tag(&sector, 1491);
+}
+
 fn main() {
     crcs();
     small_table();
@@ -289,4 +326,5 @@ fn main() {
     tables_behind();
     dated_table();
     stamps();
+    pointer();
 }

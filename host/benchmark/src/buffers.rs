@@ -5,8 +5,9 @@ use std::hint::black_box;
 
 use crate::tuned::{self, Sector, Stamp, LEDGER, LIMIT, NONE, SECTOR, TIME};
 
-/// Sectors behind the recorded ones that the calls of one batch may record.
-pub const WINDOW: usize = 256;
+/// Sectors behind the recorded ones that the calls of one batch may record: the
+/// most are those of a closing.
+const WINDOW: usize = 257;
 
 /// The time of every prepared table: 14:05 on 15 November 2026 with zone 60.
 pub const STAMP: Stamp = [60, 0x10, 0xEA, 0x07, 11, 15, 14, 5, 0, 0, 0, 0];

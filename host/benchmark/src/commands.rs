@@ -12,8 +12,9 @@ use station::{LEDGER, LIMIT, SECTOR};
 
 use crate::report::thousands;
 
-/// How often each command is run: as often as half of the smallest disc allows.
-const ROUNDS: usize = 24;
+/// How often each command is run: as often as half of the smallest disc allows, of
+/// which a write leaves 264 sectors.
+const ROUNDS: usize = 12;
 
 /// Copies come last: they leave the disk much to write.
 const COPIES: usize = 5;
@@ -22,9 +23,13 @@ const COPY: &str = "`cp` of the disc file";
 /// The lines of one round, in order, with what a row calls them. A disc is mounted
 /// after a look back and after a cut, and saved before a mount that is to find it
 /// clean.
-const LINES: [(&str, &str); 17] = [
+const LINES: [(&str, &str); 18] = [
     ("new", "new blank.disc SECTORS"),
     ("begin, blank disc", "begin blank.disc"),
+    (
+        "close-session, blank disc",
+        "close-session blank.disc --main 32768,96 --reserve 32768,240 --start 257",
+    ),
     ("write, after a mount", "write run.disc 0 --from block"),
     ("write, packet open", "write run.disc 1 --from block"),
     ("release", "release run.disc 2"),
@@ -44,8 +49,8 @@ const LINES: [(&str, &str); 17] = [
 
 pub const HOW: &str = "\
 Each command is the whole program, from its start to its end, on a disc that is half full, with 458 numbers in use; the file is in
-memory from the round before. Milliseconds, minimum and median of 24 rounds, each on the three discs in turn; then 5 copies of each disc file by `cp`,
-which flushes nothing. `list` shows between 5 and 74 saves.
+memory from the round before. Milliseconds, minimum and median of 12 rounds, each on the three discs in turn; then 5 copies of each disc file by `cp`,
+which flushes nothing. `list` shows between 5 and 38 saves.
 ";
 
 /// A row of the table, with the times of each size.
@@ -132,12 +137,13 @@ impl Drop for Disc {
 fn timed(command: &mut Command, folder: &Path) -> io::Result<Duration> {
     command.current_dir(folder).stdout(Stdio::null());
     let start = Instant::now();
-    let status = command.status()?;
+    let output = command.stderr(Stdio::piped()).output()?;
     let took = start.elapsed();
-    match status.success() {
-        true => Ok(took),
-        false => Err(io::Error::other(format!("{command:?}: {status}"))),
+    if output.status.success() {
+        return Ok(took);
     }
+    let said = String::from_utf8_lossy(&output.stderr);
+    Err(io::Error::other(format!("{command:?}: {said}")))
 }
 
 /// A disc whose first half is recorded: all numbers written, over and over, and

@@ -1,11 +1,15 @@
 //! The measured calls: what each is prepared with, and one call of its batch.
 
-use crate::buffers::{Buffers, STAMP, WINDOW};
+use crate::buffers::{Buffers, STAMP};
 use crate::tuned::{LIMIT, NONE};
 use crate::version::Version;
 
 /// Calls of a batch that the clock is read once for.
 const BATCH: usize = 64;
+
+/// Sectors that a batch of several calls may record: half of the smallest disc,
+/// less the reserve that its last write leaves.
+const ROOM: usize = 500 - 264;
 
 /// How the work of a call grows with the disc.
 #[derive(Clone, Copy, PartialEq)]
@@ -31,7 +35,7 @@ pub struct Row {
 impl Row {
     pub fn batch(&self, sectors: usize) -> usize {
         match self.work {
-            Work::Few if self.records > 0 => BATCH.min(WINDOW / self.records),
+            Work::Few if self.records > 0 => BATCH.min(ROOM / self.records).max(1),
             Work::Few => BATCH,
             Work::EverySector => (BATCH * 1000 / sectors).max(1),
         }
@@ -61,7 +65,7 @@ const fn row(name: &'static str, prepare: fn(&mut Buffers), call: Call) -> Row {
 /// Close packet before the first commit: kinds and ledger, and no table.
 pub const CLOSE_PACKET: &str = "close packet, no table yet";
 
-pub static ROWS: [Row; 20] = [
+pub static ROWS: [Row; 21] = [
     row("begin, blank disc", blank, begin),
     row("begin, all data, no table", all_plain, begin).over_every_sector(),
     row("mount, clean", clean, mount),
@@ -82,6 +86,7 @@ pub static ROWS: [Row; 20] = [
     row("look back 1", two_vats, look_back_one),
     row("look back to the first", all_vats, look_back_all).over_every_sector(),
     row("time of 0", clean, time_of_newest),
+    row("close session", open, close_session).recording(257),
 ];
 
 fn blank(buffers: &mut Buffers) {
@@ -211,4 +216,11 @@ fn look_back_all(version: &Version, b: &mut Buffers, _: usize) -> u64 {
 /// The time of the table that a mount finds at once.
 fn time_of_newest(version: &Version, b: &mut Buffers, _: usize) -> u64 {
     (version.time_of)(&b.image, &b.kinds, &b.ledger, 0, &mut b.answer)
+}
+
+/// In an open packet: the pointer, zeros and a table of 458 numbers.
+fn close_session(version: &Version, b: &mut Buffers, _: usize) -> u64 {
+    let (length, start) = (32_768, 257);
+    let (image, kinds, ledger) = (&mut b.image, &mut b.kinds, &mut b.ledger);
+    (version.close_session)(image, kinds, ledger, length, 96, length, 240, start)
 }

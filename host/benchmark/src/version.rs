@@ -1,4 +1,4 @@
-//! The two versions of the ten calls, with the same signatures.
+//! The two versions of the eleven calls, with the same signatures.
 
 use crate::tuned;
 use station::raw;
@@ -8,9 +8,10 @@ type Numbered = fn(&[u8], &[u8], &mut [u8], u32) -> u64;
 type Committing = fn(&mut [u8], &mut [u8], &mut [u8]) -> u64;
 type CommittingAt = fn(&mut [u8], &mut [u8], &mut [u8], &[u8]) -> u64;
 type Writing = fn(&mut [u8], &mut [u8], &mut [u8], u32, &[u8]) -> u64;
+type Closing = fn(&mut [u8], &mut [u8], &mut [u8], u32, u32, u32, u32, u32) -> u64;
 type Reading = fn(&[u8], &[u8], &[u8], u32, &mut [u8]) -> u64;
 
-/// Ten functions. They are called through pointers, so that neither version
+/// Eleven functions. They are called through pointers, so that neither version
 /// is compiled into the loop that measures it.
 pub struct Version {
     pub begin: Plain,
@@ -23,6 +24,7 @@ pub struct Version {
     pub read: Reading,
     pub look_back: Numbered,
     pub time_of: Reading,
+    pub close_session: Closing,
 }
 
 /// The recording core, through the package `station`.
@@ -37,6 +39,7 @@ pub const CORE: Version = Version {
     read: raw::read,
     look_back: raw::look_back,
     time_of: raw::time_of,
+    close_session: raw::close_session,
 };
 
 /// The version written for the comparison.
@@ -51,4 +54,5 @@ pub const TUNED: Version = Version {
     read: tuned::read,
     look_back: tuned::look_back,
     time_of: tuned::time_of,
+    close_session: tuned::close_session,
 };

@@ -7,7 +7,9 @@ const BLOCK_LENGTH: &str =
     "Give a block of exactly 2048 bytes, or fill up a shorter one with --pad.";
 const FULL: &str = "Take another disc: this one is full, and its last finished save stays.";
 const FULL_FOR_WRITES: &str =
-    "Commit what is written and take another disc: a write leaves 8 sectors free.";
+    "Commit what is written, or close the disc, and take another one: a write leaves 8 sectors free, or 264 on a disc of 1,000 or more.";
+const NO_ROOM_TO_CLOSE: &str =
+    "Commit what is written, and write the runs on another disc for the plain drive: a closing needs 257 blank sectors, and 7 more where links come first.";
 const NO_SUCH_TIME: &str =
     "Give a real date from 1970 to 2099, a time up to 23:59:59 and a zone up to 24:00, or save without a time.";
 
@@ -39,10 +41,16 @@ pub fn of(refusal: Refusal) -> &'static str {
         }
         Refusal::NoRoom => FULL,
         Refusal::WouldBeVat => {
-            "Change the block: as it is, the next mount would take it for a save."
+            "Change the block: as it is, it would pass for a save or for a closing."
         }
         Refusal::BadTimestamp => {
             "Ask for another save: this one carries no time, or an impossible one; list --times shows which carry one."
+        }
+        Refusal::SessionClosed => {
+            "Take another disc: this one is closed, and can only be read."
+        }
+        Refusal::PartitionStart => {
+            "Look at the number behind --start again: no partition starts above block 400,000."
         }
     }
 }
@@ -51,6 +59,14 @@ pub fn of(refusal: Refusal) -> &'static str {
 pub fn of_commit(refusal: Refusal) -> &'static str {
     match refusal {
         Refusal::BadTimestamp => NO_SUCH_TIME,
+        _ => of(refusal),
+    }
+}
+
+/// The advice for a closing.
+pub fn of_closing(refusal: Refusal) -> &'static str {
+    match refusal {
+        Refusal::NoRoom => NO_ROOM_TO_CLOSE,
         _ => of(refusal),
     }
 }

@@ -5,7 +5,7 @@ use std::ffi::{OsStr, OsString};
 use std::os::unix::ffi::OsStrExt;
 use std::path::Path;
 
-use station::{Timestamp, MOST_SECTORS};
+use station::{Extent, Timestamp, MOST_SECTORS};
 
 use crate::failure::Failure;
 use crate::stamps;
@@ -139,20 +139,32 @@ impl Arguments {
         word.map(|word| self.number_in(option, word)).transpose()
     }
 
-    /// Behind an option without which the command means nothing.
-    pub fn needed_number(&self, option: &str) -> Result<u32, Failure> {
+    /// What stands behind an option without which the command means nothing.
+    fn needed(&self, option: &str) -> Result<&OsStr, Failure> {
         let missing = || self.wrong(format!("{} needs {option}", self.command.name));
-        self.option_number(option)?.ok_or_else(missing)
+        self.value(option).ok_or_else(missing)
     }
 
-    /// "The numbers v and k have 32 bits."
+    pub fn needed_number(&self, option: &str) -> Result<u32, Failure> {
+        self.number_in(option, self.needed(option)?)
+    }
+
     fn number_in(&self, name: &str, word: &OsStr) -> Result<u32, Failure> {
         let text = word.to_string_lossy();
-        let digits = text.bytes().all(|byte| byte.is_ascii_digit());
-        let number = text.parse().ok().filter(|_| digits);
-        number.ok_or_else(|| {
+        number(&text).ok_or_else(|| {
             let most = u32::MAX;
             self.wrong(format!("{name} is a number from 0 to {most}, not '{text}'"))
+        })
+    }
+
+    /// `LENGTH,LOCATION`: an extent as a descriptor names it.
+    pub fn needed_extent(&self, option: &str) -> Result<Extent, Failure> {
+        let text = self.needed(option)?.to_string_lossy();
+        extent(&text).ok_or_else(|| {
+            let most = u32::MAX;
+            self.wrong(format!(
+                "{option} is LENGTH,LOCATION, two numbers from 0 to {most}, not '{text}'"
+            ))
         })
     }
 
@@ -193,4 +205,18 @@ impl Arguments {
             "a disc has 1 to {MOST_SECTORS} sectors, not {sectors}"
         )))
     }
+}
+
+/// "The numbers v and k have 32 bits", and so have those of a closing.
+fn number(text: &str) -> Option<u32> {
+    let digits = text.bytes().all(|byte| byte.is_ascii_digit());
+    text.parse().ok().filter(|_| digits)
+}
+
+fn extent(text: &str) -> Option<Extent> {
+    let (length, location) = text.split_once(',')?;
+    Some(Extent {
+        length: number(length)?,
+        location: number(location)?,
+    })
 }

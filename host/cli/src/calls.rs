@@ -6,6 +6,7 @@ use std::path::Path;
 use station::SECTOR;
 
 use crate::arguments::Arguments;
+use crate::closing::{self, Closing};
 use crate::failure::Done;
 use crate::files::put;
 use crate::form::counted;
@@ -35,10 +36,12 @@ pub fn mount(given: &Arguments, around: &mut Surroundings) -> Done {
     let (image, kinds) = session.disc.lent();
     let clean = station::mount(image, kinds, &mut session.ledger)?;
     let map = Map::of(&session.ledger);
+    let closed = closing::told(&session.disc);
     session.keep_ledger()?;
     let state = if clean { "clean" } else { "dirty" };
     let table = map.table;
-    say(around, format!("{state}, table at block {table}\n{map}\n"))
+    let text = format!("{state}, table at block {table}\n{map}\n{closed}");
+    say(around, text)
 }
 
 pub fn write(given: &Arguments, around: &mut Surroundings) -> Done {
@@ -78,6 +81,18 @@ pub fn commit(given: &Arguments, around: &mut Surroundings) -> Done {
     };
     session.keep_both()?;
     say(around, format!("saved, table at block {table}\n{time}"))
+}
+
+/// Announced when the closing is admitted and nothing of it is kept yet.
+pub fn close_session(given: &Arguments, around: &mut Surroundings) -> Done {
+    let closing = Closing::of(given)?;
+    let mut session = Session::open(given.path(0), Lent::Kept, around)?;
+    let table = closing.record(&mut session)?;
+    let pointer = closing::pointer_before(table);
+    closing::announce(given.path(0), around)?;
+    session.keep_both()?;
+    let text = format!("saved and closed, pointer at block {pointer}, table at block {table}\n");
+    say(around, text)
 }
 
 pub fn read(given: &Arguments, around: &mut Surroundings) -> Done {

@@ -26,7 +26,7 @@ const fn command(
     Command { syntax, run }
 }
 
-static COMMANDS: [Command; 15] = [
+static COMMANDS: [Command; 16] = [
     command(&syntax::NEW, calls::new),
     command(&syntax::BEGIN, calls::begin),
     command(&syntax::MOUNT, calls::mount),
@@ -34,6 +34,7 @@ static COMMANDS: [Command; 15] = [
     command(&syntax::RELEASE, calls::release),
     command(&syntax::CLOSE, calls::close),
     command(&syntax::COMMIT, calls::commit),
+    command(&syntax::CLOSE_SESSION, calls::close_session),
     command(&syntax::READ, calls::read),
     command(&syntax::LOOK_BACK, calls::look_back),
     command(&syntax::TIME, calls::time),

@@ -5,10 +5,11 @@
 use station::SECTOR;
 
 use crate::arguments::{parse, Arguments, Asked};
+use crate::closing::{announce, Closing};
 use crate::failure::{Done, Failure};
 use crate::session::{Lent, Session};
 use crate::surroundings::{say, Surroundings};
-use crate::syntax::{Syntax, COMMIT, WRITE};
+use crate::syntax::{Syntax, CLOSE_SESSION, COMMIT, WRITE};
 use crate::writing::{Saving, Writing};
 
 /// An unreadable sector, and how many of its bytes were recorded.
@@ -18,6 +19,26 @@ const TORN: (u8, usize) = (3, SECTOR / 2);
 enum Call {
     Write(Writing),
     Commit(Saving),
+    CloseSession(Closing),
+}
+
+impl Call {
+    fn of(name: &str, given: &Arguments, around: &mut Surroundings) -> Result<Call, Failure> {
+        Ok(match name {
+            "write" => Call::Write(Writing::of(given, around)?),
+            "commit" => Call::Commit(Saving::of(given)?),
+            _ => Call::CloseSession(Closing::of(given)?),
+        })
+    }
+
+    /// The last block recorded.
+    fn record(&self, session: &mut Session) -> Result<u32, Failure> {
+        match self {
+            Call::Write(writing) => writing.record(session),
+            Call::Commit(saving) => saving.record(session),
+            Call::CloseSession(closing) => closing.record(session),
+        }
+    }
 }
 
 /// Makes the call whole in memory, and keeps of it what the cut leaves.
@@ -29,17 +50,15 @@ pub fn cut(given: &Arguments, around: &mut Surroundings) -> Done {
         Asked::Help => return say(around, command.help),
         Asked::Run(inner) => inner,
     };
-    let call = match command.name {
-        "write" => Call::Write(Writing::of(&inner, around)?),
-        _ => Call::Commit(Saving::of(&inner)?),
-    };
+    let call = Call::of(command.name, &inner, around)?;
     let mut session = Session::open(inner.path(0), Lent::Kept, around)?;
-    match call {
-        Call::Write(writing) => writing.record(&mut session)?,
-        Call::Commit(saving) => saving.record(&mut session)?,
-    };
+    call.record(&mut session)?;
     let sectors = session.disc.newly_recorded().count();
     check(command, kept, torn, sectors)?;
+    // A closing that is kept whole closes the disc.
+    if kept == sectors && matches!(call, Call::CloseSession(_)) {
+        announce(inner.path(0), around)?;
+    }
     session.keep_cut(kept, torn.then_some(TORN))?;
     let next = if torn { ", the next one torn" } else { "" };
     let text = format!("cut after {kept} of {sectors} sectors{next}, ledger lost\n");
@@ -48,10 +67,11 @@ pub fn cut(given: &Arguments, around: &mut Surroundings) -> Done {
 
 fn cut_command(given: &Arguments) -> Result<&'static Syntax, Failure> {
     let name = given.text(1);
-    let found = [&WRITE, &COMMIT]
+    let found = [&WRITE, &COMMIT, &CLOSE_SESSION]
         .into_iter()
         .find(|command| command.name == name);
-    found.ok_or_else(|| given.wrong(format!("only write and commit can be cut, not {name}")))
+    let fault = || format!("only write, commit and close-session can be cut, not {name}");
+    found.ok_or_else(|| given.wrong(fault()))
 }
 
 fn check(command: &Syntax, kept: usize, torn: bool, sectors: usize) -> Done {

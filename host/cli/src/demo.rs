@@ -93,7 +93,12 @@ impl Step {
     }
 
     /// What the terminal then shows: the answer, or the words of a refusal.
-    fn shown(&self, folder: &Path, run: Run, around: &Surroundings) -> Result<Vec<u8>, Failure> {
+    fn shown(
+        &self,
+        folder: &Path,
+        run: Run,
+        around: &mut Surroundings,
+    ) -> Result<Vec<u8>, Failure> {
         let (words, input) = self.words(folder);
         let mut shown = Vec::new();
         if words.is_empty() {
@@ -102,6 +107,7 @@ impl Step {
         let mut inner = Surroundings {
             input: &mut input.as_bytes(),
             output: &mut shown,
+            aside: around.aside,
             disk: around.disk,
         };
         match run(&words, &mut inner) {

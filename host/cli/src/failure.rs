@@ -24,7 +24,8 @@ pub enum Failure {
     Unreadable(PathBuf, io::Error),
     /// A file cannot be made or replaced, and why.
     Unwritable(PathBuf, String),
-    /// The answer cannot be written to standard output.
+    /// The answer cannot be written to standard output, or what is told beside it
+    /// to standard error.
     Output(io::Error),
     /// The core refused, and what to do.
     Refused(Refusal, &'static str),

@@ -12,13 +12,14 @@ Usage: station COMMAND DISC ...
   release DISC V        number V is no longer in use
   close DISC            close the packet
   commit DISC           save: record the table
+  close-session DISC    save, and close the disc for good
   read DISC V           the block that number V names
   look-back DISC K      show the save K before the newest, looking only
   time DISC K           when the save K before the newest was made
   list DISC             every save, newest first
   import IMAGE DISC     make a disc file of another deck's raw image
   export DISC IMAGE     give the raw sectors back
-  cut J COMMAND ...     what a power cut leaves of a write or commit
+  cut J COMMAND ...     what a power cut leaves of a write, commit or closing
   demo                  a worked example
 
 'station COMMAND --help' tells more. '--version' tells the version.
@@ -26,7 +27,7 @@ Usage: station COMMAND DISC ...
 DISC is a file; its ledger is kept beside it in DISC.ledger. Until a commit,
 only the ledger knows where a written block lies.
 
-Exit status: 0 done; 1 to 16 the refusal's number; 64 wrong command line; 65
+Exit status: 0 done; 1 to 18 the refusal's number; 64 wrong command line; 65
 the file is no disc, or no raw image; 66 a file cannot be read; 73 a file
 cannot be written; 74 the answer cannot be told.
 ";
@@ -50,8 +51,8 @@ Usage: station mount DISC
 
 Finds the last finished save and goes on from it; what was written after it and
 not saved is left out. Tells clean if the save is the last thing recorded, else
-dirty; the table's block; the size; and the numbers in use. Refused with 7 if
-the disc has no save.
+dirty; the table's block; the size; and the numbers in use. A last line says if
+the disc is closed. Refused with 7 if the disc has no save.
 ";
 
 pub const WRITE: &str = "\
@@ -77,7 +78,7 @@ pub const CLOSE: &str = "\
 Usage: station close DISC
 
 Closes the packet. Nothing is recorded. The next write or commit first records
-seven link sectors.
+seven link sectors. The disc stays open: close-session closes it.
 ";
 
 pub const COMMIT: &str = "\
@@ -93,6 +94,26 @@ real date from 1970 to 2099, up to 23:59:59, in a zone of up to 24:00.
               Z is UTC itself. Without a zone, the save says that it was not
               given. Seconds may follow the minutes, with up to six decimals
   --now       the time on this machine's clock, and the zone that it is set to
+";
+
+pub const CLOSE_SESSION: &str = "\
+Usage: station close-session DISC --main LENGTH,LOCATION
+                             --reserve LENGTH,LOCATION --start N
+
+Saves, and closes the disc: plain CD-ROM drives read only closed ones. After
+this nothing can be recorded on it any more. The command says so before it
+records, and does not ask; try it on a copy first. Before the table it records
+a pointer to the two extents below and 255 sectors of zeros, and it tells where
+pointer and table stand. Refused with 17 if the disc is closed already, with 18
+if N is above 400000, and with 14 if there is no room: a closing takes 257
+sectors, and 7 more where links come first.
+
+  --main LENGTH,LOCATION      the main Volume Descriptor Sequence: its length
+                              in bytes, and its first sector on the disc
+  --reserve LENGTH,LOCATION   the reserve one, in the same way
+  --start N                   the partition's first sector on the disc
+
+Who prepared the disc knows all of them; of a raw image udfinfo tells them.
 ";
 
 pub const READ: &str = "\
@@ -126,7 +147,7 @@ Usage: station list DISC [--times]
 Every save, newest first: steps back, the table's block, the size, and how many
 numbers are in use. The last line is clean, dirty, or broken if the saves
 before cannot be reached (exit status 8). If a mount is refused, only 'refused'
-and the number. Changes nothing.
+and the number. If the disc is closed, standard error says so. Changes nothing.
 
   --times   also when each save was made: on the clock that it carries, and in
             UTC; 'no zone' where none was given, 'no time' where it has none
@@ -157,10 +178,12 @@ disc.
 pub const CUT: &str = "\
 Usage: station cut J [--torn] write DISC V [--from FILE] [--pad]
        station cut J [--torn] commit DISC [--at TIME | --now]
+       station cut J [--torn] close-session DISC --main LENGTH,LOCATION
+                      --reserve LENGTH,LOCATION --start N
 
-What a power cut leaves of this write or commit: the first J of the sectors
-that it would record, and no ledger. Changes the disc file; try it on a copy. A
-command that would be refused is refused, and then nothing is changed.
+What a power cut leaves of this write, commit or closing: the first J of the
+sectors that it would record, and no ledger. Changes the disc file; try it on a
+copy. A command that would be refused is refused, and then nothing is changed.
 
   --torn   leave the next sector unreadable instead of blank
 ";

@@ -4,11 +4,12 @@
 use station::{Refusal, LEDGER, SECTOR};
 
 use crate::arguments::Arguments;
+use crate::closing;
 use crate::failure::{Done, Failure};
 use crate::form::Disc;
 use crate::map::Map;
 use crate::session::{Lent, Session};
-use crate::surroundings::{say, Surroundings};
+use crate::surroundings::{say, say_aside, Surroundings};
 use crate::times::Time;
 
 const HEADING: &str = "   k   block  size  used";
@@ -22,7 +23,8 @@ fn refused(number: u32) -> String {
 }
 
 /// Prints the listing, and ends with the refusal that it tells, if any. The
-/// ledger is the listing's own, and no file is changed.
+/// ledger is the listing's own, and no file is changed. That a disc is closed is told
+/// beside the listing, since document 01 has every line of it, down to the last one.
 pub fn list(given: &Arguments, around: &mut Surroundings) -> Done {
     let session = match Session::open(given.path(0), Lent::New, around) {
         // "(1 for the form)"
@@ -33,8 +35,10 @@ pub fn list(given: &Arguments, around: &mut Surroundings) -> Done {
         opened => opened?,
     };
     let (text, refusal) = listing(&session.disc, given.has("--times"));
+    let closed = closing::told(&session.disc);
     drop(session);
     say(around, text)?;
+    say_aside(around, closed)?;
     refusal.map_or(Ok(()), |refusal| Err(refusal.into()))
 }
 

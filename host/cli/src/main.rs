@@ -6,7 +6,7 @@
 //!
 //! - `commands`: the command line;
 //! - `calls`, `cut`, `demo`, `images`, `listing`: what the commands do;
-//! - `writing`: the calls that record, whole or to be cut;
+//! - `writing`, `closing`: the calls that record, whole or to be cut;
 //! - `session`: disc and ledger of one command;
 //! - `keeping`: the order in which they are kept;
 //! - `surroundings`: the streams and the disk that a command is given;
@@ -28,6 +28,7 @@ mod calendar;
 mod calls;
 #[allow(unsafe_code)]
 mod clock;
+mod closing;
 mod commands;
 #[cfg(test)]
 mod crashes;
@@ -68,6 +69,7 @@ fn main() -> ExitCode {
     let mut around = Surroundings {
         input: &mut io::stdin(),
         output: &mut io::stdout(),
+        aside: &mut io::stderr(),
         disk: &|files| Box::new(files),
     };
     let outcome = commands::run(&words, &mut around);

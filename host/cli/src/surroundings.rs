@@ -6,15 +6,23 @@ use std::io::{Read, Write};
 use crate::disk::{Disk, Files};
 use crate::failure::{Done, Failure};
 
-/// Of the terminal and the computer; the demo has its own streams.
+/// Of the terminal and the computer; the demo has its own input and output.
 pub struct Surroundings<'a> {
     pub input: &'a mut dyn Read,
     pub output: &'a mut dyn Write,
+    /// For words that are no part of the answer.
+    pub aside: &'a mut dyn Write,
     pub disk: &'a dyn Fn(Files) -> Box<dyn Disk>,
 }
 
 /// Writes to standard output.
 pub fn say(around: &mut Surroundings, text: impl AsRef<[u8]>) -> Done {
     let written = around.output.write_all(text.as_ref());
+    written.map_err(Failure::Output)
+}
+
+/// Writes to standard error.
+pub fn say_aside(around: &mut Surroundings, text: impl AsRef<[u8]>) -> Done {
+    let written = around.aside.write_all(text.as_ref());
     written.map_err(Failure::Output)
 }

@@ -16,6 +16,7 @@ pub struct Syntax {
 const NAME: Option<&str> = Some("a name");
 const NUMBER: Option<&str> = Some("a number");
 const TYPED_TIME: Option<&str> = Some("a time");
+const EXTENT: Option<&str> = Some("a length and a location");
 
 /// A command without options.
 const fn plain(
@@ -44,6 +45,14 @@ pub static CLOSE: Syntax = plain("close", &["DISC"], help::CLOSE);
 pub static COMMIT: Syntax = Syntax {
     options: &[("--at", TYPED_TIME), ("--now", None)],
     ..plain("commit", &["DISC"], help::COMMIT)
+};
+pub static CLOSE_SESSION: Syntax = Syntax {
+    options: &[
+        ("--main", EXTENT),
+        ("--reserve", EXTENT),
+        ("--start", NUMBER),
+    ],
+    ..plain("close-session", &["DISC"], help::CLOSE_SESSION)
 };
 pub static READ: Syntax = Syntax {
     options: &[("--to", NAME)],

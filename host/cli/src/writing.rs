@@ -1,5 +1,4 @@
-//! The calls that record, write and commit, up to what is to be kept of them: all,
-//! or what a cut leaves.
+//! Write and commit, up to what is to be kept of them: all, or what a cut leaves.
 
 use std::ffi::OsStr;
 use std::fs::{self, File};

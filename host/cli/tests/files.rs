@@ -6,22 +6,24 @@ use std::fs;
 use std::os::unix::fs::{symlink, PermissionsExt};
 use std::thread;
 
-use common::{disc_file, padded, Folder};
+use common::{disc_file, padded, Folder, CLOSE_SESSION};
 use station::SECTOR;
 
 /// One line for each command that takes a disc.
-const LINES: [&str; 11] = [
+const LINES: [&str; 13] = [
     "begin run.disc",
     "mount run.disc",
     "write run.disc 0 --pad",
     "release run.disc 0",
     "close run.disc",
     "commit run.disc",
+    CLOSE_SESSION,
     "read run.disc 0",
     "look-back run.disc 0",
     "export run.disc run.img",
     "cut 0 commit run.disc",
     "cut 0 write run.disc 0 --pad",
+    "cut 0 close-session run.disc --main 1,2 --reserve 3,4 --start 5",
 ];
 
 /// A disc file with its first line changed to this text.
@@ -146,6 +148,17 @@ fn a_protected_disc_is_read_and_not_recorded() {
     folder.done("mount run.disc");
     folder.done("look-back run.disc 1");
     folder.done("read run.disc 1");
+}
+
+/// The word comes before, and nothing is recorded.
+#[test]
+fn a_protected_disc_is_not_closed() {
+    let folder = Folder::to_be_closed(300);
+    let protected = fs::Permissions::from_mode(0o444);
+    fs::set_permissions(folder.path("run.disc"), protected).expect("permissions");
+    let told = folder.fails(CLOSE_SESSION, 73);
+    assert!(told.starts_with("station: closing run.disc: "), "{told}");
+    assert!(told.ends_with("it is write-protected\n"), "{told}");
 }
 
 #[test]

@@ -3,20 +3,22 @@
 
 mod common;
 
-use common::{padded, Folder};
+use common::{padded, Folder, CLOSE_SESSION};
 use station::SECTOR;
 
 /// One line for each call that reads the ledger.
-const LINES: [&str; 9] = [
+const LINES: [&str; 11] = [
     "write run.disc 0",
     "release run.disc 0",
     "close run.disc",
     "commit run.disc",
     "commit run.disc --at 2026-11-15T14:05+01:00",
     "commit run.disc --now",
+    CLOSE_SESSION,
     "read run.disc 0",
     "cut 0 commit run.disc",
     "cut 0 write run.disc 0",
+    "cut 0 close-session run.disc --main 1,2 --reserve 3,4 --start 5",
 ];
 
 /// Disc and ledger before and after the line.
@@ -53,6 +55,19 @@ fn killed_between_disc_and_ledger() {
     let new = "clean, table at block 21\nsize 2, 2 in use: 0 to 1\n";
     assert_eq!(folder.done("mount run.disc"), new);
     assert!(folder.done_with("read run.disc 0", b"") == padded("run C"));
+}
+
+/// The disc is closed, and its ledger is behind: 4 is tested before 17.
+#[test]
+fn killed_between_disc_and_ledger_of_a_closing() {
+    let folder = Folder::to_be_closed(300);
+    let ledger = folder.bytes("run.disc.ledger");
+    assert_eq!(folder.run(CLOSE_SESSION).status, 0);
+    folder.put("run.disc.ledger", &ledger);
+    refuses_until_mounted(&folder);
+    folder.done("mount run.disc");
+    assert!(folder.done_with("read run.disc 1", b"") == padded("run B"));
+    folder.fails("commit run.disc", 17);
 }
 
 /// The same before the first save.

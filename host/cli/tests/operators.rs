@@ -14,7 +14,7 @@ const PAGE: &str = include_str!("../../../docs/OPERATORS.md");
 
 /// The number and who causes it, as document 01 groups them; of 16, whose time it
 /// is.
-const REFUSALS: [(Refusal, &str); 16] = [
+const REFUSALS: [(Refusal, &str); 18] = [
     (Refusal::DiscSize, "the host program"),
     (Refusal::LentLength, "the host program"),
     (Refusal::DiscUnsound, "the disc"),
@@ -31,6 +31,8 @@ const REFUSALS: [(Refusal, &str); 16] = [
     (Refusal::NoRoom, "the recording"),
     (Refusal::WouldBeVat, "the recording"),
     (Refusal::BadTimestamp, "the operator, or the disc"),
+    (Refusal::SessionClosed, "the disc"),
+    (Refusal::PartitionStart, "the operator"),
 ];
 
 /// The lines of all fenced blocks marked `console`, in order.
@@ -75,6 +77,7 @@ fn the_table_has_every_refusal() {
         assert!(row.contains(advice::of(refusal)), "{row}");
         assert!(row.contains(advice::of_write(refusal, b"short")), "{row}");
         assert!(row.contains(advice::of_commit(refusal)), "{row}");
+        assert!(row.contains(advice::of_closing(refusal)), "{row}");
     }
 }
 

@@ -7,7 +7,7 @@
 
 mod common;
 
-use common::{disc_file, Folder};
+use common::{disc_file, Folder, CLOSE_SESSION};
 use station::{LEDGER, SECTOR};
 
 /// Runs the line, and checks all of the above; gives the advice.
@@ -65,6 +65,7 @@ fn number_3_a_recorded_sector_after_a_blank_one() {
     for line in ["begin", "mount", "close", "commit"] {
         refused(&folder, &format!("{line} run.disc"), 3);
     }
+    refused(&folder, CLOSE_SESSION, 3);
     for line in ["release", "read", "look-back", "time"] {
         refused(&folder, &format!("{line} run.disc 0"), 3);
     }
@@ -81,6 +82,8 @@ fn number_4_a_ledger_that_is_missing_or_of_another_disc() {
         let advice = refused(&folder, &format!("commit {disc}"), 4);
         assert!(advice.starts_with("Mount the disc first"), "{advice}");
         refused(&folder, &format!("close {disc}"), 4);
+        let closing = CLOSE_SESSION.replace("run.disc", disc);
+        refused(&folder, &closing, 4);
         refused(&folder, &format!("release {disc} 1"), 4);
         refused(&folder, &format!("read {disc} 1"), 4);
         refused_with(&folder, &format!("write {disc} 0"), &BLOCK, 4);
@@ -95,6 +98,7 @@ fn number_5_recording_while_looking_only() {
         "close run.disc",
         "commit run.disc",
         "commit run.disc --now",
+        CLOSE_SESSION,
         "release run.disc 1",
     ] {
         assert!(refused(&folder, line, 5).contains("Mount the disc"));
@@ -195,6 +199,45 @@ fn number_14_no_room() {
     }
 }
 
+/// "On discs of 1,000 sectors or more a write must leave 264 instead of 8": enough
+/// for links and a closing.
+#[test]
+fn number_14_what_a_write_leaves() {
+    for (sectors, left, closing) in [(999, 8, 14), (1000, 264, 0)] {
+        let folder = Folder::new();
+        let begun = |blank: usize| {
+            let kinds = [vec![1; sectors - blank], vec![0; blank]].concat();
+            folder.put("run.disc", &disc_file(&kinds, &vec![7; sectors * SECTOR]));
+            folder.done("begin run.disc");
+        };
+        begun(7 + left);
+        refused_with(&folder, "write run.disc 0", &BLOCK, 14);
+        begun(7 + 1 + left);
+        folder.done_with("write run.disc 0", &BLOCK);
+        let advice = refused_with(&folder, "write run.disc 1", &BLOCK, 14);
+        assert!(advice.contains("8 sectors free, or 264"), "{advice}");
+        folder.done("close run.disc");
+        assert_eq!(folder.run(CLOSE_SESSION).status, closing);
+    }
+}
+
+/// "Closing needs links + 257 blank sectors, else 14."
+#[test]
+fn number_14_no_room_for_a_closing() {
+    for (line, blank) in [("mount run.disc", 264), ("commit run.disc", 258)] {
+        // Three sectors are recorded.
+        let folder = Folder::to_be_closed(3 + blank - 1);
+        folder.done(line);
+        let advice = refused(&folder, CLOSE_SESSION, 14);
+        assert!(advice.starts_with("Commit what is written"), "{advice}");
+        folder.done("commit run.disc");
+        let folder = Folder::to_be_closed(3 + blank);
+        folder.done(line);
+        assert_eq!(folder.run(CLOSE_SESSION).status, 0, "{line}");
+        assert!(!folder.kinds().contains('0'));
+    }
+}
+
 /// A table sector of block 0, written as a block at 0, and at 1.
 #[test]
 fn number_15_a_block_that_would_be_a_save() {
@@ -208,6 +251,19 @@ fn number_15_a_block_that_would_be_a_save() {
     folder.done_with("write other.disc 1", &table);
 }
 
+/// "Rule 15 now also covers every block with such a tag": a closing's pointer, whose
+/// location is from its block to its block + 400,000.
+#[test]
+fn number_15_a_block_that_would_be_a_closings_pointer() {
+    let pointer = Folder::closed().sector(3);
+    let folder = Folder::begun(31);
+    let advice = refused_with(&folder, "write run.disc 0", &pointer, 15);
+    assert!(advice.ends_with("for a save or for a closing."), "{advice}");
+    let mut other = pointer;
+    other[4] ^= 1;
+    folder.done_with("write run.disc 0", &other);
+}
+
 /// "A timestamp given or found breaks these limits."
 #[test]
 fn number_16_a_time_that_there_is_not() {
@@ -216,4 +272,46 @@ fn number_16_a_time_that_there_is_not() {
     assert!(advice.starts_with("Give a real date"), "{advice}");
     let advice = refused(&folder, "time run.disc 0", 16);
     assert!(advice.starts_with("Ask for another save"), "{advice}");
+}
+
+/// "17, write, release, commit, close packet or closing on a closed disc, tested
+/// directly after 5."
+#[test]
+fn number_17_a_closed_disc() {
+    let folder = Folder::closed();
+    for line in [
+        "release run.disc 0",
+        "release run.disc 9",
+        "close run.disc",
+        "commit run.disc",
+        "commit run.disc --at 2026-11-15T14:05+01:00",
+        "commit run.disc --at 2099-02-29T14:05Z",
+        CLOSE_SESSION,
+        "close-session run.disc --main 1,2 --reserve 3,4 --start 400001",
+        "cut 0 commit run.disc",
+        "cut 0 close-session run.disc --main 1,2 --reserve 3,4 --start 5",
+    ] {
+        let advice = refused(&folder, line, 17);
+        assert!(advice.starts_with("Take another disc"), "{advice}");
+    }
+    refused_with(&folder, "write run.disc 0", &BLOCK, 17);
+    refused_with(&folder, "write run.disc 500", &BLOCK, 17);
+    folder.done("look-back run.disc 1");
+    refused(&folder, "commit run.disc", 5);
+    refused(&folder, "begin run.disc", 6);
+}
+
+/// "18, the partition start exceeds 400,000, tested directly after 17."
+#[test]
+fn number_18_a_partition_that_starts_too_high() {
+    let folder = Folder::to_be_closed(300);
+    for start in ["400001", "4294967295"] {
+        let line = format!("close-session run.disc --main 1,2 --reserve 3,4 --start {start}");
+        let advice = refused(&folder, &line, 18);
+        assert!(advice.contains("behind --start"), "{advice}");
+        // Before 14.
+        refused(&Folder::example(), &line, 18);
+    }
+    let highest = "close-session run.disc --main 1,2 --reserve 3,4 --start 400000";
+    assert_eq!(folder.run(highest).status, 0);
 }

@@ -10,7 +10,7 @@ use std::os::unix::process::ExitStatusExt;
 use std::path::PathBuf;
 use std::process::{Command, Stdio};
 
-use common::{disc_file, Folder, STATION};
+use common::{disc_file, Folder, CLOSE_SESSION, STATION};
 use station::{LEDGER, SECTOR};
 
 /// Every call by which the program, or a library below it, could change a file. A
@@ -157,37 +157,67 @@ fn judge(folder: &Folder, line: &str, before: &Known, after: &Known) {
         assert!(left.ledger == after.ledger, "{line}");
         assert!(whole || left.ledger.is_none(), "{line}: a ledger ahead");
     }
-    let saved = whole && line.starts_with("commit");
+    let saves = line.starts_with("commit") || line.starts_with("close-session");
+    let saved = whole && saves;
     let expected = if saved { &after.shown } else { &before.shown };
     assert_eq!(&left.shown, expected, "{line}");
 }
 
-/// Stops the line at each call of each name, from the same files; how often.
-fn stop_everywhere(folder: &Folder, line: &str, fate: &str) -> usize {
-    let start = folder.files();
-    let before = Known::of(folder);
-    folder.done_with(line, &[0xC3; SECTOR]);
-    let after = Known::of(folder);
-    let mut stopped = 0;
-    for call in WRITING {
-        for nth in 1.. {
-            restore(folder, &start);
-            let end = run_traced(folder, line, call, nth, fate);
-            judge(folder, line, &before, &after);
-            let names = folder.names();
-            let parts = names.iter().filter(|name| name.ends_with(".part")).count();
-            match end {
-                End::Status(0) => break,
-                End::Status(status) => {
-                    assert!([73, 74].contains(&status) && parts == 0, "{line}: {status}");
-                }
-                End::Killed => assert!(parts <= 1, "{line}"),
-            }
-            stopped += 1;
+/// A line, the files that it starts from, and what is known before and after it.
+struct Trial<'a> {
+    folder: &'a Folder,
+    line: &'a str,
+    start: BTreeMap<PathBuf, Vec<u8>>,
+    before: Known,
+    after: Known,
+}
+
+impl Trial<'_> {
+    fn of<'a>(folder: &'a Folder, line: &'a str) -> Trial<'a> {
+        let start = folder.files();
+        let before = Known::of(folder);
+        let told = folder.run_with(line, &[0xC3; SECTOR]);
+        assert_eq!(told.status, 0, "{line}: {}", told.err);
+        let after = Known::of(folder);
+        Trial {
+            folder,
+            line,
+            start,
+            before,
+            after,
         }
     }
-    restore(folder, &start);
-    stopped
+
+    /// Stops the line at the nth of these calls, if it comes so far.
+    fn stops(&self, call: &str, nth: usize, fate: &str) -> bool {
+        let (folder, line) = (self.folder, self.line);
+        restore(folder, &self.start);
+        let end = run_traced(folder, line, call, nth, fate);
+        judge(folder, line, &self.before, &self.after);
+        let names = folder.names();
+        let parts = names.iter().filter(|name| name.ends_with(".part")).count();
+        match end {
+            End::Status(0) => return false,
+            End::Status(status) => {
+                assert!([73, 74].contains(&status) && parts == 0, "{line}: {status}");
+            }
+            End::Killed => assert!(parts <= 1, "{line}"),
+        }
+        true
+    }
+
+    /// At each call of this name; how often.
+    fn stops_at_each(&self, call: &str, fate: &str) -> usize {
+        (1..).take_while(|nth| self.stops(call, *nth, fate)).count()
+    }
+}
+
+/// Stops the line at each call of each name, from the same files; how often.
+fn stop_everywhere(folder: &Folder, line: &str, fate: &str) -> usize {
+    let trial = Trial::of(folder, line);
+    let stopped = WRITING.map(|call| trial.stops_at_each(call, fate));
+    restore(folder, &trial.start);
+    stopped.iter().sum()
 }
 
 /// The names of the calls that write, in order, of a line that is done.
@@ -204,23 +234,25 @@ fn calls_of(folder: &Folder, line: &str) -> Vec<String> {
     names.map(one_name).collect()
 }
 
+const LEDGER_MADE: [&str; 3] = ["write", "fchmod", "fsync"];
+const LEDGER_NAMED: [&str; 2] = ["rename", "fsync"];
+const TOLD: [&str; 1] = ["write"];
+
 /// Bytes, flush, digits, flush; around it the ledger, made before and named after.
 #[test]
 fn the_order_of_the_medium() {
     let folder = Folder::example();
-    let ledger = ["write", "fchmod", "fsync"];
     let recorded = ["pwrite64", "fdatasync", "pwrite64", "fdatasync"];
-    let named = ["rename", "fsync", "write"];
     for line in [
         "write run.disc 0",
         "commit run.disc",
         "commit run.disc --now",
     ] {
-        let whole = [&ledger[..], &recorded, &named].concat();
+        let whole = [&LEDGER_MADE[..], &recorded, &LEDGER_NAMED, &TOLD].concat();
         assert_eq!(calls_of(&folder, line), whole, "{line}");
     }
     for line in ["close run.disc", "mount run.disc"] {
-        let alone = [&ledger[..], &named].concat();
+        let alone = [&LEDGER_MADE[..], &LEDGER_NAMED, &TOLD].concat();
         assert_eq!(calls_of(&folder, line), alone, "{line}");
     }
     for line in [
@@ -228,8 +260,26 @@ fn the_order_of_the_medium() {
         "time run.disc 0",
         "list run.disc --times",
     ] {
-        assert_eq!(calls_of(&folder, line), ["write"], "{line}");
+        assert_eq!(calls_of(&folder, line), TOLD, "{line}");
     }
+}
+
+/// The word comes before all of it, and then 257 data sectors: the pointer, the
+/// zeros and the table. Their digits lie across two pieces of the file.
+#[test]
+fn the_order_of_a_closing() {
+    let folder = recorded(800, 400);
+    let bytes = [["pwrite64"; 257].as_slice(), &["fdatasync"]].concat();
+    let digits = ["pwrite64", "fdatasync"].repeat(2);
+    let whole = [
+        &TOLD[..],
+        &LEDGER_MADE,
+        &bytes,
+        &digits,
+        &LEDGER_NAMED,
+        &TOLD,
+    ];
+    assert_eq!(calls_of(&folder, CLOSE_SESSION), whole.concat());
 }
 
 /// The command lines, each on the example with its packet closed.
@@ -277,11 +327,10 @@ fn each_call_that_writes_meets_a_full_disk() {
     }
 }
 
-/// The digits of these eight sectors lie across two pieces of 512 bytes of the
-/// file, and take two writes.
-#[test]
-fn killed_between_the_digits() {
-    let (mut image, mut kinds) = (vec![0; 540 * SECTOR], vec![0; 540]);
+/// A disc of so many sectors, with two saves among those that are recorded, and its
+/// packet closed.
+fn recorded(sectors: usize, recorded: usize) -> Folder {
+    let (mut image, mut kinds) = (vec![0; sectors * SECTOR], vec![0; sectors]);
     let mut ledger = [0; LEDGER];
     station::begin(&image, &kinds, &mut ledger).expect("begin");
     for v in [0, 1] {
@@ -289,16 +338,41 @@ fn killed_between_the_digits() {
         station::write(&mut image, &mut kinds, &mut ledger, v, &block).expect("write");
         station::commit(&mut image, &mut kinds, &mut ledger).expect("commit");
     }
-    for _ in 4..500 {
+    for _ in 4..recorded {
         station::write(&mut image, &mut kinds, &mut ledger, 0, &[9; SECTOR]).expect("write");
     }
     let folder = Folder::new();
     folder.put("run.disc", &disc_file(&kinds, &image));
     folder.put("run.disc.ledger", &ledger);
     folder.done("close run.disc");
+    folder
+}
+
+/// The digits of these eight sectors lie across two pieces of 512 bytes of the
+/// file, and take two writes.
+#[test]
+fn killed_between_the_digits() {
+    let folder = recorded(540, 500);
     for line in ["commit run.disc", "write run.disc 0"] {
         let stopped = stop_everywhere(&folder, line, KILLED);
         assert!(stopped >= 11, "{line}: killed {stopped} times");
+    }
+}
+
+/// At the pointer, at sectors of zeros, at the table, and at the digits of both
+/// pieces; at each other call that writes.
+#[test]
+fn stopped_within_a_closing() {
+    let folder = recorded(800, 400);
+    let trial = Trial::of(&folder, CLOSE_SESSION);
+    for fate in [KILLED, DISK_FULL] {
+        for nth in [1, 2, 129, 256, 257, 258, 259] {
+            assert!(trial.stops("pwrite64", nth, fate), "{nth}");
+        }
+        assert!(!trial.stops("pwrite64", 260, fate));
+        let others = WRITING.into_iter().filter(|call| *call != "pwrite64");
+        let stopped: usize = others.map(|call| trial.stops_at_each(call, fate)).sum();
+        assert!(stopped >= 8, "{fate}: {stopped} times");
     }
 }
 

@@ -8,7 +8,7 @@ use std::process::Command;
 
 use common::{Folder, STATION};
 
-const COMMANDS: [&str; 15] = [
+const COMMANDS: [&str; 16] = [
     "new",
     "begin",
     "mount",
@@ -16,6 +16,7 @@ const COMMANDS: [&str; 15] = [
     "release",
     "close",
     "commit",
+    "close-session",
     "read",
     "look-back",
     "time",
@@ -38,9 +39,10 @@ fn help_of_the_program_and_of_each_command() {
         assert_eq!(folder.done(&format!("{command} -h")), help);
         assert!(help.lines().all(|line| line.len() <= 80), "{command}");
     }
-    assert!(folder
-        .done("cut 3 commit --help")
-        .starts_with("Usage: station commit "));
+    for command in ["write", "commit", "close-session"] {
+        let help = folder.done(&format!("{command} --help"));
+        assert_eq!(folder.done(&format!("cut 3 {command} --help")), help);
+    }
     assert!(folder.names().is_empty());
 }
 
@@ -93,6 +95,18 @@ list run.disc --times=utc | --times takes no value | list
 write run.disc 0 --now | write has no option --now | write
 cut 0 commit run.disc --now --at 2026-11-15T14:05 | a save has one time: give --at or --now, not both | commit
 cut 0 --now commit run.disc | cut has no option --now | cut
+closesession run.disc | there is no command closesession: did you mean close-session? |
+close-session | close-session needs DISC | close-session
+close-session run.disc | close-session needs --main | close-session
+close-session run.disc --main 1,2 | close-session needs --reserve | close-session
+close-session run.disc --main 1,2 --reserve 3,4 | close-session needs --start | close-session
+close-session run.disc --main | --main needs a length and a location behind it | close-session
+close-session run.disc --main 1,2 --reserve 3,4 --start | --start needs a number behind it | close-session
+close-session run.disc --main 1,2 --main 1,2 | --main is given twice | close-session
+close-session run.disc --main 1 2 | close-session has no use for 2 | close-session
+close-session run.disc --main 1,2 --reserve 3,4 --start 5 --now | close-session has no option --now | close-session
+close run.disc --start 5 | close has no option --start | close
+cut 0 close-session run.disc --main 1,2 | close-session needs --reserve | close-session
 new run.disc | new needs SECTORS | new
 import deck.img | import needs DISC | import
 import deck.img deck.disc | import needs --start | import
@@ -135,9 +149,13 @@ fn numbers_are_checked() {
             let told = folder.fails(&format!("{line} run.disc {number}"), 64);
             assert!(told.contains("a number from 0 to 4294967295"), "{told}");
         }
-        for option in ["--start", "--start 0 --sectors"] {
-            let told = folder.fails(&format!("import deck.img x.disc {option} {number}"), 64);
-            let name = option.split(' ').next_back().expect("a word");
+        for line in [
+            "import deck.img x.disc --start",
+            "import deck.img x.disc --start 0 --sectors",
+            "close-session run.disc --main 1,2 --reserve 3,4 --start",
+        ] {
+            let told = folder.fails(&format!("{line} {number}"), 64);
+            let name = line.split(' ').next_back().expect("a word");
             let start = format!("station: {name} is a number from 0 to 4294967295, not '");
             assert!(told.starts_with(&start), "{told}");
         }
@@ -158,6 +176,43 @@ fn numbers_are_checked() {
         .args(["read", "run.disc", ""])
         .status();
     assert_eq!(empty.expect("the program runs").code(), Some(64));
+}
+
+/// A length and a location, each a number of 32 bits, and a comma between them.
+#[test]
+fn extents_are_checked() {
+    let folder = Folder::example();
+    for extent in [
+        "32768",
+        ",",
+        "32768,",
+        ",96",
+        "32768:96",
+        "32768,96,1",
+        "-1,96",
+        "+1,96",
+        "0x800,96",
+        "4294967296,96",
+        "32768,4294967296",
+        "١,96",
+    ] {
+        let fault = format!(
+            "is LENGTH,LOCATION, two numbers from 0 to 4294967295, not '{extent}'\n\
+             Try 'station close-session --help'.\n"
+        );
+        let main = format!("close-session run.disc --main={extent} --reserve 3,4 --start 5");
+        let told = folder.fails(&main, 64);
+        assert_eq!(told, format!("station: --main {fault}"));
+        let reserve = format!("close-session run.disc --main 1,2 --reserve {extent} --start 5");
+        let told = folder.fails(&reserve, 64);
+        assert_eq!(told, format!("station: --reserve {fault}"));
+    }
+    // The highest numbers have the form: the disc has no room.
+    let most = "4294967295,4294967295";
+    folder.fails(
+        &format!("close-session run.disc --main {most} --reserve {most} --start 400000"),
+        14,
+    );
 }
 
 #[test]

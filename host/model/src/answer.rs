@@ -12,7 +12,8 @@ pub enum Refusal {
     DiscUnsound = 3,
     /// "the ledger does not fit"
     LedgerUnfit = 4,
-    /// "write, release, close packet or commit with mode 2"
+    /// "write, release, close packet or commit with mode 2"; a closing's "mode 2
+    /// gives 5" (document 02)
     ReadOnly = 5,
     /// "begin, and a table sector exists"
     VatExists = 6,
@@ -32,10 +33,17 @@ pub enum Refusal {
     AboveLimit = 13,
     /// "no room"
     NoRoom = 14,
-    /// "the lent block would be a table sector at the block it is about to take"
+    /// "the lent block would be a table sector at the block it is about to take";
+    /// it "also covers every block with such a tag" as a closing's pointer has
+    /// (document 02)
     WouldBeVat = 15,
     /// "a timestamp given or found breaks these limits" (document 02)
     BadTimestamp = 16,
+    /// "write, release, commit, close packet or closing on a closed disc"
+    /// (document 02)
+    SessionClosed = 17,
+    /// "the partition start exceeds 400,000" (document 02)
+    PartitionStart = 18,
 }
 
 /// The two numbers.

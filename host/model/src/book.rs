@@ -64,7 +64,7 @@ pub enum Ending {
 }
 
 impl Fed<'_> {
-    /// What a commit records as its times: a plain one zeros.
+    /// What a commit records as its times: a plain one and a closing zeros.
     fn stamp(&self) -> Stamp {
         let given = self.written.filter(|_| self.call == Call::CommitAt);
         given.map_or(NO_STAMP, |stamp| stamp.try_into().unwrap_or(NO_STAMP))
@@ -177,7 +177,7 @@ impl History {
                 }
             }
             (Call::Release(v), Some(draft)) => draft.release(v),
-            (Call::Commit | Call::CommitAt, _) => self.save(fed),
+            (Call::Commit | Call::CommitAt | Call::CloseSession(_), _) => self.save(fed),
             (Call::Write(_) | Call::Release(_), None) => {}
             (Call::Read(_) | Call::ClosePacket, _) => {}
             // "counts as a refused one" (document 02)
@@ -187,7 +187,7 @@ impl History {
 
     /// "a commit whose table sector was kept makes its page; then no draft"
     fn cut(&mut self, fed: &Fed, vat_kept: bool) {
-        if vat_kept && matches!(fed.call, Call::Commit | Call::CommitAt) {
+        if vat_kept && fed.call.is_commit() {
             self.save(fed);
         }
         self.draft = None;

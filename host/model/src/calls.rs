@@ -1,18 +1,24 @@
-//! The ten calls on lent bytes.
+//! The eleven calls on lent bytes.
 //!
 //! A call is a refusal or an [`Effect`]: its second number, the sectors that
 //! it records, the ledger and the lent buffer afterwards. [`effect`] alters
 //! nothing; the calls carry it out, and a cut keeps the first of its sectors
 //! ([`fail_power`](crate::disc::fail_power)).
 
+use crate::anchor::{has_pointer_tag, pointer_sector, Anchor, MOST_START};
 use crate::answer::{refuse, Answer, Refusal};
-use crate::disc::{record, Disc, Sector};
+use crate::disc::{record, Disc, Sector, BEFORE_TABLE};
 use crate::ledger::{Volume, IDLE, LEDGER, PACKET_OPEN, READ_ONLY};
 use crate::table::{recognise, stamped_vat_sector, LIMIT, NONE, SECTOR};
 use crate::time::{Moment, Stamp, NO_STAMP, STAMP, TIME};
 
 /// "Write needs links + 1 + 8 blank sectors": room kept for links and a commit.
-const RESERVE: u32 = 8;
+const SHORT_RESERVE: u32 = 8;
+
+/// "On discs of 1,000 sectors or more a write must leave 264 instead of 8"
+/// (document 02): room for links and a closing.
+const LONG_RESERVE: u32 = 264;
+const LONG_DISC: u32 = 1000;
 
 /// A call with its v or k.
 #[derive(Clone, Copy, Debug, PartialEq, Eq)]
@@ -29,6 +35,8 @@ pub enum Call {
     LookBack(u32),
     /// "A new call tells, for k saves back, the modification time" (document 02).
     TimeOf(u32),
+    /// "Closing a session" (document 02).
+    CloseSession(Anchor),
 }
 
 impl Call {
@@ -42,6 +50,12 @@ impl Call {
             Call::TimeOf(_) => Some(TIME),
             _ => None,
         }
+    }
+
+    /// The forms of commit; and "In the cut rule a closing counts as a commit"
+    /// (document 02). Of each the table sector is the last that it records.
+    pub fn is_commit(self) -> bool {
+        matches!(self, Call::Commit | Call::CommitAt | Call::CloseSession(_))
     }
 
     /// "In the cut rule this and any later call that only tells counts as a
@@ -93,16 +107,16 @@ impl Effect {
         }
     }
 
-    /// A write or commit: links, then one data sector. "After each call that
-    /// is done, the ledger's recorded equals the disc's."
-    fn recorded(mut volume: Volume, data: [u8; SECTOR]) -> Effect {
-        let block = next_data_block(&volume);
+    /// A write, commit or closing: links, then data sectors, the last of which is
+    /// told. "After each call that is done, the ledger's recorded equals the
+    /// disc's."
+    fn recorded(mut volume: Volume, data: Vec<Sector>) -> Effect {
         let mut sectors = vec![Sector::Link; volume.links() as usize];
-        sectors.push(Sector::Data(Box::new(data)));
-        volume.recorded = block + 1;
+        sectors.extend(data);
+        volume.recorded += sectors.len() as u32;
         volume.mode = PACKET_OPEN;
         Effect {
-            second: block,
+            second: volume.recorded - 1,
             sectors,
             volume: Some(volume),
             shown: None,
@@ -110,7 +124,7 @@ impl Effect {
     }
 }
 
-/// The block that a write or commit takes: behind its links.
+/// The first block that a write, commit or closing takes: behind its links.
 fn next_data_block(volume: &Volume) -> u32 {
     volume.recorded + volume.links()
 }
@@ -130,6 +144,9 @@ pub fn effect(lent: &Lent, call: Call) -> Result<Effect, Refusal> {
         Call::Commit => commit_effect(&disc, writable_volume(lent, &disc)?, &NO_STAMP),
         Call::CommitAt => commit_at_effect(lent, &disc, writable_volume(lent, &disc)?),
         Call::TimeOf(k) => time_effect(&disc, k),
+        Call::CloseSession(anchor) => {
+            close_session_effect(&disc, writable_volume(lent, &disc)?, &anchor)
+        }
     }
 }
 
@@ -154,10 +171,13 @@ fn fitting_volume(lent: &Lent, disc: &Disc) -> Result<Volume, Refusal> {
     Ok(volume)
 }
 
-/// Refusal 5: "write, release, close packet or commit with mode 2".
+/// Refusal 5: "write, release, close packet or commit with mode 2"; and refusal
+/// 17, "write, release, commit, close packet or closing on a closed disc, tested
+/// directly after 5" (document 02).
 fn writable_volume(lent: &Lent, disc: &Disc) -> Result<Volume, Refusal> {
     let volume = fitting_volume(lent, disc)?;
     refuse(volume.mode == READ_ONLY, Refusal::ReadOnly)?;
+    refuse(disc.is_closed(), Refusal::SessionClosed)?;
     Ok(volume)
 }
 
@@ -188,17 +208,33 @@ fn look_back_effect(disc: &Disc, k: u32) -> Result<Effect, Refusal> {
 /// gives 13, even above size"; "13 comes directly before 12".
 fn write_effect(lent: &Lent, disc: &Disc, mut volume: Volume, v: u32) -> Result<Effect, Refusal> {
     let data: [u8; SECTOR] = lent.buffer.try_into().map_err(|_| Refusal::LentLength)?;
-    let needed = volume.links() + 1 + RESERVE;
+    let needed = volume.links() + 1 + reserve(disc);
     let block = next_data_block(&volume);
     refuse(v as usize >= LIMIT, Refusal::AboveLimit)?;
     refuse(v > volume.size, Refusal::AboveSize)?;
     refuse(disc.blank() < needed, Refusal::NoRoom)?;
-    refuse(recognise(&data, block).is_some(), Refusal::WouldBeVat)?;
+    refuse(would_pass(&data, block), Refusal::WouldBeVat)?;
     volume.map[v as usize] = block;
     if v == volume.size {
         volume.size += 1;
     }
-    Ok(Effect::recorded(volume, data))
+    Ok(Effect::recorded(volume, vec![Sector::data(data)]))
+}
+
+/// What "a write must leave" (document 02).
+fn reserve(disc: &Disc) -> u32 {
+    if disc.sectors() >= LONG_DISC {
+        LONG_RESERVE
+    } else {
+        SHORT_RESERVE
+    }
+}
+
+/// Rule 15: "the lent block would be a table sector at the block it is about to
+/// take", which "also covers every block with such a tag" as a closing's pointer
+/// has (document 02).
+fn would_pass(data: &[u8; SECTOR], block: u32) -> bool {
+    recognise(data, block).is_some() || has_pointer_tag(data, block)
 }
 
 /// "sets the entry to unused. Size stays."
@@ -215,13 +251,26 @@ fn close_packet_effect(mut volume: Volume) -> Result<Effect, Refusal> {
     Ok(Effect::unrecorded(0, volume))
 }
 
-/// "records the table sector, which becomes the last table"; "commit [needs]
-/// links + 1" blank sectors; "previous = the ledger's last table".
-fn commit_effect(disc: &Disc, mut volume: Volume, stamp: &Stamp) -> Result<Effect, Refusal> {
-    refuse(disc.blank() < volume.links() + 1, Refusal::NoRoom)?;
-    let block = next_data_block(&volume);
-    let data = stamped_vat_sector(block, volume.entries(), volume.last_vat, stamp);
-    volume.last_vat = block;
+/// "records the table sector, which becomes the last table".
+fn commit_effect(disc: &Disc, volume: Volume, stamp: &Stamp) -> Result<Effect, Refusal> {
+    save_effect(disc, volume, Vec::new(), stamp)
+}
+
+/// Data sectors, which only a closing has, and behind them the table sector:
+/// "previous = the ledger's last table". "Commit [needs] links + 1" blank sectors, and
+/// "Closing needs links + 257 blank sectors, else 14" (document 02).
+fn save_effect(
+    disc: &Disc,
+    mut volume: Volume,
+    mut data: Vec<Sector>,
+    stamp: &Stamp,
+) -> Result<Effect, Refusal> {
+    let before = data.len() as u32;
+    refuse(disc.blank() < volume.links() + before + 1, Refusal::NoRoom)?;
+    let table = next_data_block(&volume) + before;
+    let vat = stamped_vat_sector(table, volume.entries(), volume.last_vat, stamp);
+    data.push(Sector::data(vat));
+    volume.last_vat = table;
     Ok(Effect::recorded(volume, data))
 }
 
@@ -231,6 +280,17 @@ fn commit_at_effect(lent: &Lent, disc: &Disc, volume: Volume) -> Result<Effect, 
     let stamp: Stamp = lent.buffer.try_into().map_err(|_| Refusal::LentLength)?;
     refuse(Moment::told_by(&stamp).is_none(), Refusal::BadTimestamp)?;
     commit_effect(disc, volume, &stamp)
+}
+
+/// "Closing records, after links as usual, an Anchor Volume Descriptor Pointer,
+/// 255 zero sectors and the table sector, all as data. [...] The second number and
+/// ledger are as after a commit"; 18 is "tested directly after 17" (document 02).
+fn close_session_effect(disc: &Disc, volume: Volume, anchor: &Anchor) -> Result<Effect, Refusal> {
+    refuse(anchor.partition_start > MOST_START, Refusal::PartitionStart)?;
+    let pointer = pointer_sector(next_data_block(&volume), anchor);
+    let mut data = vec![Sector::data([0; SECTOR]); BEFORE_TABLE as usize];
+    data[0] = Sector::data(pointer);
+    save_effect(disc, volume, data, &NO_STAMP)
 }
 
 /// "A new call tells, for k saves back, the modification time", and 16 is tested
@@ -250,89 +310,7 @@ fn read_effect(disc: &Disc, volume: Volume, v: u32) -> Result<Effect, Refusal> {
     Ok(effect)
 }
 
-/// Begin a disc that has no table.
-pub fn begin(image: &mut [u8], kinds: &mut [u8], ledger: &mut [u8]) -> Answer {
-    perform(image, kinds, ledger, &mut [], Call::Begin)
-}
-
-/// Mount the newest table.
-pub fn mount(image: &mut [u8], kinds: &mut [u8], ledger: &mut [u8]) -> Answer {
-    perform(image, kinds, ledger, &mut [], Call::Mount)
-}
-
-/// Write number v.
-pub fn write(
-    image: &mut [u8],
-    kinds: &mut [u8],
-    ledger: &mut [u8],
-    v: u32,
-    block: &[u8],
-) -> Answer {
-    let lent = Lent {
-        image,
-        kinds,
-        ledger,
-        buffer: block,
-    };
-    let effect = effect(&lent, Call::Write(v));
-    carry_out(image, kinds, ledger, effect)
-}
-
-/// Release number v.
-pub fn release(image: &mut [u8], kinds: &mut [u8], ledger: &mut [u8], v: u32) -> Answer {
-    perform(image, kinds, ledger, &mut [], Call::Release(v))
-}
-
-/// Close the packet.
-pub fn close_packet(image: &mut [u8], kinds: &mut [u8], ledger: &mut [u8]) -> Answer {
-    perform(image, kinds, ledger, &mut [], Call::ClosePacket)
-}
-
-/// Commit: record a table sector.
-pub fn commit(image: &mut [u8], kinds: &mut [u8], ledger: &mut [u8]) -> Answer {
-    perform(image, kinds, ledger, &mut [], Call::Commit)
-}
-
-/// Commit with a timestamp.
-pub fn commit_at(image: &mut [u8], kinds: &mut [u8], ledger: &mut [u8], stamp: &[u8]) -> Answer {
-    let lent = Lent {
-        image,
-        kinds,
-        ledger,
-        buffer: stamp,
-    };
-    let effect = effect(&lent, Call::CommitAt);
-    carry_out(image, kinds, ledger, effect)
-}
-
-/// Read number v into the lent block.
-pub fn read(
-    image: &mut [u8],
-    kinds: &mut [u8],
-    ledger: &mut [u8],
-    v: u32,
-    block: &mut [u8],
-) -> Answer {
-    perform(image, kinds, ledger, block, Call::Read(v))
-}
-
-/// Look back k tables.
-pub fn look_back(image: &mut [u8], kinds: &mut [u8], ledger: &mut [u8], k: u32) -> Answer {
-    perform(image, kinds, ledger, &mut [], Call::LookBack(k))
-}
-
-/// Tell the time of k saves back in the lent answer.
-pub fn time_of(
-    image: &mut [u8],
-    kinds: &mut [u8],
-    ledger: &mut [u8],
-    k: u32,
-    answer: &mut [u8],
-) -> Answer {
-    perform(image, kinds, ledger, answer, Call::TimeOf(k))
-}
-
-/// Any of the ten, with the fourth buffer that some are lent.
+/// Any of the eleven, with the fourth buffer that some are lent.
 pub fn perform(
     image: &mut [u8],
     kinds: &mut [u8],

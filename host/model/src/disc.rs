@@ -4,6 +4,7 @@
 //! What a disc shows ([`Disc`]) and how sectors are recorded on it
 //! ([`record`], and [`fail_power`] for a cut).
 
+use crate::anchor::has_pointer_tag;
 use crate::answer::Refusal;
 use crate::table::{recognise, Vat, NONE, SECTOR};
 
@@ -15,6 +16,10 @@ pub const UNREADABLE: u8 = 3;
 
 /// "It has 1 to 360,000 sectors."
 pub const MOST_SECTORS: usize = 360_000;
+
+/// A closing's pointer stands so many sectors before its table: itself and "255
+/// zero sectors" (document 02).
+pub const BEFORE_TABLE: u32 = 256;
 
 /// A disc of right size, not yet known to be sound.
 #[derive(Clone, Copy)]
@@ -57,9 +62,14 @@ impl<'a> Disc<'a> {
         recorded(self.kinds) as u32
     }
 
+    /// All sectors, recorded and blank.
+    pub fn sectors(&self) -> u32 {
+        self.kinds.len() as u32
+    }
+
     /// Blank sectors that are left.
     pub fn blank(&self) -> u32 {
-        self.kinds.len() as u32 - self.recorded()
+        self.sectors() - self.recorded()
     }
 
     /// The kind of a block, if the disc has it.
@@ -101,6 +111,21 @@ impl<'a> Disc<'a> {
         Ok(found)
     }
 
+    /// "A disc is closed exactly if its last recorded sector is a table, the 256
+    /// before it have kind 1, and the first of these has tag identifier 2, a right
+    /// tag checksum and a tag location from its block to its block + 400,000"
+    /// (document 02). The table's CRC is the dearest test and comes last.
+    pub fn is_closed(&self) -> bool {
+        let Some(pointer) = self.recorded().checked_sub(BEFORE_TABLE + 1) else {
+            return false;
+        };
+        let table = pointer + BEFORE_TABLE;
+        let tagged = self.data(pointer);
+        tagged.is_some_and(|sector| has_pointer_tag(sector, pointer))
+            && (pointer..table).all(|block| self.kind(block) == Some(DATA))
+            && self.vat_at(table).is_some()
+    }
+
     fn step_back(&self, found: &Found) -> Result<Found, Refusal> {
         let block = found.vat.previous;
         if block == NONE {
@@ -120,6 +145,13 @@ fn recorded(kinds: &[u8]) -> usize {
 pub enum Sector {
     Link,
     Data(Box<[u8; SECTOR]>),
+}
+
+impl Sector {
+    /// A data sector with these bytes.
+    pub fn data(bytes: [u8; SECTOR]) -> Sector {
+        Sector::Data(Box::new(bytes))
+    }
 }
 
 /// "A call's sectors are recorded one after another", from the first blank on,

@@ -1,4 +1,4 @@
-//! An independent model of document 01: the disc, the ledger, the ten calls
+//! An independent model of document 01: the disc, the ledger, the eleven calls
 //! and the book that the cut rule speaks of. It is written from the text of
 //! documents 01 and 02 alone and shares nothing with the recording core, so that
 //! the two can be held against each other.
@@ -14,9 +14,11 @@
 //! - [`answer`]: the two numbers that each call answers, and the refusals;
 //! - [`time`]: timestamps, their limits, and the minutes that they tell;
 //! - [`table`]: the table sector at block b;
-//! - [`disc`]: image and kinds, the newest table, the walk back, recording;
+//! - [`anchor`]: the pointer that a closing records, and its tag;
+//! - [`disc`]: image and kinds, the newest table, the walk back, whether it is
+//!   closed, recording;
 //! - [`ledger`]: the volume's working state and when it fits the disc;
-//! - [`calls`]: the ten calls;
+//! - [`calls`]: the eleven calls;
 //! - [`book`]: pages and draft, what the cut rule promises.
 //!
 //! [`Volume`]: ledger::Volume
@@ -25,6 +27,7 @@
 
 #![forbid(unsafe_code)]
 
+pub mod anchor;
 pub mod answer;
 pub mod book;
 pub mod calls;

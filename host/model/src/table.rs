@@ -84,9 +84,14 @@ pub fn recognise(sector: &[u8; SECTOR], b: u32) -> Option<Vat> {
 fn has_tag(sector: &[u8; SECTOR], b: u32) -> bool {
     u16_at(sector, 0) == 261
         && u16_at(sector, 2) == 2
-        && sector[4] == tag_sum(sector)
+        && has_tag_sum(sector)
         && sector[5] == 0
         && u32_at(sector, 12) == b
+}
+
+/// Whether a tag, of whatever descriptor, has its right checksum in byte 4.
+pub fn has_tag_sum(sector: &[u8; SECTOR]) -> bool {
+    sector[4] == tag_sum(sector)
 }
 
 /// "sum of bytes 0 to 3 and 5 to 15, modulo 256"

@@ -1,7 +1,8 @@
 /*
  * Records on a small disc through the C header: begin, writes, commits, a
- * closed packet, and then what mount, read, look back and time of show of it.
- * Exits 0 if every answer is right, and names the first that is not.
+ * closed packet, and then what mount, read, look back and time of show of it; and
+ * closes the session of a larger one. Exits 0 if every answer is right, and names
+ * the first that is not.
  */
 #include <stdio.h>
 #include <stdlib.h>
@@ -29,8 +30,16 @@ static uint8_t burned_image[SECTORS * STATION_SECTOR];
 static uint8_t burned_kinds[SECTORS];
 static size_t burned;
 
+/* A disc with room for links and a closing behind its first block. */
+#define CLOSED_SECTORS 265
+
+static uint8_t closed_image[CLOSED_SECTORS * STATION_SECTOR];
+static uint8_t closed_kinds[CLOSED_SECTORS];
+
 #define DISC image, sizeof image, kinds, sizeof kinds
 #define LENT DISC, ledger, sizeof ledger
+#define CLOSED_DISC closed_image, sizeof closed_image, closed_kinds, sizeof closed_kinds
+#define CLOSED_LENT CLOSED_DISC, ledger, sizeof ledger
 
 static void expect(const char *call, uint64_t answer, uint32_t outcome, uint32_t second)
 {
@@ -178,6 +187,27 @@ static void lend_wrongly(void)
     kinds[30] = 0;
 }
 
+/* The start exceeds 400,000, then not; the pointer's tag and extents. */
+static void close_the_session(void)
+{
+    const uint8_t *pointer = closed_image + 8 * STATION_SECTOR;
+
+    expect("close without room", station_close_session(LENT, 1, 2, 3, 4, 257),
+           STATION_NO_ROOM, 0);
+    expect("begin", station_begin(CLOSED_LENT), STATION_DONE, 0);
+    expect("write 0", station_write(CLOSED_LENT, 0, block, sizeof block), STATION_DONE, 0);
+    expect("close packet", station_close_packet(CLOSED_LENT), STATION_DONE, 0);
+    expect("close from 400,001", station_close_session(CLOSED_LENT, 1, 2, 3, 4, 400001),
+           STATION_PARTITION_START, 0);
+    expect("close", station_close_session(CLOSED_LENT, 1, 2, 3, 4, 257), STATION_DONE, 264);
+    hold("identifier 2, version 2", number(pointer) == 0x00020002u);
+    hold("location 257 + 8", number(pointer + 12) == 265);
+    hold("main extent", number(pointer + 16) == 1 && number(pointer + 20) == 2);
+    hold("reserve extent", number(pointer + 24) == 3 && number(pointer + 28) == 4);
+    expect("mount", station_mount(CLOSED_LENT), STATION_DONE, 1);
+    expect("commit on a closed disc", station_commit(CLOSED_LENT), STATION_SESSION_CLOSED, 0);
+}
+
 int main(void)
 {
     record();
@@ -186,6 +216,8 @@ int main(void)
     look_back();
     tell_the_times();
     lend_wrongly();
-    puts("recorded, mounted, read, looked back and told the times");
+    mount_and_read();
+    close_the_session();
+    puts("recorded, mounted, read, looked back, told the times and closed");
     return 0;
 }

@@ -1,5 +1,5 @@
-//! Every call on a built station, each with the numbers, blocks and timestamps
-//! that lie at a bound.
+//! Every call on a built station, each with the numbers, blocks, timestamps and
+//! closings that lie at a bound.
 
 use station_model::calls::Call;
 use station_model::disc::BLANK;
@@ -8,6 +8,7 @@ use station_model::ledger::LEDGER;
 use station_model::table::{vat_sector, LIMIT, NONE, SECTOR};
 use station_model::time::NO_STAMP;
 
+use super::closing::{pointer, starting, ANCHOR};
 use super::forge::vat_behind;
 use super::pair::Pair;
 use super::stamps::{ANSWER, HALF_PAST};
@@ -72,7 +73,8 @@ fn calls(station: &Station) -> Vec<Call> {
     numbers.dedup();
     let steps = (0..station.kinds.len().min(8) as u32 + 2).chain([NONE]);
     let mut calls = vec![Call::Begin, Call::Mount, Call::ClosePacket];
-    calls.extend([Call::Commit, Call::CommitAt]);
+    calls.extend([Call::Commit, Call::CommitAt, Call::CloseSession(ANCHOR)]);
+    calls.extend([0, 400_000, 400_001, NONE].map(|start| Call::CloseSession(starting(start))));
     calls.extend(numbers.iter().map(|v| Call::Release(*v)));
     calls.extend(numbers.iter().map(|v| Call::Read(*v)));
     calls.extend(numbers.iter().map(|v| Call::Write(*v)));
@@ -89,8 +91,8 @@ fn size(station: &Station) -> u32 {
     }
 }
 
-/// Plain bytes; table sectors, also behind attributes, for the block before the
-/// links, the block behind them, and the one after that.
+/// Plain bytes; table sectors, also behind attributes, and a closing's pointer for
+/// the block before the links, the block behind them, and the one after that.
 fn blocks(station: &Station) -> Vec<Vec<u8>> {
     let recorded = station.kinds.iter().filter(|kind| **kind != BLANK).count() as u32;
     let table = |block| vat_sector(block, &[NONE], NONE).to_vec();
@@ -102,5 +104,8 @@ fn blocks(station: &Station) -> Vec<Vec<u8>> {
         table(recorded + 7),
         behind(recorded + 7),
         table(recorded + 8),
+        pointer(recorded, recorded).to_vec(),
+        pointer(recorded + 7, recorded + 7).to_vec(),
+        pointer(recorded + 8, recorded + 8).to_vec(),
     ]
 }

@@ -1,6 +1,7 @@
 //! The core on a disc and a ledger of its own, each between canaries.
 
 use station::{raw, Sector};
+use station_model::anchor::Anchor;
 use station_model::answer::Answer;
 use station_model::calls::Call;
 use station_model::disc::{Disc, UNREADABLE};
@@ -34,7 +35,7 @@ impl Core {
         }
     }
 
-    /// Any of the ten, with the fourth buffer that some are lent.
+    /// Any of the eleven, with the fourth buffer that some are lent.
     pub fn perform(&mut self, call: Call, buffer: &mut [u8]) -> u64 {
         self.perform_short(call, buffer, Short::default())
     }
@@ -55,6 +56,20 @@ impl Core {
             Call::Read(v) => raw::read(image, kinds, ledger, v, buffer),
             Call::LookBack(k) => raw::look_back(image, kinds, ledger, k),
             Call::TimeOf(k) => raw::time_of(image, kinds, ledger, k, buffer),
+            Call::CloseSession(Anchor {
+                main,
+                reserve,
+                partition_start,
+            }) => raw::close_session(
+                image,
+                kinds,
+                ledger,
+                main.length,
+                main.location,
+                reserve.length,
+                reserve.location,
+                partition_start,
+            ),
         }
     }
 

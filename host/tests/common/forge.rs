@@ -6,6 +6,7 @@ use station_model::fields::{put, u16_at, u32_at};
 use station_model::ledger::{Volume, LEDGER, READ_ONLY};
 use station_model::table::{crc, seal, table_length, vat_sector, LIMIT, NONE, SECTOR};
 
+use super::closing::{anchor, any_pointer};
 use super::random::Random;
 use super::stamps::{put_modified, stamp};
 use super::station::Station;
@@ -127,6 +128,11 @@ pub fn seal_over(sector: &mut [u8; SECTOR], block: u32, length: usize) {
     let sum = crc(&sector[16..16 + length]);
     put(sector, 8, &sum.to_le_bytes());
     put(sector, 12, &block.to_le_bytes());
+    put_sum(sector);
+}
+
+/// Puts the right checksum of a tag: "sum of bytes 0 to 3 and 5 to 15, modulo 256".
+pub fn put_sum(sector: &mut [u8; SECTOR]) {
     sector[4] = 0;
     let all = sector[..16].iter().map(|byte| u32::from(*byte));
     sector[4] = all.sum::<u32>() as u8;
@@ -277,11 +283,12 @@ fn entry(random: &mut Random, below: u32) -> u32 {
     }
 }
 
-/// A block to write: random, a copy of some sector, or a table sector, or
-/// nearly one, for a block that the write may or may not take.
+/// A block to write: random, a copy of some sector, or a table sector or a
+/// closing's pointer, or nearly one, for a block that the write may or may not take.
 pub fn block(random: &mut Random, image: &[u8], recorded: u32) -> Vec<u8> {
     let sectors = image.len() / SECTOR;
-    match random.below(10) {
+    let next = recorded + random.pick(&[0, 7]);
+    match random.below(11) {
         0 => image[random.below(sectors) * SECTOR..][..SECTOR].to_vec(),
         1 => valid_vat(random, recorded).to_vec(),
         2 => valid_vat(random, recorded + 7).to_vec(),
@@ -289,10 +296,8 @@ pub fn block(random: &mut Random, image: &[u8], recorded: u32) -> Vec<u8> {
             let other = random.below(sectors) as u32;
             valid_vat(random, other).to_vec()
         }
-        4 => {
-            let next = recorded + random.pick(&[0, 7]);
-            near_vat(random, next).to_vec()
-        }
+        4 => near_vat(random, next).to_vec(),
+        5 => any_pointer(random, next).to_vec(),
         _ => random.bytes(SECTOR),
     }
 }
@@ -377,7 +382,7 @@ pub fn number(random: &mut Random, bound: usize) -> u32 {
 
 /// Any call, with numbers near those that mean something.
 pub fn call(random: &mut Random, size: usize, tables: usize) -> Call {
-    match random.below(24) {
+    match random.below(25) {
         0 => Call::Begin,
         1 => Call::Mount,
         2..=7 => Call::Write(number(random, size)),
@@ -387,6 +392,7 @@ pub fn call(random: &mut Random, size: usize, tables: usize) -> Call {
         13..=14 => Call::CommitAt,
         15..=17 => Call::Read(number(random, size)),
         18..=20 => Call::LookBack(number(random, tables)),
-        _ => Call::TimeOf(number(random, tables)),
+        21..=23 => Call::TimeOf(number(random, tables)),
+        _ => Call::CloseSession(anchor(random)),
     }
 }

@@ -8,6 +8,7 @@
 
 pub mod agreement;
 pub mod built;
+pub mod closing;
 pub mod core;
 pub mod forge;
 pub mod guarded;

@@ -5,6 +5,7 @@
 use std::cell::Cell;
 use std::fmt::Write;
 
+use station::recorded;
 use station_model::answer::Answer;
 use station_model::calls::{perform, Call};
 use station_model::table::SECTOR;
@@ -21,8 +22,8 @@ thread_local! {
 }
 
 /// An image up to this many sectors is compared whole after each call. Of a
-/// larger one the sectors near the recorded ones, some more in turn, and the
-/// whole at the end.
+/// larger one the sectors that the call recorded and those near them, some more in
+/// turn, and the whole at the end.
 const COMPARED_WHOLE: usize = 64;
 
 pub struct Pair {
@@ -129,7 +130,7 @@ impl Pair {
         } = &mut self.model;
         let expected = perform(image, kinds, ledger, &mut self.buffer, call);
         let answer = self.core.perform(call, &mut self.core_buffer);
-        if let Some(difference) = self.difference(expected, answer) {
+        if let Some(difference) = self.difference(&before, expected, answer) {
             panic!("{}", self.report(call, &before, &difference));
         }
         COMPARED.with(|count| count.set(count.get() + 1));
@@ -147,7 +148,7 @@ impl Pair {
         }
     }
 
-    fn difference(&mut self, expected: Answer, answer: u64) -> Option<String> {
+    fn difference(&mut self, before: &Before, expected: Answer, answer: u64) -> Option<String> {
         if answer != expected.packed() {
             let core = unpacked(answer);
             return Some(format!("the model answers {expected:?}, the core {core:?}"));
@@ -159,22 +160,22 @@ impl Pair {
             .or_else(|| first_difference("ledger", 0, &model.ledger, &core.ledger))
             .or_else(|| first_difference("kinds", 0, &model.kinds, &core.kinds))
             .or_else(|| first_difference("fourth buffer", 0, &self.buffer, &self.core_buffer))
-            .or_else(|| self.image_difference())
+            .or_else(|| self.image_difference(&before.kinds))
     }
 
-    fn image_difference(&mut self) -> Option<String> {
+    fn image_difference(&mut self, kinds_before: &[u8]) -> Option<String> {
         let sectors = self.model.image.len() / SECTOR;
         if sectors <= COMPARED_WHOLE {
             return first_difference("image", 0, &self.model.image, &self.core.image);
         }
         self.turn += 1;
-        let recorded = self.model.kinds.iter().take_while(|kind| **kind != 0);
-        let near = recorded.count().saturating_sub(10);
+        let near = recorded(kinds_before).saturating_sub(10);
+        let behind = recorded(&self.model.kinds) + 10;
         let in_turn = 8 * self.turn % sectors;
-        [(near, 20), (in_turn, 8)]
+        [(near, behind), (in_turn, in_turn + 8)]
             .iter()
-            .find_map(|(first, count)| {
-                let window = first * SECTOR..sectors.min(first + count) * SECTOR;
+            .find_map(|(first, end)| {
+                let window = first * SECTOR..sectors.min(*end) * SECTOR;
                 let model = &self.model.image[window.clone()];
                 first_difference("image", window.start, model, &self.core.image[window])
             })

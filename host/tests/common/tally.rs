@@ -6,8 +6,10 @@ use station_model::answer::Answer;
 use station_model::book::History;
 use station_model::calls::Call;
 
+use super::closing::CLOSING;
+
 /// The calls, in the order of their columns.
-const NAMES: [&str; 10] = [
+const NAMES: [&str; 11] = [
     "begin",
     "mount",
     "write",
@@ -18,11 +20,12 @@ const NAMES: [&str; 10] = [
     "read",
     "look",
     "time of",
+    "closing",
 ];
 const CALLS: usize = NAMES.len();
 
-/// Done, and refusals 1 to 16.
-const OUTCOMES: usize = 17;
+/// Done, and refusals 1 to 18.
+const OUTCOMES: usize = 19;
 
 #[derive(Default)]
 pub struct Tally {
@@ -32,7 +35,10 @@ pub struct Tally {
     done: [usize; CALLS],
     cut: [usize; CALLS],
     refused: [usize; OUTCOMES],
+    /// By the sectors that were kept: of a write or commit 0 to 8.
     cut_after: [usize; 9],
+    /// Of a closing: no pointer, the pointer, all but the table, all.
+    closing_cut: [usize; 4],
     /// Cuts tried beside the lists.
     pub beside: usize,
     /// Calls that may not follow a cut.
@@ -56,9 +62,14 @@ impl Tally {
         }
     }
 
-    pub fn cut(&mut self, call: Call, j: usize) {
+    /// The call had so many sectors, and the first j were kept.
+    pub fn cut(&mut self, call: Call, sectors: usize, j: usize) {
         self.cut[column(call)] += 1;
-        self.cut_after[j] += 1;
+        match sectors.checked_sub(CLOSING) {
+            None => self.cut_after[j] += 1,
+            Some(links) if j <= links => self.closing_cut[0] += 1,
+            Some(_) => self.closing_cut[3 - 2.min(sectors - j)] += 1,
+        }
     }
 
     /// Events of lists, each compared with the book.
@@ -75,6 +86,7 @@ impl Tally {
         self.done.iter().all(met)
             && self.cut.iter().all(met)
             && self.cut_after.iter().all(met)
+            && self.closing_cut.iter().all(met)
             && refusals.map(|refusal| &self.refused[refusal]).all(met)
     }
 }
@@ -89,8 +101,10 @@ impl fmt::Display for Tally {
         writeln!(out, "{} calls may not follow a cut", self.skipped)?;
         writeln!(out, "{}", NAMES.join(", "))?;
         writeln!(out, "  done {:?}, cut {:?}", self.done, self.cut)?;
-        writeln!(out, "refusals 1 to 16: {:?}", &self.refused[1..])?;
-        write!(out, "cut after 0 to 8 sectors: {:?}", self.cut_after)
+        writeln!(out, "refusals 1 to 18: {:?}", &self.refused[1..])?;
+        writeln!(out, "cut after 0 to 8 sectors: {:?}", self.cut_after)?;
+        let places = "before the pointer, behind it, before the table, behind it";
+        write!(out, "closings cut {places}: {:?}", self.closing_cut)
     }
 }
 
@@ -106,6 +120,7 @@ fn column(call: Call) -> usize {
         Call::Read(_) => 7,
         Call::LookBack(_) => 8,
         Call::TimeOf(_) => 9,
+        Call::CloseSession(_) => 10,
     }
 }
 
@@ -117,14 +132,15 @@ pub struct Outcomes([[usize; OUTCOMES]; CALLS]);
 const POSSIBLE: [&[usize]; CALLS] = [
     &[0, 1, 2, 3, 6],
     &[0, 1, 2, 3, 7],
-    &[0, 1, 2, 3, 4, 5, 12, 13, 14, 15],
-    &[0, 1, 2, 3, 4, 5, 10],
-    &[0, 1, 2, 3, 4, 5],
-    &[0, 1, 2, 3, 4, 5, 14],
-    &[0, 1, 2, 3, 4, 5, 14, 16],
+    &[0, 1, 2, 3, 4, 5, 12, 13, 14, 15, 17],
+    &[0, 1, 2, 3, 4, 5, 10, 17],
+    &[0, 1, 2, 3, 4, 5, 17],
+    &[0, 1, 2, 3, 4, 5, 14, 17],
+    &[0, 1, 2, 3, 4, 5, 14, 16, 17],
     &[0, 1, 2, 3, 4, 10, 11],
     &[0, 1, 2, 3, 7, 8, 9],
     &[0, 1, 2, 3, 7, 8, 9, 16],
+    &[0, 1, 2, 3, 4, 5, 14, 17, 18],
 ];
 
 impl Outcomes {
@@ -159,7 +175,7 @@ impl Outcomes {
 
 impl fmt::Display for Outcomes {
     fn fmt(&self, out: &mut fmt::Formatter) -> fmt::Result {
-        writeln!(out, "{} calls compared; outcomes 0 to 16:", self.calls())?;
+        writeln!(out, "{} calls compared; outcomes 0 to 18:", self.calls())?;
         for (name, row) in NAMES.iter().zip(&self.0) {
             writeln!(out, "{name:>9} {row:?}")?;
         }

@@ -5,12 +5,13 @@
 
 use std::ops::Range;
 
-use station::SECTOR;
+use station::{Extent, SECTOR};
 
 /// An unused entry, or no previous table.
 pub const NONE: u32 = 0xFFFF_FFFF;
 
 /// Tag identifiers (ECMA-167 3/7.2.1 and 4/7.2.1).
+const ANCHOR: u16 = 2;
 const PARTITION: u16 = 5;
 const LOGICAL_VOLUME: u16 = 6;
 const FILE_ENTRY: u16 = 261;
@@ -84,6 +85,24 @@ pub fn partition(volume: &[u8]) -> Range<usize> {
     let (_, descriptor) = found.expect("a partition descriptor");
     let start = u32_at(descriptor, 188) as usize;
     start..start + u32_at(descriptor, 192) as usize
+}
+
+/// Takes every anchor from the volume, and tells the main and the reserve extent
+/// that they named (ECMA-167 3/10.2, bytes 16 and 24).
+pub fn wipe_anchors(volume: &mut [u8]) -> [Extent; 2] {
+    let mut named = Vec::new();
+    for (n, sector) in volume.chunks_exact_mut(SECTOR).enumerate() {
+        if is_tagged(sector, &[ANCHOR], n) {
+            named.push([16, 24].map(|at| Extent {
+                length: u32_at(sector, at),
+                location: u32_at(sector, at + 4),
+            }));
+            sector.fill(0);
+        }
+    }
+    named.dedup();
+    assert_eq!(named.len(), 1, "all anchors name the same extents");
+    named[0]
 }
 
 /// Lets both logical volume descriptors name this virtual number as the place

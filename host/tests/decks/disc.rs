@@ -2,7 +2,7 @@
 //! what stands in front of them (recognition, volume descriptors, anchor) is
 //! kept only to hand the whole to another reader.
 
-use station::{Refusal, SaveTime, Timestamp, LEDGER, SECTOR};
+use station::{Extent, Refusal, SaveTime, Timestamp, LEDGER, SECTOR};
 
 use super::descriptors::{partition, u32_at, NONE};
 
@@ -147,6 +147,25 @@ impl Disc {
             Ok(block) => block as usize,
             Err(refusal) => panic!("commit at is refused: {}", refusal.number()),
         }
+    }
+
+    /// Closes the session; the table's place.
+    pub fn close_session(&mut self, [main, reserve]: [Extent; 2]) -> usize {
+        let start = self.start() as u32;
+        let Disc {
+            image,
+            kinds,
+            ledger,
+            ..
+        } = self;
+        match station::close_session(image, kinds, ledger, main, reserve, start) {
+            Ok(block) => block as usize,
+            Err(refusal) => panic!("close session is refused: {}", refusal.number()),
+        }
+    }
+
+    pub fn is_closed(&self) -> bool {
+        station::is_closed(&self.image, &self.kinds).expect("a sound disc")
     }
 
     /// When the save k back was made.

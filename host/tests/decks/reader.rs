@@ -4,9 +4,9 @@
 
 use station::{Timestamp, SECTOR};
 
-use super::descriptors::{entries, name_file_set, renamed_file_set};
+use super::descriptors::{entries, name_file_set, renamed_file_set, wipe_anchors};
 use super::disc::Disc;
-use super::udftools::written_by_mkudffs;
+use super::udftools::{udfinfo, written_by_mkudffs};
 use super::{assert_both_find, outcome, writers_vat, EDITION_150};
 
 /// Room for the writes of any test here.
@@ -215,5 +215,32 @@ fn a_copied_table_is_none_to_both() {
         let report = assert_both_find(&disc, table);
         report.expect("fsid", WRITERS_FILE_SET);
         report.expect_remark("ignoring it");
+    }
+}
+
+/// A volume without an anchor is none to udfinfo. Closed by us, with the extents of
+/// the anchor that was taken away and the start that its partition descriptor names,
+/// it is found by our pointer alone, at the last sector less 256; and the save is
+/// ours. udfinfo misses the other two anchors, and it remarks that the pointer stands
+/// in the partition, where a closing records it.
+#[test]
+fn udfinfo_finds_a_closed_volume_by_our_pointer() {
+    for recipe in EDITION_150 {
+        let mut volume = written_by_mkudffs(recipe);
+        let extents = wipe_anchors(&mut volume);
+        udfinfo(&volume).expect_remark("not Anchor Volume Descriptor Pointer");
+        let mut disc = taken_over(&volume);
+        assert!(!disc.is_closed(), "{recipe:?}");
+        let renamed = renamed_file_set(disc.sector(0), "closed", 0);
+        disc.write(0, &renamed);
+        let table = disc.close_session(extents);
+        assert!(disc.is_closed(), "{recipe:?}");
+        let report = assert_both_find(&disc, table);
+        report.expect_anchor(disc.start() + table - 256);
+        report.expect("fsid", "closed");
+        report.expect_complaints(&[
+            "First and third Anchor Volume Descriptor Pointer not found, using second",
+            "Partition Space overlaps with other blocks",
+        ]);
     }
 }

@@ -105,6 +105,15 @@ impl Report {
         }
     }
 
+    /// Fails unless udfinfo found an anchor at this sector, and no other.
+    pub fn expect_anchor(&self, sector: usize) {
+        let wanted = format!("start={sector}, blocks=1, type=ANCHOR");
+        let mut anchors = self.lines.lines().filter(|line| line.contains("ANCHOR"));
+        if anchors.next() != Some(&wanted) || anchors.next().is_some() {
+            self.fail(&format!("{wanted}, and no other"));
+        }
+    }
+
     /// Fails unless the table is the file's last sector or not, as told. Of a
     /// table further ahead udfinfo says where it expected one.
     pub fn expect_vat_last(&self, last: bool) {
@@ -116,8 +125,18 @@ impl Report {
 
     /// Fails on anything that udfinfo holds to be wrong with the disc.
     pub fn expect_no_complaint(&self) {
-        if self.remarks.contains("Warning:") || self.remarks.contains("Error:") {
-            self.fail("no warning and no error");
+        self.expect_complaints(&[]);
+    }
+
+    /// Fails unless these are all its warnings, and there is no error.
+    pub fn expect_complaints(&self, warnings: &[&str]) {
+        let complaint = |line: &&str| line.contains("Warning:") || line.contains("Error:");
+        let said = self.remarks.lines().filter(complaint);
+        let wanted = warnings
+            .iter()
+            .map(|warning| format!("udfinfo: Warning: {warning}"));
+        if !said.eq(wanted) {
+            self.fail(&format!("no error, and of warnings {warnings:?}"));
         }
     }
 

@@ -27,9 +27,9 @@ returns : tie.Need-returns
 returns c =
     let h = c .before .before .before .before in
     let s = start-of h in
-    λ x fresh stamp block since ok all counted there long whole.
+    λ x fresh call block since ok is-save all counted there long whole.
     let y = morning (s .args .image .now) (s .args .kinds .now) (s .args .ledger .now) in
-    let reads = long-ago-reads x fresh ok (s .args .v) stamp block since all y (s .args .out .now) (record { ok = omega arith; there = sym there; ledger-long = long; block-long = whole }) in
+    let reads = long-ago-reads x fresh ok (s .args .v) call is-save block since all y (s .args .out .now) (record { ok = omega arith; there = sym there; ledger-long = long; block-long = whole }) in
     given (subst (λ (k : ℕ). Reads y (lookBack k) (s .args .v) (s .args .out .now) 0 block) counted reads) (h .show-back .ensures .0) (h .show-back .ensures .1)
 
 pub long-ago-spec : {M : Type 1} → statement M

@@ -1,6 +1,6 @@
 -- `client::save_and_look_back` meets its contract: a save, then a look back.
 -- Assumes nothing.
-use mathlib.Core.Path.{_≡_, _∙_}
+use mathlib.Core.Path.{_≡_, refl, _∙_}
 use mathlib.Core.Option.{none}
 use mathlib.Core.List.{List, [], _∷_}
 use native.Mathlib.Omega.{arith}
@@ -76,7 +76,7 @@ returns-2 c =
     let s = start-of o in
     let both = one (o .save .last .0) (o .save .last .1 .0) (o .save .last .1 .1 .0) (lookBack 1) (l .station-look-back .ensures) ∙ goes-on (X s) (first-part s) [] (begun o) (lookBack 1) (e .if1 .left) in (
       both,
-      λ a. saved-back (X s) (s .args .fresh) (omega arith) (s .args .v) (s .args .block .now) a both,
+      λ a. saved-back (X s) (s .args .fresh) (omega arith) (s .args .v) (s .args .block .now) (commit none) refl a both,
     )
 
 pub save-and-look-back-spec : {M : Type 1} → statement M

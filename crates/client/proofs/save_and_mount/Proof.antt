@@ -1,6 +1,6 @@
 -- `client::save_and_mount` meets its contract: a save, then a mount.
 -- Assumes nothing.
-use mathlib.Core.Path.{_≡_, _∙_}
+use mathlib.Core.Path.{_≡_, refl, _∙_}
 use mathlib.Core.Option.{none}
 use mathlib.Core.List.{List, [], _∷_}
 use native.Mathlib.Omega.{arith}
@@ -76,7 +76,7 @@ returns-2 c =
     let s = start-of o in
     let both = one (o .save .last .0) (o .save .last .1 .0) (o .save .last .1 .1 .0) (mount) (l .station-mount .ensures) ∙ goes-on (X s) (first-part s) [] (begun o) (mount) (e .if1 .left) in (
       both,
-      λ a. mounted-shows (X s) (s .args .fresh) (omega arith) (s .args .v) (s .args .block .now) a both,
+      λ a. mounted-shows (X s) (s .args .fresh) (omega arith) (s .args .v) (s .args .block .now) (commit none) refl a both,
     )
 
 pub save-and-mount-spec : {M : Type 1} → statement M

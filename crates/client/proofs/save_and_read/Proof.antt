@@ -1,6 +1,6 @@
 -- `client::save_and_read` meets its contract: a save and a mount, then a read.
 -- Assumes nothing.
-use mathlib.Core.Path.{_≡_, ap, _∙_}
+use mathlib.Core.Path.{_≡_, refl, ap, _∙_}
 use mathlib.Core.Option.{none}
 use mathlib.Core.List.{List, [], _∷_}
 use native.Mathlib.Omega.{arith}
@@ -84,7 +84,7 @@ returns-2 c =
     let s = start-of o in
     let both = one (o .save-and-mount .last .0) (o .save-and-mount .last .1 .0) (o .save-and-mount .last .1 .1 .0) (read (s .args .v) (s .args .out .now)) (l .station-read .ensures) ∙ goes-on (X s) (first-part s) [] (begun o) (read (s .args .v) (s .args .out .now)) (e .if1 .left) in (
       both,
-      λ a long. given-behind (X s) (saved s) (saved-reads (X s) (s .args .fresh) (omega arith) (s .args .v) (s .args .block .now) a (s .args .out .now) long) both (begun o) (ap (λ (y : After). y .buffer) (l .station-read .ensures)),
+      λ a long. given-behind (X s) (saved s) (saved-reads (X s) (s .args .fresh) (omega arith) (s .args .v) (s .args .block .now) (commit none) refl a (s .args .out .now) long) both (begun o) (ap (λ (y : After). y .buffer) (l .station-read .ensures)),
     )
 
 pub save-and-read-spec : {M : Type 1} → statement M

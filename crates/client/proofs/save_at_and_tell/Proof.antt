@@ -87,8 +87,8 @@ returns-2 c =
           let stamp : List ℕ = s .args .stamp .now in
           let long = o .save-at .kept .1 .1 .0 ∙ first-long (X s) (opening (s .args .fresh)) (written ++ (commit (some stamp) ∷ [])) (omega arith) a in
           time-given (o .save-at .last .0) (o .save-at .last .1 .0) (o .save-at .last .1 .1 .0) 0 (s .args .answer .now) long whole (l .station-time-of .ensures) stamp
-          (subst (λ (d : Disc). TellsTime d 0 stamp) (ap (λ (y : Day). y .disc) (sym (begun o))) (told-since (X s) (s .args .fresh) (omega arith) written [] (some stamp) a))
-          (right-stamp (X s) (s .args .fresh) (omega arith) written [] (some stamp) a stamp refl),
+          (subst (λ (d : Disc). TellsTime d 0 stamp) (ap (λ (y : Day). y .disc) (sym (begun o))) (told-since (X s) (s .args .fresh) (omega arith) written [] (commit (some stamp)) refl a))
+          (right-stamp (X s) (s .args .fresh) (omega arith) written [] stamp a),
     )
 
 pub save-at-and-tell-spec : {M : Type 1} → statement M

@@ -101,7 +101,7 @@ older c a long =
     let s = start-of (first-of b) in
     let m : List ℕ = b .save-apart .last .1 .1 .0 in
     given
-    (long-ago-reads (X s) (s .args .fresh) (omega arith) (s .args .v) none (s .args .x .now) (again s) a (morning (b .save-apart .last .0) (b .save-apart .last .1 .0) m) (s .args .old .now) (later b m (s .args .old .now) a refl long))
+    (long-ago-reads (X s) (s .args .fresh) (omega arith) (s .args .v) (commit none) refl (s .args .x .now) (again s) a (morning (b .save-apart .last .0) (b .save-apart .last .1 .0) m) (s .args .old .now) (later b m (s .args .old .now) a refl long))
     (c .show-back .ensures .0) (c .show-back .ensures .1)
 
 save-requires : tie.Need-save-requires

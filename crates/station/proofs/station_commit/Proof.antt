@@ -8,7 +8,7 @@ use Rattle.disc.specs.Disc.{Disc, lent}
 use Rattle.recorder.specs.Calls.{commit}
 use Rattle.recorder.specs.Refusals.{outcome}
 use Rattle.recorder.specs.Effects.{left}
-use Rattle.calls.proofs.Left.{same-left, refused-left, commit-saves, commit-left}
+use Rattle.calls.proofs.Left.{refused-left, commit-saves, commit-left}
 use borrow.Author.Needs.{needs}
 use Rattle.station.proofs.station_commit.Statement.{statement}
 use Rattle.station.proofs.station_commit.Tie as tie
@@ -78,8 +78,7 @@ same-length-6 c = search needs
 returns-2 : tie.Need-returns-2
 returns-2 c =
     let v = after-save c in let e = admitted v in let s = start-of e in
-    let r = v .save .ensures in
-    same-left (r .0) (r .1) (r .2) (r .3) ∙ commit-left (D s) (L s) none (done e)
+    commit-left (D s) (L s) none (done e) (v .save .ensures)
 
 pub station-commit-spec : {M : Type 1} → statement M
 station-commit-spec =

@@ -22,6 +22,8 @@ pub enum Refusal {
     NoRoom = 14,
     WouldBeVat = 15,
     BadTimestamp = 16,
+    SessionClosed = 17,
+    PartitionStart = 18,
 }
 
 /// "the pair is one 64-bit number: outcome × 4,294,967,296 + second number";

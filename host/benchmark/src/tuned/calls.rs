@@ -1,15 +1,26 @@
-//! The ten calls, each with its refusals in the order of its tests.
+//! The eleven calls, each with its refusals in the order of its tests.
 
+use std::ops::Range;
+
+use super::anchor::{has_pointer_tag, put_pointer, Anchor, MOST_START};
 use super::answer::{refuse, Answer, Refusal};
-use super::disc::{Disc, DATA, LINK};
+use super::disc::{Disc, BEFORE_TABLE, DATA, LINK};
 use super::fields::u32_at;
 use super::ledger::{self, put_u32, Ledger, LEDGER};
 use super::ledger::{IDLE, LAST_VAT, MODE, PACKET_OPEN, READ_ONLY, RECORDED, SIZE};
-use super::table::{put_vat, recognise, Sector, LIMIT, NONE};
+use super::table::{put_vat, recognise, Sector, LIMIT, NONE, SECTOR};
 use super::time::{told, Stamp, NO_STAMP, TIME};
 
-/// "Write needs links + 1 + 8 blank sectors": room kept for links and a commit.
-const RESERVE: usize = 8;
+/// "Write needs links + 1 + 8 blank sectors"; "On discs of 1,000 sectors or more a
+/// write must leave 264 instead of 8" (document 02).
+#[inline(always)]
+fn reserve(sectors: usize) -> usize {
+    if sectors < 1000 {
+        8
+    } else {
+        264
+    }
+}
 
 /// Refusal 2 of the ledger: "a lent ledger is not 1,848".
 #[inline(always)]
@@ -67,11 +78,14 @@ pub fn write(
     refuse(v as usize >= LIMIT, Refusal::AboveLimit)?;
     refuse(v > size, Refusal::AboveSize)?;
     refuse(
-        kinds.len() - recorded < links + 1 + RESERVE,
+        kinds.len() - recorded < links + 1 + reserve(kinds.len()),
         Refusal::NoRoom,
     )?;
-    refuse(recognise(data, place as u32).is_some(), Refusal::WouldBeVat)?;
-    *record(image, kinds, recorded, links) = *data;
+    refuse(
+        has_pointer_tag(data, place as u32) || recognise(data, place as u32).is_some(),
+        Refusal::WouldBeVat,
+    )?;
+    *record(image, kinds, recorded..place, place) = *data;
     put_u32(ledger, 4 * v as usize, place as u32);
     put_u32(ledger, SIZE, size + u32::from(v == size));
     open_packet(ledger, place);
@@ -102,7 +116,7 @@ pub fn commit(image: &mut [u8], kinds: &mut [u8], ledger: &mut [u8]) -> Answer {
     let disc = Disc::lent(image, kinds)?;
     let ledger = lent_ledger(ledger)?;
     let recorded = ledger::writable(ledger, &disc)?;
-    save(image, kinds, ledger, recorded, &NO_STAMP)
+    save(image, kinds, ledger, recorded, 0, &NO_STAMP)
 }
 
 /// "A second form of commit takes a 12-byte ECMA-167 timestamp"; 16 "is tested
@@ -113,10 +127,32 @@ pub fn commit_at(image: &mut [u8], kinds: &mut [u8], ledger: &mut [u8], stamp: &
     let stamp: &Stamp = stamp.try_into().map_err(|_| Refusal::LentLength)?;
     let recorded = ledger::writable(ledger, &disc)?;
     refuse(told(stamp).is_none(), Refusal::BadTimestamp)?;
-    save(image, kinds, ledger, recorded, stamp)
+    save(image, kinds, ledger, recorded, 0, stamp)
 }
 
-/// Either form of commit: "links + 1" blank sectors; "previous = the ledger's last
+/// "Closing records, after links as usual, an Anchor Volume Descriptor Pointer, 255
+/// zero sectors and the table sector, all as data"; 18 is "tested directly after 17"
+/// (document 02).
+pub fn close_session(
+    image: &mut [u8],
+    kinds: &mut [u8],
+    ledger: &mut [u8],
+    anchor: &Anchor,
+) -> Answer {
+    let disc = Disc::lent(image, kinds)?;
+    let ledger = lent_ledger(ledger)?;
+    let recorded = ledger::writable(ledger, &disc)?;
+    refuse(anchor.partition_start > MOST_START, Refusal::PartitionStart)?;
+    let table = save(image, kinds, ledger, recorded, BEFORE_TABLE, &NO_STAMP)?;
+    let pointer = table as usize - BEFORE_TABLE;
+    let sectors = &mut image.as_chunks_mut::<SECTOR>().0[pointer..table as usize];
+    sectors.as_flattened_mut().fill(0);
+    put_pointer(&mut sectors[0], pointer as u32, anchor);
+    Ok(table)
+}
+
+/// Either form of commit, and a closing, which records so many data sectors before
+/// the table: "links + 1" blank sectors and these; "previous = the ledger's last
 /// table".
 #[inline(always)]
 fn save(
@@ -124,15 +160,16 @@ fn save(
     kinds: &mut [u8],
     ledger: &mut Ledger,
     recorded: usize,
+    before: usize,
     stamp: &Stamp,
 ) -> Answer {
-    let links = ledger::links(ledger, recorded);
-    let place = recorded + links;
-    refuse(kinds.len() - recorded < links + 1, Refusal::NoRoom)?;
+    let first = recorded + ledger::links(ledger, recorded);
+    let place = first + before;
+    refuse(kinds.len() <= place, Refusal::NoRoom)?;
     let entries = &ledger[..4 * u32_at(ledger, SIZE) as usize];
     let previous = u32_at(ledger, LAST_VAT);
     put_vat(
-        record(image, kinds, recorded, links),
+        record(image, kinds, recorded..first, place),
         place as u32,
         entries,
         previous,
@@ -168,19 +205,18 @@ pub fn time_of(image: &[u8], kinds: &[u8], ledger: &[u8], k: u32, answer: &mut [
     Ok(0)
 }
 
-/// "For a link sector only its kind changes, to 2; its image bytes stay." The
-/// answer is where the data sector's bytes go.
+/// "For a link sector only its kind changes, to 2; its image bytes stay." Behind the
+/// links data sectors are recorded; the answer is where the last one's bytes go.
 #[inline(always)]
 fn record<'a>(
     image: &'a mut [u8],
     kinds: &mut [u8],
-    recorded: usize,
-    links: usize,
+    links: Range<usize>,
+    last: usize,
 ) -> &'a mut Sector {
-    let place = recorded + links;
-    kinds[recorded..place].fill(LINK);
-    kinds[place] = DATA;
-    &mut image.as_chunks_mut().0[place]
+    kinds[links.end..=last].fill(DATA);
+    kinds[links].fill(LINK);
+    &mut image.as_chunks_mut().0[last]
 }
 
 /// "After each call that is done, the ledger's recorded equals the disc's";

@@ -3,6 +3,7 @@
 
 use core::ops::Range;
 
+use super::anchor::has_pointer_tag;
 use super::answer::{refuse, Refusal};
 use super::table::{is_tagged, recognise, Sector, Vat, NONE, SECTOR};
 
@@ -14,6 +15,9 @@ const UNREADABLE: u8 = 3;
 
 /// "It has 1 to 360,000 sectors."
 const MOST_SECTORS: usize = 360_000;
+
+/// A closing's pointer stands so many sectors before its table.
+pub const BEFORE_TABLE: usize = 256;
 
 /// Sectors that the search passes over at a time.
 const GROUP: usize = 8;
@@ -121,6 +125,27 @@ impl<'a> Disc<'a> {
             found = self.vat_at(previous).ok_or(Refusal::ChainBroken)?;
         }
         Ok(found)
+    }
+
+    /// "A disc is closed exactly if its last recorded sector is a table, the 256
+    /// before it have kind 1, and the first of these has" a pointer's tag (document
+    /// 02). On nearly every other disc that tag alone is looked at: one line of the
+    /// cache. The table's CRC comes last.
+    #[inline(always)]
+    pub fn is_closed(&self, recorded: usize) -> bool {
+        match recorded.checked_sub(BEFORE_TABLE + 1) {
+            Some(pointer) if has_pointer_tag(&self.sectors[pointer], pointer as u32) => {
+                self.ends_a_session(pointer)
+            }
+            _ => false,
+        }
+    }
+
+    #[inline(never)]
+    fn ends_a_session(&self, pointer: usize) -> bool {
+        let table = pointer + BEFORE_TABLE;
+        self.kinds[pointer..table].iter().all(|kind| *kind == DATA)
+            && self.vat_at(table as u32).is_some()
     }
 }
 

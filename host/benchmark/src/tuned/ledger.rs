@@ -32,11 +32,13 @@ pub fn fitting(ledger: &Ledger, disc: &Disc) -> Result<usize, Refusal> {
     Ok(recorded)
 }
 
-/// Refusal 5 too: "write, release, close packet or commit with mode 2".
+/// Refusal 5 too: "write, release, close packet or commit with mode 2"; and refusal
+/// 17, "tested directly after 5" (document 02).
 #[inline(always)]
 pub fn writable(ledger: &Ledger, disc: &Disc) -> Result<usize, Refusal> {
     let recorded = fitting(ledger, disc)?;
     refuse(u32_at(ledger, MODE) == READ_ONLY, Refusal::ReadOnly)?;
+    refuse(disc.is_closed(recorded), Refusal::SessionClosed)?;
     Ok(recorded)
 }
 

@@ -1,4 +1,4 @@
-//! A tuned version of the documents' ten calls, for the comparison alone.
+//! A tuned version of the documents' eleven calls, for the comparison alone.
 //!
 //! Written to be fast in safe Rust for plain x86-64, with the same contract as
 //! the recording core: the 64-bit answer and every lent byte. No call allocates.
@@ -7,12 +7,15 @@
 //! - [`crc`]: the sum, sixteen bytes at a time;
 //! - [`time`]: timestamps, their limits, and the minutes that they tell;
 //! - [`table`]: the table sector at block b, recognised and made;
-//! - [`disc`]: one pass over the kinds, the newest table, the walk back;
+//! - [`anchor`]: the pointer that a closing records, and its tag;
+//! - [`disc`]: one pass over the kinds, the newest table, the walk back, whether it
+//!   is closed;
 //! - [`ledger`]: the volume's working state, and when it fits the disc;
-//! - [`calls`]: the ten calls; [`answer`]: their two numbers.
+//! - [`calls`]: the eleven calls; [`answer`]: their two numbers.
 
 #![forbid(unsafe_code)]
 
+mod anchor;
 mod answer;
 mod calls;
 mod crc;
@@ -22,6 +25,7 @@ mod ledger;
 mod table;
 mod time;
 
+use anchor::{Anchor, Extent};
 use answer::packed;
 
 pub use crc::crc;
@@ -67,4 +71,29 @@ pub fn look_back(image: &[u8], kinds: &[u8], ledger: &mut [u8], k: u32) -> u64 {
 
 pub fn time_of(image: &[u8], kinds: &[u8], ledger: &[u8], k: u32, answer: &mut [u8]) -> u64 {
     packed(calls::time_of(image, kinds, ledger, k, answer))
+}
+
+#[allow(clippy::too_many_arguments)]
+pub fn close_session(
+    image: &mut [u8],
+    kinds: &mut [u8],
+    ledger: &mut [u8],
+    main_length: u32,
+    main_location: u32,
+    reserve_length: u32,
+    reserve_location: u32,
+    partition_start: u32,
+) -> u64 {
+    let anchor = Anchor {
+        main: Extent {
+            length: main_length,
+            location: main_location,
+        },
+        reserve: Extent {
+            length: reserve_length,
+            location: reserve_location,
+        },
+        partition_start,
+    };
+    packed(calls::close_session(image, kinds, ledger, &anchor))
 }

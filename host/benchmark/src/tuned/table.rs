@@ -20,7 +20,7 @@ pub const LIMIT: usize = 458;
 const TAG: u32 = 261 | 2 << 16;
 
 /// Byte 16: where the CRC starts, behind the tag.
-const BODY: usize = 16;
+pub const BODY: usize = 16;
 
 /// Access, modification and attribute time.
 const TIMES: [usize; 3] = [72, MODIFIED, 96];
@@ -95,7 +95,7 @@ fn has_tag(sector: &Sector, b: u32) -> bool {
     u32_at(sector, 12) == b && sector[5] == 0 && sector[4] == tag_sum(sector)
 }
 
-fn tag_sum(sector: &Sector) -> u8 {
+pub fn tag_sum(sector: &Sector) -> u8 {
     let add = |sum: u8, byte: &u8| sum.wrapping_add(*byte);
     sector[..BODY].iter().fold(0, add).wrapping_sub(sector[4])
 }

@@ -114,6 +114,7 @@ impl Desk {
         let mut around = Surroundings {
             input: &mut &BLOCK[..],
             output: &mut Vec::new(),
+            aside: &mut Vec::new(),
             disk: &move |files| {
                 let steps = noted.clone();
                 Box::new(Noted { files, steps })
@@ -233,6 +234,34 @@ fn digits_across_two_pieces() {
             desk.take(&event("commit run.disc", Call::Commit));
         }
     }
+}
+
+/// "In the cut rule a closing counts as a commit." The digits of its 264 sectors lie
+/// across two pieces too.
+#[test]
+fn every_state_of_a_closing() {
+    let mut desk = Desk::new(1200, 400);
+    let events = [
+        event("close run.disc", Call::ClosePacket),
+        cut(
+            "cut 100 --torn close-session run.disc --main 32768,96 --reserve 32768,240 --start 257",
+            Call::Commit,
+        ),
+        event("mount run.disc", Call::Mount),
+        event("write run.disc 0", Call::Write(0)),
+        event(
+            "close-session run.disc --main 32768,96 --reserve 32768,240 --start 257",
+            Call::Commit,
+        ),
+        event("mount run.disc", Call::Mount),
+        event("read run.disc 0", Call::Read(0)),
+    ];
+    for event in &events {
+        desk.take(event);
+    }
+    println!("{} states judged", desk.judged);
+    assert!(desk.judged > 40, "{}", desk.judged);
+    assert_eq!(desk.book.pages.len(), 2);
 }
 
 /// Before the first save: begin is done whatever is left.

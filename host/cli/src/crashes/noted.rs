@@ -9,8 +9,9 @@ use crate::failure::Done;
 /// The disk takes such a piece of a file whole or not at all.
 const PIECE: usize = 512;
 
-/// The most pieces that wait for one flush: all subsets of them are built.
-const MOST_WAITING: usize = 10;
+/// The most pieces of which all subsets are built. Of more, as the sectors of a
+/// closing have, some are.
+const MOST_PIECES: usize = 10;
 
 #[derive(Clone, Debug)]
 pub enum Step {
@@ -105,15 +106,45 @@ pub fn states(before: &State, steps: &[Step]) -> Vec<State> {
         names: Vec::new(),
     };
     let mut states = vec![before.clone()];
-    for step in steps {
-        model.take(step);
+    let mut note = |model: &Model| {
         for state in model.states() {
             if !states.contains(&state) {
                 states.push(state);
             }
         }
+    };
+    for step in steps {
+        // Of what waits before a flush, all that waited earlier is a subset.
+        if matches!(step, Step::FlushDisc) {
+            note(&model);
+        }
+        model.take(step);
+        if !matches!(step, Step::WriteDisc(..)) {
+            note(&model);
+        }
     }
     states
+}
+
+/// Of so many pieces, which are on the disk.
+fn subsets(pieces: usize) -> Vec<Vec<bool>> {
+    let subset = |has: &dyn Fn(usize) -> bool| (0..pieces).map(has).collect();
+    if pieces <= MOST_PIECES {
+        let all = 0..1 << pieces;
+        return all
+            .map(|bits: u32| subset(&|piece| bits >> piece & 1 == 1))
+            .collect();
+    }
+    vec![
+        subset(&|_| false),
+        subset(&|_| true),
+        subset(&|piece| piece > 0),
+        subset(&|piece| piece + 1 < pieces),
+        subset(&|piece| piece < pieces / 2),
+        subset(&|piece| piece >= pieces / 2),
+        subset(&|piece| piece % 2 == 0),
+        subset(&|piece| piece % 3 != 0),
+    ]
 }
 
 impl Model {
@@ -144,14 +175,12 @@ impl Model {
     }
 
     fn states(&self) -> Vec<State> {
-        assert!(self.waiting.len() <= MOST_WAITING, "too many to build all");
         let mut states = Vec::new();
-        for subset in 0..1u32 << self.waiting.len() {
+        for subset in subsets(self.waiting.len()) {
             let mut disc = self.certain.disc.clone();
-            for (place, (at, bytes)) in self.waiting.iter().enumerate() {
-                if subset >> place & 1 == 1 {
-                    put(&mut disc, *at, bytes);
-                }
+            let pieces = self.waiting.iter().zip(subset);
+            for ((place, bytes), _) in pieces.filter(|(_, on_disk)| *on_disk) {
+                put(&mut disc, *place, bytes);
             }
             for ledger in self.names.iter().chain([&self.certain.ledger]) {
                 states.push(State {

@@ -26,6 +26,10 @@ pub const EXAMPLE_LISTING: &str = "   k   block  size  used
 clean
 ";
 
+/// A closing, with the numbers of a disc of mkudffs.
+pub const CLOSE_SESSION: &str =
+    "close-session run.disc --main 32768,96 --reserve 32768,240 --start 257";
+
 /// The proved listing program; `rt check list` makes it.
 const PROVED_LISTING: &str = concat!(env!("CARGO_MANIFEST_DIR"), "/../../target/bin/list");
 
@@ -235,6 +239,23 @@ impl Folder {
             folder.done(line);
         }
         folder.done("commit run.disc");
+        folder
+    }
+
+    /// A save, then a run that is not saved, and the packet open.
+    pub fn to_be_closed(sectors: usize) -> Folder {
+        let folder = Folder::begun(sectors);
+        folder.write(0, "run A");
+        folder.done("commit run.disc");
+        assert_eq!(folder.write(1, "run B"), "block 2\n");
+        folder
+    }
+
+    /// The same, closed.
+    pub fn closed() -> Folder {
+        let folder = Folder::to_be_closed(300);
+        let told = folder.run(CLOSE_SESSION);
+        assert_eq!(told.status, 0, "{told:?}");
         folder
     }
 

@@ -1,17 +1,13 @@
--- `calls::admit::commit` meets its contract: 1 to 5 stop it first, and then the want of room.
+-- `calls::admit::commit` meets its contract: 1 to 5 and 17 stop it first, and then the want of room.
 -- Assumes nothing.
-use Prim.Native.Nat.{ℕ, _+_, _-_}
+use Prim.Native.Nat.{ℕ}
 use native.Mathlib.Omega.{arith}
-use mathlib.Core.Path.{_≡_, refl, sym, ap, _∙_}
+use mathlib.Core.Path.{_≡_, refl, sym, _∙_}
 use mathlib.Core.Bool.{true, _&&_}
-use mathlib.Core.List.{List, [], _∷_}
+use mathlib.Core.List.{List}
 use mathlib.Core.Option.{none}
-use lib.Dec.{ltb}
-use lib.ListN.{length}
 use Rattle.disc.specs.Disc.{Disc, lent}
-use Rattle.disc.proofs.Recording.{leading-le}
-use Rattle.volume.specs.Volume.{unpack}
-use Rattle.recorder.specs.Refusals.{test, first, links, ledgerLent}
+use Rattle.recorder.specs.Refusals.{first, ledgerLent}
 use Rattle.recorder.proofs.Done.{workingTests, Admitted, working-admits}
 use Rattle.calls.proofs.Outcomes.{commit-stopped, commit-tested}
 use borrow.Author.Needs.{needs}
@@ -48,16 +44,12 @@ returns c =
     e ∙ sym (commit-stopped (D s) (L s) none (λ z. c .if1 .taken (e ∙ z)))
 
 room-requires : tie.Need-room-requires
-room-requires c κs =
-    let a = admits c in
-    (a .ledger-long, omega (arith, a .fit .same-recorded, leading-le (D (start-of c) .kinds)), a .sound-disc .few)
+room-requires c κs = let a = admits c in (a .ledger-long, a .fit .same-recorded, a .sound-disc .few, omega arith)
 
 returns-2 : tie.Need-returns-2
 returns-2 c =
     let e = c .before in let s = start-of e in
-    c .room .ensures
-    ∙ ap (λ (r : ℕ). first (test 14 (ltb (length (D s .kinds) - r) (links (unpack (L s)) + 1)) ∷ [])) (admits e .fit .same-recorded)
-    ∙ sym (commit-tested (D s) (L s) none (passed e) refl)
+    c .room .ensures ∙ sym (commit-tested (D s) (L s) none (passed e) refl)
 
 pub commit-spec : {M : Type 1} → statement M
 commit-spec = tie.close (tie.spec working-requires returns room-requires returns-2)

@@ -1,20 +1,18 @@
--- `calls::admit::commit_at` meets its contract: 1 to 5 stop it first, then a timestamp beyond its limits, and then the want of room.
+-- `calls::admit::commit_at` meets its contract: 1 to 5 and 17 stop it first, then a timestamp beyond its limits, and then the want of room.
 -- Assumes nothing.
-use Prim.Native.Nat.{ℕ, _+_, _-_}
+use Prim.Native.Nat.{ℕ}
 use native.Mathlib.Omega.{arith}
 use mathlib.Core.Path.{_≡_, sym, ap, _∙_}
 use mathlib.Core.Bool.{true, false, _&&_, not}
-use mathlib.Core.List.{List, [], _∷_}
+use mathlib.Core.List.{List}
 use mathlib.Core.Option.{some}
-use lib.Dec.{eqb, ltb}
+use lib.Dec.{eqb}
 use lib.ListN.{length}
 use borrow.Author.Tests.{eqb-true, not-true, not-false}
 use Rattle.le.proofs.Rows.{and-right}
 use Rattle.timestamp.specs.Timestamp.{stampLength, valid}
 use Rattle.disc.specs.Disc.{Disc, lent}
-use Rattle.disc.proofs.Recording.{leading-le}
-use Rattle.volume.specs.Volume.{unpack}
-use Rattle.recorder.specs.Refusals.{test, first, links, ledgerLent, unfit, forbidden}
+use Rattle.recorder.specs.Refusals.{first, ledgerLent, gate}
 use Rattle.recorder.proofs.Done.{workingTests, Admitted, working-admits, basic-passed}
 use Rattle.calls.proofs.Outcomes.{commit-stopped, commit-16, commit-tested}
 use borrow.Author.Needs.{needs}
@@ -49,7 +47,7 @@ timely c =
     let s = start-of c in
     eqb-true (length (S s)) stampLength
     (and-right (ledgerLent (L s)) (eqb (length (S s)) stampLength)
-    (basic-passed (D s) (ledgerLent (L s) && eqb (length (S s)) stampLength) (unfit (D s) (L s) ∷ forbidden (L s) ∷ []) (passed c) .lent))
+    (basic-passed (D s) (ledgerLent (L s) && eqb (length (S s)) stampLength) (gate (D s) (L s)) (passed c) .lent))
 
 working-requires : tie.Need-working-requires
 working-requires c κs = search needs
@@ -70,17 +68,13 @@ returns-2 c =
     sym (commit-16 (D s) (L s) (some (S s)) (passed e) (ap not wrong))
 
 room-requires : tie.Need-room-requires
-room-requires c κs =
-    let e = c .before .before in let a = admits e in
-    (a .ledger-long, omega (arith, a .fit .same-recorded, leading-le (D (start-of e) .kinds)), a .sound-disc .few)
+room-requires c κs = let a = admits (c .before .before) in (a .ledger-long, a .fit .same-recorded, a .sound-disc .few, omega arith)
 
 returns-3 : tie.Need-returns-3
 returns-3 c =
     let v = c .before .before in let e = v .before in let s = start-of e in
     let right : valid (S s) ≡ true = sym (v .valid .ensures) ∙ not-false (v .valid .result) (c .before .if2 .left) in
-    c .room .ensures
-    ∙ ap (λ (r : ℕ). first (test 14 (ltb (length (D s .kinds) - r) (links (unpack (L s)) + 1)) ∷ [])) (admits e .fit .same-recorded)
-    ∙ sym (commit-tested (D s) (L s) (some (S s)) (passed e) (ap not right))
+    c .room .ensures ∙ sym (commit-tested (D s) (L s) (some (S s)) (passed e) (ap not right))
 
 pub commit-at-spec : {M : Type 1} → statement M
 commit-at-spec =

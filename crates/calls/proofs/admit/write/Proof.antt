@@ -1,20 +1,22 @@
--- `calls::admit::write` meets its contract: 1 to 5 stop it first, then the number, the room, and the lent block.
+-- `calls::admit::write` meets its contract: 1 to 5 and 17 stop it first, then the number, the room, and the lent block.
 -- Assumes nothing.
-use Prim.Native.Nat.{ℕ, _+_, _-_, _<_, _≤_}
+use Prim.Native.Nat.{ℕ, _+_, _<_, _≤_}
 use native.Mathlib.Omega.{arith}
 use mathlib.Core.Path.{_≡_, sym, ap₂, _∙_}
-use mathlib.Core.Bool.{Bool, true, false, _&&_}
+use mathlib.Core.Bool.{Bool, _&&_}
 use mathlib.Core.List.{List, [], _∷_}
 use lib.Dec.{eqb}
 use lib.ListN.{length}
-use Rattle.vat.specs.Table.{sectorLength, limit, isTable}
+use borrow.Author.Tests.{eqb-true}
+use Rattle.le.proofs.Rows.{and-right}
+use Rattle.vat.specs.Table.{sectorLength, limit}
 use Rattle.disc.specs.Disc.{Disc, lent, recorded}
 use Rattle.disc.proofs.Recording.{leading-le}
 use Rattle.volume.specs.Volume.{unpack}
 use Rattle.recorder.specs.Calls.{write}
-use Rattle.recorder.specs.Refusals.{first, test, links, target, ledgerLent, outcome}
-use Rattle.recorder.proofs.Done.{stop, skip, none-left, workingTests, Admitted, working-admits, links-few}
-use Rattle.calls.proofs.Outcomes.{write-stopped, write-12, write-13, write-14, write-tested}
+use Rattle.recorder.specs.Refusals.{first, test, target, ledgerLent, gate, forbiddenAt, outcome}
+use Rattle.recorder.proofs.Done.{stop, skip, none-left, basic-passed, workingTests, Admitted, working-admits, links-few}
+use Rattle.calls.proofs.Outcomes.{reserve-few, write-stopped, write-12, write-13, write-14, write-tested}
 use borrow.Author.Needs.{needs}
 use Rattle.calls.proofs.admit.write.Statement.{statement}
 use Rattle.calls.proofs.admit.write.Tie as tie
@@ -51,6 +53,12 @@ none c = sym (c .before .working .ensures) ∙ c .if1 .left
 admits : (c : tie.Else1) → let s = start-of c in Admitted (D s) (L s) (whole s)
 admits c = let s = start-of c in working-admits (D s) (L s) (whole s) (none c)
 
+block-long : (c : tie.Else1) → length (start-of c .args .block .now) ≡ sectorLength
+block-long c =
+    let s = start-of c in
+    eqb-true (length (s .args .block .now)) sectorLength
+    (and-right (ledgerLent (L s)) (whole s) (basic-passed (D s) (ledgerLent (L s) && whole s) (gate (D s) (L s)) (none c) .lent))
+
 below-limit : (c : tie.Else3) → start-of (before-size c) .args .n < limit
 below-limit c = c .before .if2 .left
 
@@ -60,18 +68,21 @@ no-gap c = omega (arith, c .before .before .size .ensures, c .if3 .left)
 own : (c : tie.After-recorded) → c .recorded .result ≡ recorded (D (start-of (admitted c)))
 own c = c .recorded .ensures ∙ admits (admitted c) .fit .same-recorded
 
--- there is room, and only the block is left to test
-tested : (c : tie.Else4) → let s = start-of (admitted (c .before)) in outcome (D s) (L s) (write (s .args .n) (s .args .block .now))
-    ≡ first (test 15 (isTable 1 (s .args .block .now) (target (unpack (L s)))) ∷ [])
-tested c =
-    let r = c .before in let g = in-range r in let e = admitted r in let s = start-of e in
-    write-tested (D s) (L s) (s .args .n) (s .args .block .now) (none e) (below-limit g) (no-gap g)
-    (omega (arith, own r, r .before .links .ensures, c .if4 .left))
+-- the block that would be written is what no write may put there
+abbrev forbidden : tie.Start → Bool
+forbidden s = forbiddenAt (target (unpack (L s))) (s .args .block .now)
 
-judged : (c : tie.After-is-table) → let s = start-of (admitted (c .before .before)) in c .is-table .result ≡ isTable 1 (s .args .block .now) (target (unpack (L s)))
+-- there is room, and only the block is left to test
+tested : (c : tie.Else4) → let s = start-of (admitted (c .before .before)) in outcome (D s) (L s) (write (s .args .n) (s .args .block .now)) ≡ first (test 15 (forbidden s) ∷ [])
+tested c =
+    let r = c .before .before in let g = in-range r in let e = admitted r in let s = start-of e in
+    write-tested (D s) (L s) (s .args .n) (s .args .block .now) (none e) (below-limit g) (no-gap g)
+    (omega (arith, own r, r .before .links .ensures, c .before .reserve .ensures, c .if4 .left))
+
+judged : (c : tie.After-forbidden-at) → let r = c .before .before .before in c .forbidden-at .result ≡ forbidden (start-of (admitted r))
 judged c =
-    let r = c .before .before in let s = start-of (admitted r) in
-    c .is-table .ensures ∙ ap₂ (λ (r k : ℕ). isTable 1 (s .args .block .now) (r + k)) (r .recorded .ensures) (r .before .links .ensures)
+    let r = c .before .before .before in let s = start-of (admitted r) in
+    c .forbidden-at .ensures ∙ ap₂ (λ (r k : ℕ). forbiddenAt (r + k) (s .args .block .now)) (r .recorded .ensures) (r .before .links .ensures)
 
 working-requires : tie.Need-working-requires
 working-requires c κs = search needs
@@ -110,34 +121,37 @@ sub-blank c = omega (arith, own c, leading-le (D (start-of (admitted c)) .kinds)
 add-if4 : tie.Need-add-if4
 add-if4 c = omega (arith, c .before .links .ensures, links-few (unpack (L (start-of (admitted c)))))
 
+reserve-requires : tie.Need-reserve-requires
+reserve-requires c κs = search needs
+
 add-if4-2 : tie.Need-add-if4-2
-add-if4-2 c = omega (arith, c .before .links .ensures, links-few (unpack (L (start-of (admitted c)))))
+add-if4-2 c =
+    let r = c .before in let s = start-of (admitted r) in
+    omega (arith, r .before .links .ensures, links-few (unpack (L s)), c .reserve .ensures, reserve-few (length (D s .kinds)))
 
 returns-4 : tie.Need-returns-4
 returns-4 c =
-    let r = c .before in let g = in-range r in let e = admitted r in let s = start-of e in
+    let r = c .before .before in let g = in-range r in let e = admitted r in let s = start-of e in
     sym (write-14 (D s) (L s) (s .args .n) (s .args .block .now) (none e) (below-limit g) (no-gap g)
-    (omega (arith, own r, r .before .links .ensures, c .if4 .taken)))
+    (omega (arith, own r, r .before .links .ensures, c .before .reserve .ensures, c .if4 .taken)))
 
-add-is-table : tie.Need-add-is-table
-add-is-table c =
-    let r = c .before in let e = admitted r in let s = start-of e in
+add-forbidden-at : tie.Need-add-forbidden-at
+add-forbidden-at c =
+    let r = c .before .before in let e = admitted r in let s = start-of e in
     omega (arith, own r, leading-le (D s .kinds), admits e .sound-disc .few, r .before .links .ensures, links-few (unpack (L s)))
 
-is-table-requires : tie.Need-is-table-requires
-is-table-requires c κs = search needs
+forbidden-at-requires : tie.Need-forbidden-at-requires
+forbidden-at-requires c κs = block-long (admitted (c .before .before))
 
 returns-5 : tie.Need-returns-5
 returns-5 c =
-    let t = c .before .before in let s = start-of (admitted (t .before)) in
-    let wrong : isTable 1 (s .args .block .now) (target (unpack (L s))) ≡ true = sym (judged (c .before)) ∙ c .if5 .taken in
-    sym (tested t ∙ stop 15 (isTable 1 (s .args .block .now) (target (unpack (L s)))) [] wrong)
+    let t = c .before .before in let s = start-of (admitted (t .before .before)) in
+    sym (tested t ∙ stop 15 (forbidden s) [] (sym (judged (c .before)) ∙ c .if5 .taken))
 
 returns-6 : tie.Need-returns-6
 returns-6 c =
-    let t = c .before .before in let s = start-of (admitted (t .before)) in
-    let right : isTable 1 (s .args .block .now) (target (unpack (L s))) ≡ false = sym (judged (c .before)) ∙ c .if5 .left in
-    sym (tested t ∙ skip 15 (isTable 1 (s .args .block .now) (target (unpack (L s)))) [] right ∙ none-left)
+    let t = c .before .before in let s = start-of (admitted (t .before .before)) in
+    sym (tested t ∙ skip 15 (forbidden s) [] (sym (judged (c .before)) ∙ c .if5 .left) ∙ none-left)
 
 pub write-spec : {M : Type 1} → statement M
 write-spec =
@@ -153,9 +167,10 @@ write-spec =
     cast-blank
     sub-blank
     add-if4
+    reserve-requires
     add-if4-2
     returns-4
-    add-is-table
-    is-table-requires
+    add-forbidden-at
+    forbidden-at-requires
     returns-5
     returns-6)

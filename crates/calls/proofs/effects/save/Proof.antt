@@ -1,17 +1,18 @@
--- `calls::effects::save` meets its contract: links, the table sector behind them, and the state after it.
+-- `calls::effects::save` meets its contract: links, and the table sector and the state behind them.
 -- Assumes nothing.
-use Prim.Native.Nat.{ℕ, _*_, _≤_, _<_}
+use Prim.Native.Nat.{ℕ, _+_, _*_, _<_}
+use native.Mathlib.Nat.{add-zero}
 use native.Mathlib.Omega.{arith}
-use mathlib.Core.Path.{_≡_, sym, ap, ap₂, _∙_, subst}
-use mathlib.Core.List.{List}
-use lib.ListN.{length, set}
-use Rattle.vat.specs.Table.{sectorLength, limit}
-use Rattle.vat.specs.Sector.{sector}
-use Rattle.disc.specs.Disc.{stored}
+use mathlib.Core.Path.{_≡_, sym, ap, _∙_}
+use mathlib.Core.List.{List, []}
+use lib.ListN.{length}
+use Rattle.vat.specs.Table.{sectorLength}
+use Rattle.disc.specs.Disc.{Disc, lent, puts}
 use Rattle.disc.proofs.Recording.{length-links}
 use Rattle.volume.specs.declared.Volume.{Volume}
-use Rattle.volume.specs.Volume.{unpack, pack, mapOf, committed}
+use Rattle.volume.specs.Volume.{unpack, pack, committed}
 use Rattle.recorder.specs.Refusals.{links, target}
+use Rattle.calls.proofs.Left.{linkedKinds, saved-disc}
 use borrow.Author.Needs.{needs}
 use Rattle.calls.proofs.effects.save.Statement.{statement}
 use Rattle.calls.proofs.effects.save.Tie as tie
@@ -20,17 +21,11 @@ use Rattle.calls.proofs.effects.save.Tie as tie
 abbrev start-of : tie.After-record-links → tie.Start
 start-of c = c .before .before .before .before .before .before .before
 
-abbrev after-links : tie.After-load → tie.After-record-links
-after-links c = c .before .before .before .before
+abbrev after-links : tie.After-save-at-arg3 → tie.After-record-links
+after-links c = c .before .before .before .before .before
 
-abbrev after-load : tie.After-record-table-arg2 → tie.After-load
-after-load c = c .before .before
-
-abbrev after-table : tie.After-slice-known6 → tie.After-record-table
-after-table c = c .before .before .before .before
-
-abbrev after-committed : tie.After-slice-known7 → tie.After-committed
-after-committed c = c .before .before .before .before
+abbrev after-save : tie.After-slice-known7 → tie.After-save-at
+after-save c = c .before .before .before .before .before .before
 
 -- links leave as many kinds
 linked : (c : tie.After-record-links) → length (c .record-links .last .0) ≡ length (start-of c .args .kinds .now)
@@ -42,25 +37,12 @@ linked c =
 record-links-requires : tie.Need-record-links-requires
 record-links-requires c κs = search needs
 
-load-requires : tie.Need-load-requires
-load-requires c κs = search needs
-
-record-table-requires : tie.Need-record-table-requires
-record-table-requires c κs =
-    let m = after-load c in let r = after-links m in let s = start-of r in
+save-at-requires : tie.Need-save-at-requires
+save-at-requires c κs =
+    let r = after-links c in let s = start-of r in
     let same : length (r .record-links .last .0) ≡ length (s .args .kinds .now) = linked r in
-    let taken : r .record-links .result < length (r .record-links .last .0) = omega (arith, same, s .pre .2, r .record-links .ensures .0) in (
-      s .pre .1 ∙ ap (λ (n : ℕ). sectorLength * n) (sym same),
-      taken,
-      subst (λ (v : Volume). v .size ≤ limit) (sym (m .load .ensures)) (s .pre .4),
-      s .pre .5,
-    )
-
-committed-requires : tie.Need-committed-requires
-committed-requires c κs = search needs
-
-store-requires : tie.Need-store-requires
-store-requires c κs = search needs
+    let taken : r .record-links .result < length (r .record-links .last .0) = omega (arith, same, s .pre .2, r .record-links .ensures .0) in
+    (s .pre .0, s .pre .1 ∙ ap (λ (n : ℕ). sectorLength * n) (sym same), taken, omega (arith, same, s .pre .3), s .pre .4, s .pre .5)
 
 same-length : tie.Need-same-length
 same-length c = search needs
@@ -72,16 +54,19 @@ same-length-3 : tie.Need-same-length-3
 same-length-3 c = search needs
 
 returns : tie.Need-returns
+unfolding puts
 returns c =
-    let w = after-committed c in let p = after-table (w .before) in let m = after-load (p .before) in let r = after-links m in let s = start-of r in
-    let v : Volume = unpack (s .args .ledger .now) in
-    let image : List ℕ = s .args .image .now in
-    let at : r .record-links .result ≡ target v = r .record-links .ensures .0 in
-    let state : m .load .result ≡ v = m .load .ensures in (
+    let w = after-save c in let r = after-links (w .before) in let a = start-of r .args in
+    let d : Disc = lent (a .image .now) (a .kinds .now) in
+    let l : List ℕ = a .ledger .now in
+    let v : Volume = unpack l in
+    let b : ℕ = r .record-links .result in
+    let at : b ≡ target v + 0 = r .record-links .ensures .0 ∙ sym (add-zero (target v)) in
+    let x : Disc = lent (a .image .now) (r .record-links .last .0) in
+    let linked : x ≡ lent (a .image .now) (linkedKinds d l) = ap (lent (a .image .now)) (r .record-links .ensures .1) in (
       at,
-      p .record-table .ensures .0 ∙ ap₂ (λ (u : Volume) (n : ℕ). stored image (sectorLength * n) (sector (mapOf u) (u .last) (s .args .stamp .now) n)) state at,
-      p .record-table .ensures .1 ∙ ap₂ (λ (ks : List ℕ) (n : ℕ). set ks n 1) (r .record-links .ensures .1) at,
-      c .before .before .store .ensures ∙ ap pack (w .committed .ensures ∙ ap₂ committed at state),
+      w .save-at .ensures .0 ∙ saved-disc d l [] (a .stamp .now) x b linked at,
+      w .save-at .ensures .1 ∙ ap (λ (n : ℕ). pack (committed n v)) at,
     )
 
 pub save-spec : {M : Type 1} → statement M
@@ -89,10 +74,7 @@ save-spec =
     tie.close
     (tie.spec
     record-links-requires
-    load-requires
-    record-table-requires
-    committed-requires
-    store-requires
+    save-at-requires
     same-length
     same-length-2
     same-length-3

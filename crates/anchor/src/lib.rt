@@ -1,0 +1,56 @@
+// The Anchor Volume Descriptor Pointer: made, and known by its tag.
+ghost use mathlib.Core.Path.{_≡_};
+ghost use lib.ListN.{length};
+ghost use Rattle.le.specs.Field.{lay};
+ghost use Rattle.vat.specs.Table.{sectorLength};
+ghost use Rattle.anchor.specs.Anchor.{anchorRows, anchor, anchorTagged};
+
+pub const FARTHEST_START: u32 = 400000;
+
+// An extent as a descriptor names it: its length in bytes and its first sector.
+pub struct Extent {
+    pub length: u32,
+    pub location: u32,
+}
+
+fn put_rows(s: &mut [u8], main: Extent, reserve: Extent, location: u32)
+    requires { ⌜ length (now s) ≡ sectorLength ⌝ }
+    ensures { λ _. ⌜ now (s .exit) ≡ lay (now (s .entry)) (anchorRows main reserve location) ⌝ }
+{
+    le::put16(s, 0, 2);
+    le::put16(s, 2, 2);
+    le::put16(s, 10, 496);
+    le::put32(s, 12, location);
+    le::put32(s, 16, main.length);
+    le::put32(s, 20, main.location);
+    le::put32(s, 24, reserve.length);
+    le::put32(s, 28, reserve.location);
+}
+
+// The pointer with a tag location, into a lent sector.
+pub fn record(s: &mut [u8], main: Extent, reserve: Extent, location: u32)
+    requires { ⌜ length (now s) ≡ sectorLength ⌝ }
+    ensures { λ _. ⌜ now (s .exit) ≡ anchor main reserve location ⌝ }
+{
+    le::run::clear(s);
+    put_rows(s, main, reserve, location);
+    tag::seal(s);
+}
+
+// The identifier first: nearly every sector that has no such tag is known by it.
+pub fn tagged(s: &[u8], b: u32) -> bool
+    requires { ⌜ length (now s) ≡ sectorLength ⌝ }
+    ensures { λ r. ⌜ r ≡ anchorTagged (now (s .entry)) b ⌝ }
+{
+    if le::read16(s, 0) != 2 {
+        return false;
+    }
+    let location = le::read32(s, 12);
+    if location < b {
+        return false;
+    }
+    if FARTHEST_START < location - b {
+        return false;
+    }
+    tag::summed(s)
+}

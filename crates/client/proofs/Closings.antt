@@ -1,0 +1,88 @@
+-- What a host wants of a closed disc: it stays as it was, what was saved is read back, and a write is turned away.
+--     closing-reads     whatever was tried since
+--     write-is-refused  17, or one of 1 to 5
+-- Assumes nothing.
+use Prim.Native.Nat.{ℕ, zero, suc, _*_, _<_}
+use native.Mathlib.Omega.{arith}
+use mathlib.Core.Path.{_≡_, refl, sym, ap, _∙_, subst, subst₂}
+use mathlib.Core.Bool.{Bool, true, false}
+use mathlib.Core.List.{List, [], _∷_, _++_}
+use mathlib.Core.Logic.{inl, inr}
+use mathlib.Core.Option.{Option, some}
+use lib.ListN.{length, getD}
+use Rattle.vat.specs.Table.{sectorLength}
+use Rattle.anchor.specs.declared.Extent.{Extent}
+use Rattle.disc.specs.Disc.{Disc, lent}
+use Rattle.disc.specs.Session.{sessionClosed}
+use Rattle.volume.specs.Volume.{ledgerLength}
+use Rattle.recorder.specs.Calls.{Call, mount, write, closeSession}
+use Rattle.recorder.specs.Refusals.{outcome}
+use Rattle.recorder.specs.Effects.{After, left, after}
+use Rattle.history.specs.History.{unusedEntry, Snapshot, History}
+use Rattle.history.specs.Events.{Event, AllAllowed, runs, remembers, afterCall}
+use Rattle.history.specs.Claim.{DoneShowing}
+use Rattle.history.specs.Closed.{ClosedShowing, Closes, TurnedAway}
+use Rattle.history.proofs.Log.{some-same}
+use Rattle.history.proofs.Closed.{closed-discs}
+use Rattle.client.specs.Day.{Day, ended, called, day, AllDone, opening, leftBy, ClosedAnswer}
+use Rattle.client.proofs.Days.{joined, first-done, part-done, called-done, done-first, rest-done, last-called}
+use Rattle.client.proofs.Claimed.{world, history, startHistory, opened, remembered}
+use Rattle.client.proofs.Shown.{Reads, mount-reads}
+use Rattle.client.proofs.Saves.{firstPage, first-there}
+use Rattle.client.proofs.Times.{asEvents, Went, went}
+
+start-closes : (fresh : Bool) (d : Disc) (l : List ℕ) → outcome d l (opening fresh) ≡ 0 → (es : List Event) → AllAllowed (afterCall d l (opening fresh)) es
+    → Closes (runs (afterCall d l (opening fresh)) es) (remembers (afterCall d l (opening fresh)) (startHistory fresh d) es)
+start-closes true d l e = closed-discs .after-begin d l e
+start-closes false d l e = closed-discs .after-mount d l e
+
+module _ (x : Day) (fresh : Bool) (ok : x .answer < 4294967296) (before : List Call) (main reserve : Extent) (n : ℕ) (a : AllDone x (opening fresh ∷ (before ++ (closeSession main reserve n ∷ [])))) where
+  abbrev closing : Call
+  closing = closeSession main reserve n
+
+  -- the disc that the day left is closed, and shows the draft that was there before the closing
+  pub left-closed : (p : Snapshot) × (remembered x fresh before .draft ≡ some p) × ClosedShowing (day x (opening fresh ∷ (before ++ (closing ∷ []))) .disc) p
+  left-closed =
+      let o : Day = opened x fresh in
+      let h : History = startHistory fresh (x .disc) in
+      let e : outcome (x .disc) (x .ledger) (opening fresh) ≡ 0 = done-first x (opening fresh) (before ++ (closing ∷ [])) ok a in
+      let o-done : o .answer < 4294967296 = called-done x (opening fresh) (before ++ (closing ∷ [])) ok a in
+      let rest : AllDone o (before ++ (closing ∷ [])) = rest-done x (opening fresh) (before ++ (closing ∷ [])) ok a in
+      let b-done : AllDone o before = part-done before (closing ∷ []) o rest in
+      let y : Day = day o before in
+      let there : Went o h before = went before o h o-done b-done in
+      let closes : Closes (world y) (history o h before) = subst₂ Closes (there .ended) (there .recalled) (start-closes fresh (x .disc) (x .ledger) e (asEvents before) (there .allowed)) in
+      let is-done : outcome (y .disc) (y .ledger) closing ≡ 0 = done-first y closing [] b-done (subst (λ (z : Day). z .answer < 4294967296) (joined before (closing ∷ []) o) rest) in
+      let same : day x (opening fresh ∷ (before ++ (closing ∷ []))) ≡ called (y .disc) (y .ledger) closing = first-done x (opening fresh) (before ++ (closing ∷ [])) ok ∙ last-called o before closing b-done in
+      let left = closes (y .ledger) refl main reserve n is-done in
+      (left .0, left .1, subst (λ (z : Day). ClosedShowing (z .disc) (left .0)) (sym same) (left .2))
+
+-- whatever is tried leaves it
+pub closing-reads : (x : Day) (fresh : Bool) → x .answer < 4294967296 → (v : ℕ) (block : List ℕ) (main reserve : Extent) (n : ℕ)
+    → AllDone x (opening fresh ∷ write v block ∷ closeSession main reserve n ∷ []) → (held : Option (List ℕ)) (tried : List Event) (y : Day) (out : List ℕ) → y .answer < 4294967296
+    → y .disc ≡ leftBy (day x (opening fresh ∷ write v block ∷ closeSession main reserve n ∷ []) .disc) held tried → length (y .ledger) ≡ ledgerLength → length out ≡ sectorLength
+    → Reads y mount v out 0 block
+closing-reads x fresh ok v block main reserve n a held tried y out y-ok same long whole =
+    let d : Disc = day x (opening fresh ∷ write v block ∷ closeSession main reserve n ∷ []) .disc in
+    let left = left-closed x fresh ok (write v block ∷ []) main reserve n a in
+    let unchanged : leftBy d held tried ≡ d = closed-discs .unchanged (record { disc = d; ledger = held }) (left .2 .is-closed) tried in
+    let page : left .0 ≡ firstPage x fresh v block = some-same (left .0) (firstPage x fresh v block) (sym (left .1)) in
+    let shown : DoneShowing (y .disc) (y .ledger) mount (left .0) = subst (λ (z : Disc). DoneShowing z (y .ledger) mount (left .0)) (sym (same ∙ unchanged)) (left .2 .mounts (y .ledger) long) in
+    mount-reads y y-ok v out whole shown (ap (λ (p : Snapshot). getD p v unusedEntry) page ∙ first-there x fresh ok v block (closeSession main reserve n ∷ []) a)
+
+-- ---- a call that is turned away
+
+refused-whole : (d : Disc) (l : List ℕ) (v : ℕ) (block : List ℕ) (n : ℕ) → outcome d l (write v block) ≡ n → TurnedAway n
+    → after d l (write v block) ≡ record { answer = n * 4294967296; disc = d; ledger = l; buffer = block }
+unfolding after
+refused-whole d l v block zero e (inl z) = absurd (omega arith)
+refused-whole d l v block zero e (inr z) = absurd (omega (arith, z .0))
+refused-whole d l v block (suc n) e t = rw e
+
+pub write-is-refused : (i k l block : List ℕ) (v : ℕ) {r : ℕ} {i′ k′ l′ : List ℕ} → left r i′ k′ l′ block ≡ after (lent i k) l (write v block) → sessionClosed (lent i k) ≡ true
+    → ClosedAnswer r × (ended r i′ k′ l′ ≡ ended r i k l)
+write-is-refused i k l block v {r} {i′} {k′} {l′} e closed =
+    let n : ℕ = outcome (lent i k) l (write v block) in
+    let away : TurnedAway n = closed-discs .turned-away (lent i k) closed l (write v block) refl in
+    let all : left r i′ k′ l′ block ≡ left (n * 4294967296) i k l block = e ∙ refused-whole (lent i k) l v block n refl away in
+    ((n, away, ap (λ (x : After). x .answer) all), ap {B = Day} (λ (x : After). record { answer = r; disc = x .disc; ledger = x .ledger }) all)

@@ -1,0 +1,99 @@
+-- `client::close_and_mount` meets its contract: a closing, then a mount.
+-- Assumes nothing.
+use mathlib.Core.Path.{_≡_, refl, _∙_}
+use mathlib.Core.List.{List, [], _∷_}
+use native.Mathlib.Omega.{arith}
+use Rattle.anchor.specs.Anchor.{extent}
+use Rattle.recorder.specs.Calls.{Call, mount, write, closeSession}
+use Rattle.client.specs.Day.{Day, ended, morning, day, opening}
+use Rattle.client.proofs.Days.{one, stops, goes-on, not-done}
+use Rattle.client.proofs.Saves.{mounted-shows}
+use borrow.Author.Needs.{needs}
+use Rattle.client.proofs.close_and_mount.Statement.{statement}
+use Rattle.client.proofs.close_and_mount.Tie as tie
+
+-- the buffers as they are lent
+abbrev X : tie.Start → Day
+X s = morning (s .args .image .now) (s .args .kinds .now) (s .args .ledger .now)
+
+-- the places: the call that the test is about, the test, the last call
+abbrev start-of : tie.After-close → tie.Start
+start-of c = c .before .before .before .before .before .before .before .before
+
+abbrev tested : tie.After-slice-known6 → tie.After-close
+tested c = c .before .before .before .before .before .before
+
+abbrev test-of : tie.After-station-mount → tie.Else1
+test-of c = c .before .before .before .before
+
+abbrev last-call : tie.After-slice-known7 → tie.After-station-mount
+last-call c = c .before .before
+
+-- the closing
+abbrev closing : tie.Start → Call
+closing s = let a = s .args in closeSession (extent (a .main-length) (a .main-location)) (extent (a .reserve-length) (a .reserve-location)) (a .start)
+
+-- the first part of the day
+abbrev first-part : tie.Start → List Call
+first-part s = opening (s .args .fresh) ∷ write (s .args .v) (s .args .block .now) ∷ closing s ∷ []
+
+begun : (c : tie.After-close) → ended (c .close .result) (c .close .last .0) (c .close .last .1 .0) (c .close .last .1 .1 .0) ≡ day (X (start-of c)) (first-part (start-of c))
+begun c = c .close .ensures
+
+close-requires : tie.Need-close-requires
+close-requires c κs = search needs
+
+same-length : tie.Need-same-length
+same-length c = search needs
+
+same-length-2 : tie.Need-same-length-2
+same-length-2 c = search needs
+
+same-length-3 : tie.Need-same-length-3
+same-length-3 c = search needs
+
+returns : tie.Need-returns
+returns c =
+    let o = tested (c .before) in
+    let s = start-of o in (
+      stops (X s) (first-part s) (mount ∷ []) (begun o) (c .if1 .taken),
+      λ a. absurd (not-done (X s) (first-part s) [] (begun o) (c .if1 .taken) a),
+    )
+
+station-mount-requires : tie.Need-station-mount-requires
+station-mount-requires c κs = search needs
+
+same-length-4 : tie.Need-same-length-4
+same-length-4 c = search needs
+
+same-length-5 : tie.Need-same-length-5
+same-length-5 c = search needs
+
+same-length-6 : tie.Need-same-length-6
+same-length-6 c = search needs
+
+returns-2 : tie.Need-returns-2
+returns-2 c =
+    let l = last-call c in
+    let e = test-of l in
+    let o = tested (e .before) in
+    let s = start-of o in
+    let both = one (o .close .last .0) (o .close .last .1 .0) (o .close .last .1 .1 .0) (mount) (l .station-mount .ensures) ∙ goes-on (X s) (first-part s) [] (begun o) (mount) (e .if1 .left) in (
+      both,
+      λ a. mounted-shows (X s) (s .args .fresh) (omega arith) (s .args .v) (s .args .block .now) (closing s) refl a both,
+    )
+
+pub close-and-mount-spec : {M : Type 1} → statement M
+close-and-mount-spec =
+    tie.close
+    (tie.spec
+    close-requires
+    same-length
+    same-length-2
+    same-length-3
+    returns
+    station-mount-requires
+    same-length-4
+    same-length-5
+    same-length-6
+    returns-2)

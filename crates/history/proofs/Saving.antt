@@ -1,0 +1,178 @@
+-- A save, whichever call makes it: behind sectors that are no tables it records a table of the working map, the last sector then.
+--     told-save, unsaved    the calls that save make a page, and no others
+--     Saving, saving-done   what is known of a call that saves and is done
+--     save                  it leads to a save of the log
+--     save-time             whose time is the call's
+-- Assumes nothing.
+use Prim.Native.Nat.{ℕ, _+_, _≤_, _<_}
+use native.Mathlib.Omega.{arith}
+use mathlib.Core.Path.{_≡_, refl, ap, _∙_, subst}
+use mathlib.Core.Bool.{Bool, true, false, _||_}
+use mathlib.Core.List.{List, [], _++_}
+use mathlib.Core.Logic.{inl, inr}
+use lib.Dec.{eqb}
+use lib.ListN.{length, replicate, length-append, length-replicate}
+use borrow.Author.Tests.{eqb-true}
+use Rattle.vat.specs.Table.{sectorLength, unused, unusedOrBelow, isTable}
+use Rattle.vat.specs.Sector.{noStamp, sector}
+use Rattle.vat.proofs.Theorems.{recognised, ReadsBack, reads-back}
+use Rattle.anchor.specs.declared.Extent.{Extent}
+use Rattle.disc.specs.Disc.{Disc, recorded, Sector, link, puts}
+use Rattle.disc.specs.Tables.{tableAt, timeAt}
+use Rattle.disc.specs.Session.{closing}
+use Rattle.disc.proofs.Recording.{Sound}
+use Rattle.disc.proofs.Found.{table-recorded}
+use Rattle.volume.specs.declared.Volume.{Volume}
+use Rattle.volume.specs.Volume.{unpack, mapOf}
+use Rattle.volume.proofs.State.{Proper, length-map}
+use Rattle.recorder.specs.Calls.{Call, begin, mount, write, release, closePacket, commit, closeSession, read, lookBack, timeOf, bufferOf, saves}
+use Rattle.recorder.specs.Refusals.{links, target, outcome}
+use Rattle.recorder.specs.Effects.{saved, effect}
+use Rattle.recorder.proofs.Done.{Fits, SaveDone, commit-done, ClosingDone, closing-done}
+use Rattle.recorder.proofs.Sectors.{AllWhole, links-whole, whole-append, behind}
+use Rattle.history.specs.History.{History, Told, done}
+use Rattle.history.specs.Events.{told}
+use Rattle.history.specs.Times.{savedStamp}
+use Rattle.history.proofs.Log.{AllBelow, all-below-more, Saved, working}
+use Rattle.history.proofs.Growth.{F, below-to, all-below-of, all-below-to, NoTables, links-no-tables, no-tables-append, closing-no-tables, behind-time, behind-sound, behind-saved}
+
+-- ---- in the history
+
+-- a save counts as a commit
+pub told-save : (c : Call) → saves c ≡ true → told c ≡ Told.commit
+told-save begin s = absurd (mathlib.Core.Bool.false≢true s)
+told-save mount s = absurd (mathlib.Core.Bool.false≢true s)
+told-save (write n block) s = absurd (mathlib.Core.Bool.false≢true s)
+told-save (release n) s = absurd (mathlib.Core.Bool.false≢true s)
+told-save closePacket s = absurd (mathlib.Core.Bool.false≢true s)
+told-save (commit stamp) s = refl
+told-save (closeSession main reserve start) s = refl
+told-save (read n block) s = absurd (mathlib.Core.Bool.false≢true s)
+told-save (lookBack k) s = absurd (mathlib.Core.Bool.false≢true s)
+told-save (timeOf k answer) s = absurd (mathlib.Core.Bool.false≢true s)
+
+-- the other calls make no page
+pub unsaved : (c : Call) → saves c ≡ false → (second : ℕ) (h : History) → done (told c) second h .pages ≡ h .pages
+unsaved begin s second h = refl
+unsaved mount s second h = refl
+unsaved (write n block) s second h = refl
+unsaved (release n) s second h = refl
+unsaved closePacket s second h = refl
+unsaved (commit stamp) s second h = absurd (mathlib.Core.Bool.true≢false s)
+unsaved (closeSession main reserve start) s second h = absurd (mathlib.Core.Bool.true≢false s)
+unsaved (read n block) s second h = refl
+unsaved (lookBack k) s second h = refl
+unsaved (timeOf k answer) s second h = refl
+
+-- ---- on the disc
+
+pub record Saving (d : Disc) (l : List ℕ) (c : Call) : Type 0 where
+  pub between : List Sector
+  pub done : SaveDone d l between (savedStamp c)
+  pub no-tables : (b : ℕ) → NoTables b between
+  pub leaves : effect d l c ≡ saved (unpack l) between (savedStamp c) (bufferOf c)
+
+pub closing-leaves : (d : Disc) (l : List ℕ) (main reserve : Extent) (start : ℕ)
+    → effect d l (closeSession main reserve start) ≡ saved (unpack l) (closing main reserve start (target (unpack l))) noStamp []
+unfolding effect
+closing-leaves d l main reserve start = refl
+
+abbrev pub closing-saving : (d : Disc) (l : List ℕ) (main reserve : Extent) (start : ℕ) → ClosingDone d l main reserve start → Saving d l (closeSession main reserve start)
+closing-saving d l main reserve start f =
+    record {
+      between = closing main reserve start (target (unpack l));
+      done = f .saving;
+      no-tables = closing-no-tables main reserve start (target (unpack l));
+      leaves = closing-leaves d l main reserve start;
+    }
+
+pub saving-done : (d : Disc) (l : List ℕ) (c : Call) → saves c ≡ true → outcome d l c ≡ 0 → Saving d l c
+unfolding effect
+saving-done d l begin s e = absurd (mathlib.Core.Bool.false≢true s)
+saving-done d l mount s e = absurd (mathlib.Core.Bool.false≢true s)
+saving-done d l (write n block) s e = absurd (mathlib.Core.Bool.false≢true s)
+saving-done d l (release n) s e = absurd (mathlib.Core.Bool.false≢true s)
+saving-done d l closePacket s e = absurd (mathlib.Core.Bool.false≢true s)
+saving-done d l (commit stamp) s e = record { between = []; done = commit-done d l stamp e .saving; no-tables = λ b. tt; leaves = refl }
+saving-done d l (closeSession main reserve start) s e = closing-saving d l main reserve start (closing-done d l main reserve start e)
+saving-done d l (read n block) s e = absurd (mathlib.Core.Bool.false≢true s)
+saving-done d l (lookBack k) s e = absurd (mathlib.Core.Bool.false≢true s)
+saving-done d l (timeOf k answer) s e = absurd (mathlib.Core.Bool.false≢true s)
+
+module _ (d : Disc) (l : List ℕ) (sound : Sound d) (good : Proper (unpack l)) where
+  pub enough : Fits d (unpack l) → unpack l .size ≤ length (unpack l .entries)
+  enough f = omega (arith, f .few, good .long)
+
+  -- the last table lies below what is recorded
+  last-below : Fits d (unpack l) → (b : ℕ) → recorded d ≤ b → unusedOrBelow b (unpack l .last) ≡ true
+  last-below f b h = go (eqb (unpack l .last) unused) refl (f .last-known)
+    where
+      go : (t : Bool) → eqb (unpack l .last) unused ≡ t → (t || tableAt d (unpack l .last)) ≡ true → unusedOrBelow b (unpack l .last) ≡ true
+      go true z e = below-to b (unpack l .last) (inr (eqb-true (unpack l .last) unused z))
+      go false z e = below-to b (unpack l .last) (inl (omega (arith, table-recorded d sound (unpack l .last) e)))
+
+  module _ (c : Call) (s : Saving d l c) where
+    -- the table, and all that comes before it
+    unfoldable pub tableSector : List ℕ
+    tableSector = sector (mapOf (unpack l)) (unpack l .last) (savedStamp c) (target (unpack l) + length (s .between))
+
+    abbrev pub beforeTable : List Sector
+    beforeTable = replicate (links (unpack l)) link ++ s .between
+
+    pub length-before : length beforeTable ≡ links (unpack l) + length (s .between)
+    length-before = length-append (replicate (links (unpack l)) link) (s .between) ∙ ap (λ (n : ℕ). n + length (s .between)) (length-replicate (links (unpack l)) link)
+
+    pub before-whole : AllWhole beforeTable
+    before-whole = whole-append (replicate (links (unpack l)) link) (s .between) (links-whole (links (unpack l))) (s .done .whole)
+
+    pub before-no-tables : NoTables (recorded d) beforeTable
+    before-no-tables =
+        no-tables-append (replicate (links (unpack l)) link) (s .between) (recorded d) (links-no-tables (links (unpack l)) (recorded d))
+        (s .no-tables (recorded d + length (replicate (links (unpack l)) link)))
+
+    pub room : recorded d + (length beforeTable + 1) ≤ length (d .kinds)
+    room = omega (arith, length-before, s .done .room)
+
+    pub small : recorded d + length beforeTable < unused
+    small = omega (arith, length-before, s .done .room, sound .few)
+
+    -- the block that it takes
+    pub at-table : target (unpack l) + length (s .between) ≡ recorded d + length beforeTable
+    at-table = omega (arith, length-before, s .done .fit .same-recorded)
+
+    pub leaves-behind : effect d l c .sectors ≡ behind beforeTable tableSector
+    unfolding tableSector
+    leaves-behind = ap (λ e. e .sectors) (s .leaves)
+
+    -- it is a table of the working map there
+    read-back : ReadsBack (mapOf (unpack l)) (unpack l .last) (savedStamp c) (target (unpack l) + length (s .between))
+    read-back =
+        let v : Volume = unpack l in
+        let b : ℕ = target v + length (s .between) in
+        let f : SaveDone d l (s .between) (savedStamp c) = s .done in
+        let lower : recorded d + length beforeTable < unused = small in
+        let below : AllBelow b (mapOf v) = all-below-more (v .recorded) b (mapOf v) (omega arith) (all-below-of (v .recorded) (mapOf v) (f .fit .entries-below)) in
+        reads-back (mapOf v) (v .last) (savedStamp c) b (omega (arith, length-map v (enough (f .fit)), f .fit .few)) (all-below-to b (mapOf v) below)
+        (last-below (f .fit) b (omega (arith, at-table))) (f .timely) (omega (arith, at-table))
+
+    pub sector-long : length tableSector ≡ sectorLength
+    unfolding tableSector
+    sector-long = recognised 1 tableSector (target (unpack l) + length (s .between)) (read-back .is-table) .whole
+
+    abbrev pub savedDisc : Disc
+    savedDisc = puts d (recorded d) (behind beforeTable tableSector)
+
+    pub save : Saved F d savedDisc (working F (mapOf (unpack l)) (unpack l .last)) (recorded d + length beforeTable)
+    unfolding tableSector
+    save =
+        let v : Volume = unpack l in
+        behind-saved d sound beforeTable before-whole before-no-tables tableSector sector-long room (working F (mapOf v) (v .last)) small
+        (subst (λ (b : ℕ). isTable 1 (sector (mapOf v) (v .last) (savedStamp c) (target v + length (s .between))) b ≡ true) at-table (read-back .is-table)) (read-back .entries) (read-back .previous-table)
+
+    pub save-sound : Sound savedDisc
+    save-sound = behind-sound d sound beforeTable before-whole before-no-tables tableSector sector-long room
+
+    -- and its time is the call's
+    pub save-time : timeAt savedDisc (recorded d + length beforeTable) ≡ savedStamp c
+    unfolding tableSector
+    save-time = behind-time d sound beforeTable before-whole before-no-tables tableSector sector-long room ∙ read-back .modified

@@ -1,0 +1,88 @@
+//! Closing a session, and whether a disc is closed.
+
+use crate::{close_packet, mount, raw, second, Refusal, LEDGER};
+
+/// An extent as a descriptor names it: its length in bytes and its first sector.
+#[derive(Clone, Copy, Debug, PartialEq, Eq)]
+pub struct Extent {
+    /// In bytes.
+    pub length: u32,
+    /// The number of its first sector.
+    pub location: u32,
+}
+
+/// Close session: records an Anchor Volume Descriptor Pointer, 255 zero sectors
+/// and the table sector, which becomes the last table, all as data. Plain CD-ROM
+/// drives read only closed sessions. The pointer names the main and the reserve
+/// extent, and its tag location is the partition's start plus its block. Mode is 1
+/// afterwards. The answer is the block of the table; the pointer stands 256 before
+/// it.
+///
+/// The disc is then closed, and nothing more is recorded on it.
+///
+/// ```
+/// use station::{Extent, Refusal, LEDGER, SECTOR};
+///
+/// let sectors = 1000;
+/// let (mut image, mut kinds) = (vec![0; sectors * SECTOR], vec![0; sectors]);
+/// let mut ledger = [0; LEDGER];
+/// station::begin(&image, &kinds, &mut ledger)?;
+/// station::write(&mut image, &mut kinds, &mut ledger, 0, &[0x5A; SECTOR])?;
+///
+/// let main = Extent { length: 16 * 2048, location: 32 };
+/// let reserve = Extent { length: 16 * 2048, location: 64 };
+/// let table = station::close_session(&mut image, &mut kinds, &mut ledger, main, reserve, 300)?;
+/// assert_eq!(table, 1 + 256);
+/// assert!(station::is_closed(&image, &kinds)?);
+/// assert!(station::mount(&image, &kinds, &mut ledger)?);
+///
+/// let more = station::commit(&mut image, &mut kinds, &mut ledger);
+/// assert_eq!(more, Err(Refusal::SessionClosed));
+/// # Ok::<(), Refusal>(())
+/// ```
+///
+/// # Errors
+///
+/// 1, 2, 3, 4, 5, 17, 18 and 14: it needs links + 257 blank sectors.
+pub fn close_session(
+    image: &mut [u8],
+    kinds: &mut [u8],
+    ledger: &mut [u8],
+    main: Extent,
+    reserve: Extent,
+    partition_start: u32,
+) -> Result<u32, Refusal> {
+    second(raw::close_session(
+        image,
+        kinds,
+        ledger,
+        main.length,
+        main.location,
+        reserve.length,
+        reserve.location,
+        partition_start,
+    ))
+}
+
+/// Whether the disc is closed: its last recorded sector is a table, the 256 before
+/// it have kind 1, and the first of these has tag identifier 2, a right tag
+/// checksum and a tag location from its block to its block + 400,000.
+///
+/// It is drawn from the calls: a mount into a ledger of its own, and then
+/// [`close_packet`], which records nothing and is refused with 17 exactly if the
+/// disc is closed. A disc without a table sector is not closed.
+///
+/// # Errors
+///
+/// 1 and 3.
+pub fn is_closed(image: &[u8], kinds: &[u8]) -> Result<bool, Refusal> {
+    let mut ledger = [0; LEDGER];
+    match mount(image, kinds, &mut ledger) {
+        Err(Refusal::NoVat) => return Ok(false),
+        mounted => mounted?,
+    };
+    match close_packet(image, kinds, &mut ledger) {
+        Err(Refusal::SessionClosed) => Ok(true),
+        open => open.map(|()| false),
+    }
+}
