@@ -16,14 +16,25 @@ from pathlib import Path
 ROOT = Path(__file__).resolve().parent.parent
 HEADER = "host/include/station.h"
 CALLS = "crates/recorder/specs/Calls.antt"
+VIEW = "crates/run/specs/View.antt"
+FLOORS = "crates.txt"
 STATION = "crates/station/src/"
 CLIENT = "crates/client/src/"
 DISC_AND_LEDGER = ["image", "kinds", "ledger"]
-BUFFERS = ["block", "stamp", "answer"]
+BUFFERS = ["block", "stamp", "answer", "buffer"]
 SLICES = {"&[u8]": "const uint8_t", "&mut [u8]": "uint8_t"}
+NUMBERS = {"u32": "uint32_t", "u64": "uint64_t"}
 
-# A call that has two forms: its constructor takes an option, and the one form lends a buffer where the other lends none.
-FORMS = {"commit": ("commit", []), "commitAt": ("commit", ["stamp"])}
+# A call that has two forms: its constructor, the type of which this takes an option first, and the parameter that the form has for it, or none.
+FORMS = {
+    "commit": ("commit", "List ℕ", None),
+    "commitAt": ("commit", "List ℕ", "stamp"),
+    "write": ("write", "ℕ", "v"),
+    "writeUnnumbered": ("write", "ℕ", None),
+}
+
+# What is no call of the log but promised by a definition of its own, and where that stands.
+OWN = {"view": (VIEW, "Rattle.run.specs.View")}
 
 # Where the symbols of a contract are defined. The calls' names are added from the contracts themselves.
 HOMES = {
@@ -121,32 +132,40 @@ class Exported:
                 found.append(("ℕ", written(name)))
         return found
 
+    def given(self):
+        """What its call is given: what it is about, the first of which is an option where the call has two forms."""
+        own = self.own()
+        if self.form() not in FORMS:
+            return own
+        _, kind, name = FORMS[self.form()]
+        option = f"Option {kind}" if " " not in kind else f"Option ({kind})"
+        return [(option, "none"), *own] if name is None else [(option, f"(some {text})") for _, text in own[:1]] + own[1:]
+
     def takes(self):
         """The types that its constructor takes."""
-        return ["Option (List ℕ)"] if self.form() in FORMS else [kind for kind, _ in self.own()]
+        return [kind for kind, _ in self.given()]
 
     def declared(self):
         """What the header must say of it: each slice is a pointer and then a length."""
         words = []
         for name, kind in self.parameters:
-            words.append(f"{SLICES[kind]} *{name}, size_t {name}_length" if kind in SLICES else f"uint32_t {name}")
+            words.append(f"{SLICES[kind]} *{name}, size_t {name}_length" if kind in SLICES else f"{NUMBERS[kind]} {name}")
         return f"uint64_t {self.name}({', '.join(words)})"
 
     def contract(self):
-        """The one equation that it must promise: what it leaves is what `after` says of what it was lent."""
+        """The one equation that it must promise: what it leaves is what `after` says of what it was lent, or its own definition."""
         kinds = dict(self.parameters)
 
         def at_end(name):
             return now(name, "exit" if kinds[name] == "&mut [u8]" else "entry")
 
-        own = [text for _, text in self.own()]
-        if self.form() in FORMS:
-            own = [f"(some {own[0]})" if own else "none"]
-        call = f"({' '.join([self.call(), *own])})" if own else self.call()
+        given = [text for _, text in self.given()]
+        call = f"({' '.join([self.call(), *given])})" if given else self.call()
         buffers = [at_end(name) for name in BUFFERS if name in kinds]
         left = " ".join(["left r", *map(at_end, DISC_AND_LEDGER), *(buffers or ["[]"])])
         disc = f"(lent {now('image', 'entry')} {now('kinds', 'entry')})"
-        return f"λ r. ⌜ {left} ≡ after {disc} {now('ledger', 'entry')} {call} ⌝"
+        said = f"{self.form()} {disc} {now('ledger', 'entry')} {' '.join(given)}" if self.form() in OWN else f"after {disc} {now('ledger', 'entry')} {call}"
+        return f"λ r. ⌜ {left} ≡ {said} ⌝"
 
 
 def exported_functions():
@@ -174,6 +193,27 @@ def constructors():
     return {name: [folded(t) for t in kind.split("→")] for name, kind in found}
 
 
+def defined(name, file):
+    """The type of a definition."""
+    found = re.search(rf"^(?:\w+ )*pub {name} : (.*)$", (ROOT / file).read_text(), re.MULTILINE)
+    return folded(found[1]) if found else "nothing"
+
+
+def check_call(function, calls):
+    """Its call's constructor, or its own definition, takes what it is given."""
+    form, names = function.form(), [name for name, _ in function.parameters]
+    if form in OWN:
+        file, _ = OWN[form]
+        wanted = " → ".join(["Disc", "List ℕ", *function.takes(), "After"])
+        if defined(form, file) != wanted:
+            fail(function.where, f"{file} defines {form} : {defined(form, file)}, not {wanted}")
+        return
+    if form in FORMS and FORMS[form][2] and names[3:4] != [FORMS[form][2]]:
+        fail(function.where, f"its parameter behind the ledger is {names[3:4]}, not {[FORMS[form][2]]}")
+    if calls.get(function.call()) != [*function.takes(), "Call"]:
+        fail(function.where, f"{CALLS} has no constructor {function.call()} : {' → '.join([*function.takes(), 'Call'])}")
+
+
 def check_signature(function, calls):
     """Its crate, its parameters and its call. The answer is whether a contract can be written out for it."""
     if not function.file.startswith(STATION):
@@ -186,14 +226,12 @@ def check_signature(function, calls):
         fail(function.where, "its parameters do not begin with image, kinds, ledger")
     for name, kind in function.parameters:
         slice_of_bytes = name in [*DISC_AND_LEDGER, *BUFFERS]
-        if kind not in (SLICES if slice_of_bytes else ["u32"]):
-            fail(function.where, f"its parameter {name} is of type {kind}, not {' or '.join(SLICES) if slice_of_bytes else 'u32'}")
-        if name in [*HOMES, *calls, "r", "now"]:
+        wanted = [*SLICES] if slice_of_bytes else ["u64" if name == "offset" else "u32"]
+        if kind not in wanted:
+            fail(function.where, f"its parameter {name} is of type {kind}, not {' or '.join(wanted)}")
+        if name in [*HOMES, *calls, *OWN, "r", "now"]:
             fail(function.where, f"its parameter {name} hides a symbol of the contract")
-    if calls.get(function.call()) != [*function.takes(), "Call"]:
-        fail(function.where, f"{CALLS} has no constructor {function.call()} : {' → '.join([*function.takes(), 'Call'])}")
-    if function.form() in FORMS and names[3:] != FORMS[function.form()][1]:
-        fail(function.where, f"its parameters behind the ledger are {names[3:]}, not {FORMS[function.form()][1]}")
+    check_call(function, calls)
     return len(failures) == before
 
 
@@ -269,6 +307,17 @@ def check_client():
             fail(str(path.relative_to(ROOT)), "has a requires: its promises are for every input")
 
 
+def check_floors():
+    """The viewer knows the log's promises and nothing that lies below them, and above the exporting crate there is none."""
+    lines = [line.split(":") for line in (ROOT / FLOORS).read_text().splitlines() if line and not line.startswith("#")]
+    imports = {name: words.split() for name, words in lines}
+    if "calls" in imports.get("viewer", ["calls"]):
+        fail(FLOORS, "viewer imports calls: it is to know only the log's promises")
+    for name, words in imports.items():
+        if "station" in words:
+            fail(FLOORS, f"{name} imports station, which only exports")
+
+
 def check_sources():
     functions = exported_functions()
     calls = constructors()
@@ -280,10 +329,11 @@ def check_sources():
         elif any(word == "requires" for word, _ in function.clauses):
             fail(function.where, "has a requires")
     for file in sorted({function.file for function in functions}):
-        own = {function.call(): CALLS_HOME for function in functions if function.file == file}
+        own = {f.call(): OWN[f.form()][1] if f.form() in OWN else CALLS_HOME for f in functions if f.file == file}
         check_symbols(file, {**HOMES, **own})
     check_header(functions)
     check_client()
+    check_floors()
     return f"{len(functions)} exported functions, each with the contract of its signature, as the header declares them"
 
 

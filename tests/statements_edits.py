@@ -16,9 +16,12 @@ ROOT = Path(__file__).resolve().parent.parent
 CODE = "crates/station/src/lib.rt"
 HEADER = "host/include/station.h"
 CALLS = "crates/recorder/specs/Calls.antt"
+VIEW = "crates/run/specs/View.antt"
+FLOORS = "crates.txt"
 
 WRITE_LEFT = "left r (now (image .exit)) (now (kinds .exit)) (now (ledger .exit)) (now (block .entry))"
-WRITE_AFTER = "after (lent (now (image .entry)) (now (kinds .entry))) (now (ledger .entry)) (write v (now (block .entry)))"
+WRITE_AFTER = "after (lent (now (image .entry)) (now (kinds .entry))) (now (ledger .entry)) (write (some v) (now (block .entry)))"
+WRITE = f"{WRITE_LEFT} ≡ {WRITE_AFTER}"
 EXPORT = '#[no_mangle]\npub extern "C" fn {}(image: &[u8], kinds: &[u8], ledger: &[u8]) -> u64\n{{\n    0\n}}\n'
 RELEASE = "pub extern \"C\" fn station_release(image: &[u8], kinds: &[u8], ledger: &mut [u8], v: u32) -> u64"
 
@@ -29,17 +32,27 @@ CLOSE = "(closeSession (extent «main_length» «main_location») (extent «rese
 # What is wrong: the file, text that stands once in it, what stands there instead, and what the refusal says.
 SOURCES = {
     # a contract that says less
-    "write_asks_for_31_sectors": (CODE, f"    ensures {{ λ r. ⌜ {WRITE_LEFT}",
-        f"    requires {{ ⌜ length (now kinds) ≡ 31 ⌝ }}\n    ensures {{ λ r. ⌜ {WRITE_LEFT}",
+    "write_asks_for_31_sectors": (CODE, f"    ensures {{ λ r. ⌜ {WRITE}",
+        f"    requires {{ ⌜ length (now kinds) ≡ 31 ⌝ }}\n    ensures {{ λ r. ⌜ {WRITE}",
         "lib.rt: station_write: has a requires: ⌜ length (now kinds) ≡ 31 ⌝"),
-    "write_promises_its_answer_alone": (CODE, f"{WRITE_LEFT} ≡ {WRITE_AFTER}", f"r ≡ {WRITE_AFTER} .answer",
+    "write_promises_its_answer_alone": (CODE, WRITE, f"r ≡ {WRITE_AFTER} .answer",
         "lib.rt: station_write: its ensures is not"),
-    "write_promises_nothing": (CODE, f"    ensures {{ λ r. ⌜ {WRITE_LEFT} ≡ {WRITE_AFTER} ⌝ }}\n", "",
+    "write_promises_nothing": (CODE, f"    ensures {{ λ r. ⌜ {WRITE} ⌝ }}\n", "",
         "lib.rt: station_write: has 0 ensures, not one"),
     "write_promises_twice": (CODE, f"{WRITE_AFTER} ⌝ }}", f"{WRITE_AFTER} ⌝ }}\n    ensures {{ λ r. ⌜ r ≡ r ⌝ }}",
         "lib.rt: station_write: has 2 ensures, not one"),
-    "write_compares_the_image_lent": (CODE, WRITE_LEFT, WRITE_LEFT.replace("image .exit", "image .entry"),
+    "write_compares_the_image_lent": (CODE, WRITE, WRITE.replace("image .exit", "image .entry"),
         "lib.rt: station_write: its ensures is not"),
+    "write_is_the_other_form": (CODE, WRITE, WRITE.replace("(some v)", "none"),
+        "lib.rt: station_write: its ensures is not"),
+    "write_unnumbered_has_a_number": (CODE, "(write none (now (block .entry)))", "(write (some 0) (now (block .entry)))",
+        "lib.rt: station_write_unnumbered: its ensures is not"),
+    "view_of_another_number": (CODE, "v offset (now (buffer .entry))", "0 offset (now (buffer .entry))",
+        "lib.rt: station_view: its ensures is not"),
+    "view_exchanges_number_and_offset": (CODE, "v offset (now (buffer .entry))", "offset v (now (buffer .entry))",
+        "lib.rt: station_view: its ensures is not"),
+    "view_compares_the_buffer_lent": (CODE, "(now (buffer .exit))", "(now (buffer .entry))",
+        "lib.rt: station_view: its ensures is not"),
     "begin_is_another_call": (CODE, "(now (ledger .entry)) begin ⌝", "(now (ledger .entry)) mount ⌝",
         "lib.rt: station_begin: its ensures is not"),
     "release_of_another_number": (CODE, "(release v)", "(release 0)",
@@ -81,11 +94,19 @@ SOURCES = {
         "lib.rt: station_release: its parameter v is of type &[u8], not u32"),
     "release_takes_two_numbers": (CALLS, "  release : ℕ → Call\n", "  release : ℕ → ℕ → Call\n",
         "lib.rt: station_release: crates/recorder/specs/Calls.antt has no constructor release : ℕ → Call"),
-    "commit_at_lends_no_stamp": (CODE, "    stamp: &[u8],\n", "", "lib.rt: station_commit_at: its parameters behind the ledger are [], not ['stamp']"),
+    "commit_at_lends_no_stamp": (CODE, "    stamp: &[u8],\n", "", "lib.rt: station_commit_at: its parameter behind the ledger is [], not ['stamp']"),
     "commit_at_takes_a_number": (CODE, "    stamp: &[u8],\n", "    stamp: &[u8],\n    k: u32,\n",
-        "lib.rt: station_commit_at: its parameters behind the ledger are ['stamp', 'k'], not ['stamp']"),
+        "lib.rt: station_commit_at: crates/recorder/specs/Calls.antt has no constructor commit : Option (List ℕ) → ℕ → Call"),
     "commit_always_takes_a_stamp": (CALLS, "  commit : Option (List ℕ) → Call", "  commit : List ℕ → Call",
         "lib.rt: station_commit: crates/recorder/specs/Calls.antt has no constructor commit : Option (List ℕ) → Call"),
+    "write_always_takes_a_number": (CALLS, "  write : Option ℕ → List ℕ → Call", "  write : ℕ → List ℕ → Call",
+        "lib.rt: station_write: crates/recorder/specs/Calls.antt has no constructor write : Option ℕ → List ℕ → Call"),
+    "write_takes_another_number": (CODE, "    v: u32,\n    block: &[u8],", "    k: u32,\n    block: &[u8],",
+        "lib.rt: station_write: its parameter behind the ledger is ['k'], not ['v']"),
+    "view_from_an_offset_of_32_bits": (CODE, "    offset: u64,\n", "    offset: u32,\n",
+        "lib.rt: station_view: its parameter offset is of type u32, not u64"),
+    "view_defined_without_an_offset": (VIEW, "pub view : Disc → List ℕ → ℕ → ℕ → List ℕ → After", "pub view : Disc → List ℕ → ℕ → List ℕ → After",
+        "lib.rt: station_view: crates/run/specs/View.antt defines view : Disc → List ℕ → ℕ → List ℕ → After, not"),
     "close_session_takes_the_location_first": (CODE, "    main_length: u32,\n    main_location: u32,\n", "    main_location: u32,\n    main_length: u32,\n",
         "lib.rt: station_close_session: crates/recorder/specs/Calls.antt has no constructor closeSession : ℕ → ℕ → Extent → ℕ → Call"),
     "close_session_takes_no_start": (CODE, "    partition_start: u32,\n", "",
@@ -97,7 +118,7 @@ SOURCES = {
         "crates/listing/src/lib.rt: station_list: exported from another crate than station"),
     "exported_under_another_name": ("crates/calls/src/lib.rt", "pub fn refused", '#[export_name = "station_refused"]\npub fn refused',
         "crates/calls/src/lib.rt: 1 marks of an exported function"),
-    "exported_and_not_declared": (CODE, "// \"A refusal's second number is 0\".", EXPORT.format("station_erase"),
+    "exported_and_not_declared": (CODE, "use anchor::Extent;\n", "use anchor::Extent;\n\n" + EXPORT.format("station_erase"),
         "station.h: station_erase is declared 0 times, not once"),
     "nothing_exported": (CODE, None, "", "no function is exported"),
     # the header
@@ -134,18 +155,23 @@ SOURCES = {
         "lib.rt: after from Rattle.recorder.specs.Weaker stands in for after from Rattle.recorder.specs.Effects"),
     "equality_from_another_module": (CODE, "ghost use mathlib.Core.Path.{_≡_};", "ghost use Rattle.recorder.specs.Weaker.{_≡_};",
         "lib.rt: no ghost use brings _≡_ from mathlib.Core.Path"),
-    "an_operator_that_begins_with_left": (CODE, "ghost use Prim.Native.Nat.{_*_};", "ghost use Prim.Native.Nat.{_*_};\nghost use Rattle.recorder.specs.Weaker.{left_};",
+    "an_operator_that_begins_with_left": (CODE, "ghost use mathlib.Core.List.{[]};", "ghost use mathlib.Core.List.{[]};\nghost use Rattle.recorder.specs.Weaker.{left_};",
         "lib.rt: left_ from Rattle.recorder.specs.Weaker stands in for left"),
-    "now_from_another_module": (CODE, "ghost use Prim.Native.Nat.{_*_};", "ghost use Prim.Native.Nat.{_*_};\nghost use Rattle.recorder.specs.Weaker.{now};",
+    "now_from_another_module": (CODE, "ghost use mathlib.Core.List.{[]};", "ghost use mathlib.Core.List.{[]};\nghost use Rattle.recorder.specs.Weaker.{now};",
         "lib.rt: now from Rattle.recorder.specs.Weaker stands in for now from the logic"),
     "extent_from_another_module": (CODE, "ghost use Rattle.anchor.specs.Anchor.{extent};", "ghost use Rattle.recorder.specs.Weaker.{extent};",
         "lib.rt: no ghost use brings extent from Rattle.anchor.specs.Anchor"),
+    "view_from_another_module": (CODE, "ghost use Rattle.run.specs.View.{view};", "ghost use Rattle.recorder.specs.Weaker.{view};",
+        "lib.rt: no ghost use brings view from Rattle.run.specs.View"),
     "a_call_renamed": (CODE, ", commit, ", ", closePacket as commit, ",
         f"lib.rt: `{IMPORTED.replace(', commit, ', ', closePacket as commit, ')}` is not of the form"),
     "a_call_not_imported": (CODE, ", commit, ", ", ",
         "lib.rt: no ghost use brings commit from Rattle.recorder.specs.Calls"),
-    "a_module_taken_whole": (CODE, "ghost use Prim.Native.Nat.{_*_};", "ghost use Prim.Native.Nat.{_*_};\nghost use Rattle.recorder.specs.Weaker;",
+    "a_module_taken_whole": (CODE, "ghost use mathlib.Core.List.{[]};", "ghost use mathlib.Core.List.{[]};\nghost use Rattle.recorder.specs.Weaker;",
         "lib.rt: `ghost use Rattle.recorder.specs.Weaker` is not of the form"),
+    # who stands above whom
+    "the_viewer_opens_the_calls": (FLOORS, "\nviewer: ", "\nviewer: calls ", "crates.txt: viewer imports calls"),
+    "something_above_the_exports": (FLOORS, "\nlisting: ", "\nlisting: station ", "crates.txt: listing imports station"),
 }
 
 # One more number: the same rule calls for it in the signature, in the call, in the contract and in the header, in the same order.
@@ -179,7 +205,7 @@ passed = failed = 0
 
 def copied(folder):
     """What tests/statements.py reads, and the script itself."""
-    files = [*ROOT.glob("crates/*/src/**/*.rt"), ROOT / CALLS, ROOT / HEADER, ROOT / "tests/statements.py"]
+    files = [*ROOT.glob("crates/*/src/**/*.rt"), ROOT / CALLS, ROOT / VIEW, ROOT / FLOORS, ROOT / HEADER, ROOT / "tests/statements.py"]
     for path in files:
         copy = folder / path.relative_to(ROOT)
         copy.parent.mkdir(parents=True, exist_ok=True)

@@ -5,38 +5,51 @@
 """
 from binascii import crc_hqx
 from datetime import datetime, timedelta
-from struct import pack
+from struct import pack, unpack_from
 
 UNUSED = 0xFFFFFFFF
 PRIME = 2**32 - 5
+
+
+def descriptor(identifier, body, location):
+    """The 2048 bytes of a descriptor (ECMA-167 3/7.2): its tag with both sums, its body, and zeros."""
+    tag = pack("<HHBBHHHI", identifier, 2, 0, 0, 0, crc_hqx(body, 0), len(body), location)
+    tag = tag[:4] + bytes([sum(tag) % 256]) + tag[5:]
+    return (tag + body).ljust(2048, b"\0")
+
+
+def file_entry(block, file_type, flags, permissions, links, information, blocks, behind, attributes=b"", stamp=bytes(12)):
+    """A file entry (ECMA-167 4/14.9) as the station records it, with a table or allocation descriptors behind its attributes."""
+    head = pack("<IHHHBB6xH", 0, 4, 0, 1, 0, file_type, flags)
+    head += pack("<IIIHBBI", UNUSED, UNUSED, permissions, links, 0, 0, 0)
+    head += pack("<QQ", information, blocks)
+    head += 3 * stamp
+    head += pack("<I", 1)
+    head += bytes(16)
+    head += b"\0" + b"*Bench Station".ljust(31, b"\0")
+    head += pack("<QII", 0, len(attributes), len(behind))
+    assert 16 + len(head) == 176
+    return descriptor(261, head + attributes + behind, block)
 
 
 def table_sector(entries, previous, block, attributes=b"", stamp=bytes(12)):
     """The 2048 bytes that commit records (document 01, 'The table sector at block b', and document 02, R-3), or the same with attributes before the table."""
     table = b"".join(pack("<I", e) for e in entries)
     table += b"\0" + b"*UDF Virtual Alloc Tbl\0" + bytes([0x50, 0x01]) + bytes(6) + pack("<I", previous)
-    icb_tag = pack("<IHHHBB6xH", 0, 4, 0, 1, 0, 0, 3)
-    head = icb_tag
-    head += pack("<IIIHBBI", UNUSED, UNUSED, 0, 0, 0, 0, 0)
-    head += pack("<QQ", len(table), 0)
-    head += 3 * stamp
-    head += pack("<I", 1)
-    head += bytes(16)
-    head += b"\0" + b"*Bench Station".ljust(31, b"\0")
-    head += pack("<QII", 0, len(attributes), len(table))
-    assert 16 + len(head) == 176
-    body = head + attributes + table
-    tag = pack("<HHBBHHHI", 261, 2, 0, 0, 0, crc_hqx(body, 0), len(body), block)
-    tag = tag[:4] + bytes([sum(tag) % 256]) + tag[5:]
-    return (tag + body).ljust(2048, b"\0")
+    return file_entry(block, 0, 3, 0, 0, len(table), 0, table, attributes, stamp)
+
+
+def entry_sector(extents, block):
+    """The entry of a run (document 02, R-6): a short allocation descriptor, length and block, for each extent."""
+    descriptors = b"".join(pack("<II", *extent) for extent in extents)
+    information = sum(length for length, _ in extents)
+    blocks = sum(-(-length // 2048) for length, _ in extents)
+    return file_entry(block, 5, 0, 0x1084, 1, information, blocks, descriptors)
 
 
 def pointer_sector(main, reserve, location):
     """The Anchor Volume Descriptor Pointer that closing records (document 02, R-5)."""
-    body = pack("<IIII", *main, *reserve).ljust(496, b"\0")
-    tag = pack("<HHBBHHHI", 2, 2, 0, 0, 0, crc_hqx(body, 0), len(body), location)
-    tag = tag[:4] + bytes([sum(tag) % 256]) + tag[5:]
-    return (tag + body).ljust(2048, b"\0")
+    return descriptor(2, pack("<IIII", *main, *reserve).ljust(496, b"\0"), location)
 
 
 def show_rows(sector):
@@ -58,6 +71,14 @@ def show_changes(sector):
             crcs += pack(">H", crc_hqx(body, 0))
         body[i] = byte
         print("byte", 16 + i, "crcs", "%08x" % (int.from_bytes(crcs, "big") % PRIME))
+
+
+def show_entry(extents, block):
+    """Of a run's entry what is worked out: the checksum, the CRC and its length, and the information length."""
+    sector = entry_sector(extents, block)
+    crc, crc_length = unpack_from("<HH", sector, 8)
+    information = unpack_from("<Q", sector, 56)[0]
+    print("entry of", len(extents), "at", block, "sum", "%02x" % sector[4], "crc", "%04x" % crc, "over", crc_length, "length", information)
 
 
 def timestamp(when, zone=None):
@@ -128,6 +149,18 @@ def main():
     print("tag at 401491: pointer")
     print("tag at 401492: none")
     print("tag at 1491: none")
+
+    run = [(4096, 3), (2048, 10), (1000, 12)]
+    show_rows(entry_sector(run, 20))
+    print("entry at 20: run of 7144")
+    print("entry at 21: none")
+    # the last extent's sector is unreadable
+    print("entry at 20: none")
+    show_entry(run, 20)
+    show_entry([(1, 0)], 1)
+    words = [0xFFFFFFFF if i % 3 == 0 else i % 458 for i in range(200)]
+    show_entry(list(zip(words[::2], words[1::2])), 300000)
+    show_entry([(2048 * 359998, 0), (1, 359998)], 359999)
 
 
 main()

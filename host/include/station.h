@@ -30,11 +30,30 @@
  *   answer  8 bytes, little-endian: whole minutes from 1 January 1970 UTC, a
  *           signed number of 32 bits, and then 1 if the zone was not given, or
  *           else 0 (32 bits).
+ *   buffer  at most 65,536 bytes, also none.
  *
  * A disc is closed exactly if its last recorded sector is a table sector, the
  * 256 before it have kind 1, and the first of these has tag identifier 2, a right
  * tag checksum and a tag location from its block to its block + 400,000. Nothing
  * more is recorded on it.
+ *
+ * A run longer than a block lies in blocks without a number; a numbered block is
+ * its entry, an ordinary file entry (ECMA-167 4/14.9) that names them. A block b
+ * is a run's entry exactly if all of this holds, with numbers little-endian:
+ *
+ *   0       tag identifier 261, descriptor version 2 (16 bits each); tag checksum,
+ *           the sum of bytes 0 to 3 and 5 to 15, modulo 256; zero
+ *   8       CRC; CRC length 160 + descriptor length (16 bits each); tag location b
+ *           (32 bits). The CRC is of polynomial hex 1021, start 0, high bit first,
+ *           over CRC-length bytes from byte 16
+ *   20      strategy 4 (16 bits)
+ *   27      file type 5
+ *   34      flags, of which the low three bits are 0 (16 bits)
+ *   56      information length, the total of the extents' lengths (64 bits)
+ *   168     attribute length 0; descriptor length, 8 times 1 to 100 (32 bits each)
+ *   176     for each extent its length in bytes, below 2 to the power 30, and its
+ *           first block (32 bits each); none is empty, all but the last are whole
+ *           sectors, and all lie on sectors of kind 1 below b
  *
  * Each call answers an outcome (0 done, else a refusal) and a second number, as
  * one number: outcome * 4294967296 + second number. A refusal's second number
@@ -42,9 +61,9 @@
  * the order in which it tests for them, and the first that applies is given.
  * What a call may not change is lent as const.
  *
- * In mode 0 with recorded above 0, write, both forms of commit and closing the
- * session first record seven link sectors; of a link sector only its kind
- * changes, to 2.
+ * In mode 0 with recorded above 0, write, numbered or not, both forms of commit
+ * and closing the session first record seven link sectors; of a link sector only
+ * its kind changes, to 2.
  *
  * What the buffers hold at the end of a call is proved. The order of a call's
  * stores is not: the compiler merges and reorders them, and a program that stops
@@ -70,6 +89,8 @@ extern "C" {
 #define STATION_LEDGER 1848         /* bytes of the ledger */
 #define STATION_STAMP 12            /* bytes of a timestamp */
 #define STATION_TIME 8              /* bytes of the answer to time of */
+#define STATION_MOST_VIEWED 65536   /* the most bytes of a buffer for view */
+#define STATION_MOST_EXTENTS 100    /* the most extents of a run's entry */
 #define STATION_MOST_SECTORS 360000 /* the most sectors of a disc */
 #define STATION_LIMIT 458           /* the most virtual numbers */
 #define STATION_UNUSED 0xFFFFFFFFu  /* an unused entry, a missing last table */
@@ -81,7 +102,7 @@ enum station_outcome {
        length */
     STATION_DISC_SIZE = 1,
     /* a lent block is not 2048 bytes, a lent ledger not 1,848, a lent stamp not
-       12, or a lent answer not 8 */
+       12, a lent answer not 8, or a lent buffer of view above 65,536 */
     STATION_LENT_LENGTH = 2,
     /* a kind above 3, or a recorded sector after a blank one */
     STATION_DISC_UNSOUND = 3,
@@ -91,8 +112,8 @@ enum station_outcome {
        mode above 2; mode 1 where the last recorded sector is missing or not
        kind 1 */
     STATION_LEDGER_UNFIT = 4,
-    /* write, release, close packet, either form of commit or closing the
-       session with mode 2 */
+    /* write, numbered or not, release, close packet, either form of commit or
+       closing the session with mode 2 */
     STATION_READ_ONLY = 5,
     /* begin, and a table sector exists */
     STATION_VAT_EXISTS = 6,
@@ -102,17 +123,17 @@ enum station_outcome {
     STATION_CHAIN_BROKEN = 8,
     /* going back meets FFFFFFFF before k steps */
     STATION_CHAIN_ENDED = 9,
-    /* read or release of v not below size, or of an unused entry */
+    /* read, view or release of v not below size, or of an unused entry */
     STATION_NOT_IN_USE = 10,
-    /* read, and the entry's sector is not kind 1 */
+    /* read or view, and the entry's sector is not kind 1 */
     STATION_UNREADABLE = 11,
     /* write of v above size */
     STATION_ABOVE_SIZE = 12,
     /* write of v at or above 458 */
     STATION_ABOVE_LIMIT = 13,
-    /* no room: write needs links + 1 + 8 blank sectors, on discs of 1,000
-       sectors or more links + 1 + 264; either form of commit needs links + 1,
-       and closing the session links + 257 */
+    /* no room: write, numbered or not, needs links + 1 + 8 blank sectors, on
+       discs of 1,000 sectors or more links + 1 + 264; either form of commit
+       needs links + 1, and closing the session links + 257 */
     STATION_NO_ROOM = 14,
     /* the lent block would be a table sector at the block it is about to take,
        or has the tag of a closing's pointer there: tag identifier 2, a right tag
@@ -120,11 +141,15 @@ enum station_outcome {
     STATION_WOULD_BE_VAT = 15,
     /* a timestamp given or found breaks the limits */
     STATION_BAD_TIMESTAMP = 16,
-    /* write, release, close packet, either form of commit or closing the
-       session on a closed disc */
+    /* write, numbered or not, release, close packet, either form of commit or
+       closing the session on a closed disc */
     STATION_SESSION_CLOSED = 17,
     /* closing the session, and the partition start exceeds 400,000 */
-    STATION_PARTITION_START = 18
+    STATION_PARTITION_START = 18,
+    /* view, and the numbered block is not a run's entry */
+    STATION_NOT_A_RUN = 19,
+    /* view, and the offset exceeds the run's length */
+    STATION_BEYOND_THE_RUN = 20
 };
 
 /* The outcome of an answer: 0 done, else a refusal. */
@@ -164,6 +189,16 @@ uint64_t station_write(uint8_t *image, size_t image_length, uint8_t *kinds,
                        size_t kinds_length, uint8_t *ledger,
                        size_t ledger_length, uint32_t v, const uint8_t *block,
                        size_t block_length);
+
+/*
+ * Write unnumbered: records one data sector with the lent block, as write does,
+ * and sets no entry: map and size stay. Mode becomes 1. Second number: the block
+ * recorded. Refusals 1, 2, 3, 4, 5, 17, 14, 15.
+ */
+uint64_t station_write_unnumbered(uint8_t *image, size_t image_length,
+                                  uint8_t *kinds, size_t kinds_length,
+                                  uint8_t *ledger, size_t ledger_length,
+                                  const uint8_t *block, size_t block_length);
 
 /*
  * Release v: sets the entry to unused. Size stays. Second number 0. Refusals 1,
@@ -209,6 +244,17 @@ uint64_t station_read(const uint8_t *image, size_t image_length,
                       const uint8_t *kinds, size_t kinds_length,
                       const uint8_t *ledger, size_t ledger_length, uint32_t v,
                       uint8_t *block, size_t block_length);
+
+/*
+ * View v from an offset: fills the lent buffer with the bytes of the run whose
+ * entry number v is, from that offset on and as far as the run goes; the bytes
+ * behind stay. Allowed with mode 2. Second number: how many bytes are filled in,
+ * at the run's end 0. Refusals 1, 2, 3, 4, 10, 11, 19, 20.
+ */
+uint64_t station_view(const uint8_t *image, size_t image_length,
+                      const uint8_t *kinds, size_t kinds_length,
+                      const uint8_t *ledger, size_t ledger_length, uint32_t v,
+                      uint64_t offset, uint8_t *buffer, size_t buffer_length);
 
 /*
  * Look back k: from the table that mount would find, follows the previous entry

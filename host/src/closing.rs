@@ -1,15 +1,6 @@
 //! Closing a session, and whether a disc is closed.
 
-use crate::{close_packet, mount, raw, second, Refusal, LEDGER};
-
-/// An extent as a descriptor names it: its length in bytes and its first sector.
-#[derive(Clone, Copy, Debug, PartialEq, Eq)]
-pub struct Extent {
-    /// In bytes.
-    pub length: u32,
-    /// The number of its first sector.
-    pub location: u32,
-}
+use crate::{close_packet, mount, raw, second, Extent, Refusal, LEDGER};
 
 /// Close session: records an Anchor Volume Descriptor Pointer, 255 zero sectors
 /// and the table sector, which becomes the last table, all as data. Plain CD-ROM

@@ -35,6 +35,16 @@ mod archive {
             block: *const u8,
             block_length: usize,
         ) -> u64;
+        pub fn station_write_unnumbered(
+            image: *mut u8,
+            image_length: usize,
+            kinds: *mut u8,
+            kinds_length: usize,
+            ledger: *mut u8,
+            ledger_length: usize,
+            block: *const u8,
+            block_length: usize,
+        ) -> u64;
         pub fn station_release(
             image: *const u8,
             image_length: usize,
@@ -80,6 +90,18 @@ mod archive {
             v: u32,
             block: *mut u8,
             block_length: usize,
+        ) -> u64;
+        pub fn station_view(
+            image: *const u8,
+            image_length: usize,
+            kinds: *const u8,
+            kinds_length: usize,
+            ledger: *const u8,
+            ledger_length: usize,
+            v: u32,
+            offset: u64,
+            buffer: *mut u8,
+            buffer_length: usize,
         ) -> u64;
         pub fn station_look_back(
             image: *const u8,
@@ -167,6 +189,29 @@ pub fn write(image: &mut [u8], kinds: &mut [u8], ledger: &mut [u8], v: u32, bloc
     }
 }
 
+/// `station_write_unnumbered`: the answer of [`crate::write_unnumbered`] as one
+/// number; the second is the block recorded.
+pub fn write_unnumbered(
+    image: &mut [u8],
+    kinds: &mut [u8],
+    ledger: &mut [u8],
+    block: &[u8],
+) -> u64 {
+    // SAFETY: each pointer and length is one live slice, and no two overlap.
+    unsafe {
+        archive::station_write_unnumbered(
+            image.as_mut_ptr(),
+            image.len(),
+            kinds.as_mut_ptr(),
+            kinds.len(),
+            ledger.as_mut_ptr(),
+            ledger.len(),
+            block.as_ptr(),
+            block.len(),
+        )
+    }
+}
+
 /// `station_release`: the answer of [`crate::release`] as one number.
 pub fn release(image: &[u8], kinds: &[u8], ledger: &mut [u8], v: u32) -> u64 {
     // SAFETY: each pointer and length is one live slice.
@@ -246,6 +291,33 @@ pub fn read(image: &[u8], kinds: &[u8], ledger: &[u8], v: u32, block: &mut [u8])
             v,
             block.as_mut_ptr(),
             block.len(),
+        )
+    }
+}
+
+/// `station_view`: the answer of [`crate::view`] as one number; the second counts
+/// the bytes that are filled in.
+pub fn view(
+    image: &[u8],
+    kinds: &[u8],
+    ledger: &[u8],
+    v: u32,
+    offset: u64,
+    buffer: &mut [u8],
+) -> u64 {
+    // SAFETY: each pointer and length is one live slice, and no two overlap.
+    unsafe {
+        archive::station_view(
+            image.as_ptr(),
+            image.len(),
+            kinds.as_ptr(),
+            kinds.len(),
+            ledger.as_ptr(),
+            ledger.len(),
+            v,
+            offset,
+            buffer.as_mut_ptr(),
+            buffer.len(),
         )
     }
 }

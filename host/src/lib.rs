@@ -15,11 +15,15 @@
 //! A [`Refusal`] alters no lent byte. Any lengths and contents may be lent: the
 //! core tests them itself. It allocates nothing.
 //!
-//! In mode 0 with recorded above 0, write, both forms of commit and closing the
-//! session first record seven link sectors; of a link sector only its kind
-//! changes. A power cut loses what is not committed, and [`mount`] then finds the
-//! last finished save. [`close_session`] makes a last save that plain CD-ROM
-//! drives can read; nothing is recorded after it.
+//! In mode 0 with recorded above 0, write, numbered or not, both forms of commit
+//! and closing the session first record seven link sectors; of a link sector only
+//! its kind changes. A power cut loses what is not committed, and [`mount`] then
+//! finds the last finished save. [`close_session`] makes a last save that plain
+//! CD-ROM drives can read; nothing is recorded after it.
+//!
+//! A run longer than a block lies in blocks that [`write_unnumbered`] records. A
+//! numbered block holds its entry, which [`file_entry`] makes and which names
+//! them; [`view`] shows the run's bytes.
 //!
 //! ```
 //! use station::{Extent, Refusal, SaveTime, Timestamp, LEDGER, SECTOR};
@@ -46,6 +50,24 @@
 //!
 //! let missing = station::read(&image, &kinds, &ledger, 1, &mut shown);
 //! assert_eq!(missing, Err(Refusal::NotInUse));
+//!
+//! // A run of 3,000 bytes: two blocks without a number, one behind the other, and
+//! // behind them its entry, as number 1. The last block is filled up with zeros.
+//! let long = [0xA5; 3000];
+//! let mut blocks = long.to_vec();
+//! blocks.resize(2 * SECTOR, 0);
+//! let (one, other) = blocks.split_at(SECTOR);
+//! let first = station::write_unnumbered(&mut image, &mut kinds, &mut ledger, one)?;
+//! let last = station::write_unnumbered(&mut image, &mut kinds, &mut ledger, other)?;
+//! let extent = Extent { length: 3000, location: first };
+//! let entry = station::file_entry(&[extent], last + 1);
+//! station::write(&mut image, &mut kinds, &mut ledger, 1, &entry)?;
+//!
+//! let mut shown = [0; 3000];
+//! let filled = station::view(&image, &kinds, &ledger, 1, 0, &mut shown)?;
+//! assert_eq!((filled, shown), (3000, long));
+//! let filled = station::view(&image, &kinds, &ledger, 1, 2900, &mut shown)?;
+//! assert_eq!(filled, 100);
 //!
 //! // A save that tells when it was made: half past midnight on 1 January 1970, by
 //! // a clock one hour ahead of UTC.
@@ -82,24 +104,29 @@
 #![warn(missing_docs)]
 
 mod closing;
+mod extent;
 #[allow(unsafe_code)]
 mod ffi;
 mod recorded;
 mod refusal;
+mod run;
+mod tag;
 mod timestamp;
 
-pub use closing::{close_session, is_closed, Extent};
+pub use closing::{close_session, is_closed};
+pub use extent::Extent;
 pub use recorded::{recorded, recorded_since, Sector};
 pub use refusal::Refusal;
+pub use run::{file_entry, view, write_unnumbered};
 pub use timestamp::{SaveTime, Timestamp};
 
-/// The eleven calls with the two numbers as the core answers them: outcome ×
+/// The thirteen calls with the two numbers as the core answers them: outcome ×
 /// 4,294,967,296 + second number. Outcome 0 is done, else it is the number of a
 /// [`Refusal`], and the second number is 0.
 pub mod raw {
     pub use crate::ffi::{
         begin, close_packet, close_session, commit, commit_at, look_back, mount, read, release,
-        time_of, write,
+        time_of, view, write, write_unnumbered,
     };
 }
 
@@ -114,6 +141,12 @@ pub const STAMP: usize = 12;
 
 /// Bytes of the answer that [`raw::time_of`] is lent.
 pub const TIME: usize = 8;
+
+/// The most bytes of a buffer that [`view`] fills.
+pub const MOST_VIEWED: usize = 65_536;
+
+/// The most extents that a run's entry names.
+pub const MOST_EXTENTS: usize = 100;
 
 /// The most sectors that a disc has.
 pub const MOST_SECTORS: usize = 360_000;

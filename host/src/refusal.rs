@@ -13,7 +13,8 @@ pub enum Refusal {
     /// not 2048 × kinds length.
     DiscSize = 1,
     /// 2, the host program: a lent block is not 2048 bytes, a lent ledger not
-    /// 1,848, a lent timestamp not 12, or a lent answer not 8.
+    /// 1,848, a lent timestamp not 12, a lent answer not 8, or a buffer lent to a
+    /// view is above 65,536.
     LentLength = 2,
     /// 3, the disc: a kind above 3, or a recorded sector after a blank one.
     DiscUnsound = 3,
@@ -23,8 +24,8 @@ pub enum Refusal {
     /// neither FFFFFFFF nor a table sector; mode is above 2; or mode is 1 where
     /// the last recorded sector is missing or not kind 1.
     LedgerUnfit = 4,
-    /// 5, the operator: write, release, close packet, either form of commit or
-    /// closing the session with mode 2.
+    /// 5, the operator: write, numbered or not, release, close packet, either form
+    /// of commit or closing the session with mode 2.
     ReadOnly = 5,
     /// 6, the disc: begin, and a table sector exists.
     VatExists = 6,
@@ -35,18 +36,18 @@ pub enum Refusal {
     ChainBroken = 8,
     /// 9, the operator: going back meets FFFFFFFF before k steps.
     ChainEnded = 9,
-    /// 10, the operator: read or release of v not below size, or of an unused
-    /// entry.
+    /// 10, the operator: read, view or release of v not below size, or of an
+    /// unused entry.
     NotInUse = 10,
-    /// 11, the disc: read, and the entry's sector is not kind 1.
+    /// 11, the disc: read or view, and the entry's sector is not kind 1.
     Unreadable = 11,
     /// 12, the operator: write of v above size.
     AboveSize = 12,
     /// 13, the operator: write of v at or above 458.
     AboveLimit = 13,
-    /// 14, the recording: no room. Write needs links + 1 + 8 blank sectors, on
-    /// discs of 1,000 sectors or more links + 1 + 264; either form of commit needs
-    /// links + 1, and closing the session links + 257.
+    /// 14, the recording: no room. Write, numbered or not, needs links + 1 + 8 blank
+    /// sectors, on discs of 1,000 sectors or more links + 1 + 264; either form of
+    /// commit needs links + 1, and closing the session links + 257.
     NoRoom = 14,
     /// 15, the recording: the lent block would be a table sector at the block
     /// it is about to take, or has the tag of a closing's pointer there: tag
@@ -56,17 +57,23 @@ pub enum Refusal {
     /// 16, the operator on a commit, the disc when asking: a timestamp given or
     /// found breaks the limits that [`Timestamp`](crate::Timestamp) names.
     BadTimestamp = 16,
-    /// 17, the disc: write, release, close packet, either form of commit or
-    /// closing the session on a closed disc. [`is_closed`](crate::is_closed) says
-    /// what that is.
+    /// 17, the disc: write, numbered or not, release, close packet, either form of
+    /// commit or closing the session on a closed disc.
+    /// [`is_closed`](crate::is_closed) says what that is.
     SessionClosed = 17,
     /// 18, the operator: closing the session, and the partition start exceeds
     /// 400,000.
     PartitionStart = 18,
+    /// 19, the operator, or the disc where a sector of the run is not kind 1: view,
+    /// and the numbered block is not a run's entry.
+    /// [`file_entry`](crate::file_entry) says what that is.
+    NotARun = 19,
+    /// 20, the operator: view, and the offset exceeds the run's length.
+    BeyondTheRun = 20,
 }
 
 /// Each refusal at the place of its number less one.
-const ALL: [Refusal; 18] = [
+const ALL: [Refusal; 20] = [
     Refusal::DiscSize,
     Refusal::LentLength,
     Refusal::DiscUnsound,
@@ -85,10 +92,12 @@ const ALL: [Refusal; 18] = [
     Refusal::BadTimestamp,
     Refusal::SessionClosed,
     Refusal::PartitionStart,
+    Refusal::NotARun,
+    Refusal::BeyondTheRun,
 ];
 
 impl Refusal {
-    /// Its number in documents 01 and 02, 1 to 18.
+    /// Its number in documents 01 and 02, 1 to 20.
     pub const fn number(self) -> u32 {
         self as u32
     }
@@ -110,20 +119,21 @@ impl Refusal {
             }
             Refusal::LentLength => {
                 "a lent block is not 2048 bytes, a lent ledger not 1,848, \
-                 a lent timestamp not 12, or a lent answer not 8"
+                 a lent timestamp not 12, a lent answer not 8, \
+                 or a buffer lent to a view is above 65,536"
             }
             Refusal::DiscUnsound => "a kind above 3, or a recorded sector after a blank one",
             Refusal::LedgerUnfit => "the ledger does not fit",
             Refusal::ReadOnly => {
-                "write, release, close packet, either form of commit or closing the session \
-                 with mode 2"
+                "write, numbered or not, release, close packet, either form of commit \
+                 or closing the session with mode 2"
             }
             Refusal::VatExists => "begin, and a table sector exists",
             Refusal::NoVat => "mount, look back or asking for a time, and no table sector exists",
             Refusal::ChainBroken => "a step back names a sector that is not a table sector",
             Refusal::ChainEnded => "going back meets FFFFFFFF before k steps",
-            Refusal::NotInUse => "read or release of v not below size, or of an unused entry",
-            Refusal::Unreadable => "read, and the entry's sector is not kind 1",
+            Refusal::NotInUse => "read, view or release of v not below size, or of an unused entry",
+            Refusal::Unreadable => "read or view, and the entry's sector is not kind 1",
             Refusal::AboveSize => "write of v above size",
             Refusal::AboveLimit => "write of v at or above 458",
             Refusal::NoRoom => "no room",
@@ -133,10 +143,12 @@ impl Refusal {
             }
             Refusal::BadTimestamp => "a timestamp given or found breaks the limits",
             Refusal::SessionClosed => {
-                "write, release, close packet, either form of commit or closing the session \
-                 on a closed disc"
+                "write, numbered or not, release, close packet, either form of commit \
+                 or closing the session on a closed disc"
             }
             Refusal::PartitionStart => "the partition start exceeds 400,000",
+            Refusal::NotARun => "view, and the numbered block is not a run's entry",
+            Refusal::BeyondTheRun => "view, and the offset exceeds the run's length",
         }
     }
 }
@@ -155,7 +167,7 @@ mod tests {
 
     #[test]
     fn each_number_is_its_own_refusal() {
-        for number in 1..=18 {
+        for number in 1..=20 {
             let refusal = Refusal::of(number);
             assert_eq!(refusal.number(), number);
             assert!(refusal
@@ -165,8 +177,8 @@ mod tests {
     }
 
     #[test]
-    #[should_panic(expected = "outcome 19")]
-    fn no_refusal_beyond_18() {
-        Refusal::of(19);
+    #[should_panic(expected = "outcome 21")]
+    fn no_refusal_beyond_20() {
+        Refusal::of(21);
     }
 }

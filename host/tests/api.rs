@@ -7,11 +7,15 @@ use common::closing::disc_of_closings;
 use common::core::Core;
 use common::forge;
 use common::random::{cases, Random};
+use common::runs;
 use common::station::Station;
 use station::{Extent, Refusal};
-use station_model::anchor::{self, Anchor};
+use station_model::anchor::Anchor;
 use station_model::calls::Call;
 use station_model::disc::Disc;
+use station_model::extent;
+use station_model::ledger::Volume;
+use station_model::run::{entry_sector, MOST_EXTENTS};
 use station_model::table::SECTOR;
 
 /// The typed call; what it gives as a number, as document 01 has it, and a time
@@ -23,11 +27,13 @@ fn typed(core: &mut Core, call: Call, buffer: &mut [u8]) -> Result<u32, Refusal>
         Call::Begin => station::begin(image, kinds, ledger).map(|()| 0),
         Call::Mount => station::mount(image, kinds, ledger).map(u32::from),
         Call::Write(v) => station::write(image, kinds, ledger, v, buffer),
+        Call::WriteUnnumbered => station::write_unnumbered(image, kinds, ledger, buffer),
         Call::Release(v) => station::release(image, kinds, ledger, v).map(|()| 0),
         Call::ClosePacket => station::close_packet(image, kinds, ledger).map(|()| 0),
         Call::Commit => station::commit(image, kinds, ledger),
         Call::CommitAt => station::commit_at(image, kinds, ledger, buffer),
         Call::Read(v) => station::read(image, kinds, ledger, v, buffer).map(|()| 0),
+        Call::View { v, offset } => station::view(image, kinds, ledger, v, offset, buffer),
         Call::LookBack(k) => station::look_back(image, kinds, ledger, k),
         Call::CloseSession(Anchor {
             main,
@@ -47,7 +53,7 @@ fn typed(core: &mut Core, call: Call, buffer: &mut [u8]) -> Result<u32, Refusal>
     }
 }
 
-fn extent(extent: anchor::Extent) -> Extent {
+fn extent(extent: extent::Extent) -> Extent {
     Extent {
         length: extent.length,
         location: extent.location,
@@ -68,6 +74,7 @@ fn any_station(random: &mut Random) -> Station {
     match random.below(24) {
         0..=7 => station = Station::blank(sectors),
         8 => station = disc_of_closings(random),
+        9..=14 => runs::plant_entries(random, &mut station),
         _ => {}
     }
     let fitting = forge::fitting(random, &station.disc()).to_bytes();
@@ -84,17 +91,29 @@ fn any_station(random: &mut Random) -> Station {
     station
 }
 
+/// Views are as a rule of a run, if the ledger fits and names one.
+fn any_call(random: &mut Random, station: &Station) -> Call {
+    let call = forge::call(random, forge::size_in(&station.ledger), 2);
+    let disc = Disc::lent(&station.image, &station.kinds).ok();
+    let disc = disc.filter(|disc| disc.is_sound());
+    match (disc, Volume::load(&station.ledger)) {
+        (Some(disc), Some(volume)) if volume.fits(&disc) => {
+            runs::aimed(random, &disc, &volume, call)
+        }
+        _ => call,
+    }
+}
+
 #[test]
 fn typed_answers_are_the_raw_ones() {
-    let mut met = [false; 19];
+    let mut met = [false; 21];
     let all = cases(40_000);
     let whole = all.len() > 1;
     for case in all {
         let mut random = Random::of_case(case);
         let station = any_station(&mut random);
-        let recorded = station.kinds.iter().filter(|kind| **kind != 0).count();
-        let call = forge::call(&mut random, forge::size_in(&station.ledger), 2);
-        let buffer = forge::buffer(&mut random, call, &station.image, recorded as u32);
+        let call = any_call(&mut random, &station);
+        let buffer = forge::buffer(&mut random, call, &station.image, &station.kinds);
         let (mut one, mut two) = (Core::holding(&station, 0), Core::holding(&station, 0));
         let (mut one_buffer, mut two_buffer) = (buffer.clone(), buffer);
         let raw = one.perform(call, &mut one_buffer);
@@ -132,6 +151,24 @@ fn closed_as_the_model_says() {
     }
     println!("{met:?} discs open and closed");
     assert!(!whole || met.iter().all(|count| *count > 100), "{met:?}");
+}
+
+/// The maker's entries are the model's, also of extents that no run has.
+#[test]
+fn entries_as_the_model_makes_them() {
+    for case in cases(2_000) {
+        let mut random = Random::of_case(case);
+        let count = 1 + random.below(MOST_EXTENTS);
+        let any = |_| extent::Extent {
+            length: (random.next() as u32 % (1 << 30)) >> random.below(30),
+            location: random.next() as u32,
+        };
+        let extents: Vec<extent::Extent> = (0..count).map(any).collect();
+        let block = random.next() as u32;
+        let ours: Vec<Extent> = extents.iter().copied().map(extent).collect();
+        let made = station::file_entry(&ours, block);
+        assert_eq!(made, entry_sector(block, &extents), "case {case}");
+    }
 }
 
 /// The text tells number and cause; a refusal is an error like others.

@@ -5,10 +5,10 @@
 mod common;
 
 use common::built::{fourth, BLOCK};
-use common::forge::vat_behind;
 use common::pair::tell_compared;
 use common::stamps::{Told, HALF_PAST};
 use common::station::{done, refused, Station};
+use common::tables::vat_behind;
 use station_model::answer::Answer;
 use station_model::calls::Call;
 use station_model::disc::{DATA, LINK};

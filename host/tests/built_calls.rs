@@ -4,14 +4,15 @@
 mod common;
 
 use common::built::{every_call, saved, BLOCK};
-use common::forge::{self, vat_behind};
+use common::forge;
 use common::pair::{tell_compared, Pair};
-use common::random::{cases, Random};
+use common::random::{cases, seed, Random};
 use common::stamps::{put_modified, ANSWER, HALF_PAST};
 use common::station::{done, refused, Station};
+use common::tables::vat_behind;
 use station_model::calls::Call;
 use station_model::disc::{BLANK, DATA, LINK, UNREADABLE};
-use station_model::ledger::Volume;
+use station_model::ledger::{Volume, LEDGER};
 use station_model::table::{LIMIT, NONE, SECTOR};
 
 /// A table sector in each block, naming the one before, every other one behind
@@ -369,4 +370,19 @@ fn map_filled_to_the_limit() {
     }
     pair.compare_whole();
     tell_compared("map_filled_to_the_limit");
+}
+
+/// The model's own ledger, by which these tests edit the lent one: load and store
+/// are inverse on any 1,848 bytes, and other lengths are none.
+#[test]
+fn ledger_bytes() {
+    let mut random = Random::seeded(seed());
+    for _ in 0..100 {
+        let bytes = random.bytes(LEDGER);
+        let volume = Volume::load(&bytes).expect("1,848 bytes");
+        assert_eq!(volume.to_bytes().to_vec(), bytes);
+    }
+    assert_eq!(4 * LIMIT + 16, LEDGER);
+    assert!(Volume::load(&[0; LEDGER - 1]).is_none());
+    assert!(Volume::load(&[0; LEDGER + 1]).is_none());
 }

@@ -167,8 +167,7 @@ fn what_is_burned_is_what_was_recorded() {
         }
         for _ in 0..40 {
             let call = forge::call(&mut random, forge::size_in(&working.ledger), 3);
-            let recorded = recorded(&working.kinds) as u32;
-            let mut buffer = forge::buffer(&mut random, call, &working.image, recorded);
+            let mut buffer = forge::buffer(&mut random, call, &working.image, &working.kinds);
             working.call_lent(call, &mut buffer);
             *met.entry(burn(&mut medium, &working)).or_default() += 1;
             assert!(same_disc(&medium, &working), "{call:?}, case {case}");

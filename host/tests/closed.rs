@@ -9,11 +9,12 @@ mod common;
 
 use common::built::{every_call, saved, BLOCK};
 use common::closing::{closed_by_another, disc_of_closings, mounted, pointer, CLOSE};
-use common::forge::{self, put_sum, vat_behind};
+use common::forge;
 use common::pair::{tell_compared, Pair};
 use common::random::{cases, Random};
 use common::stamps::HALF_PAST;
 use common::station::{done, refused, Station};
+use common::tables::{put_sum, vat_behind};
 use station_model::answer::Answer;
 use station_model::calls::Call;
 use station_model::disc::{BLANK, DATA, LINK, UNREADABLE};

@@ -18,6 +18,7 @@ use common::closing::{anchor, cuts, disc_of_closings, disc_with_room, has_pointe
 use common::core::{Core, Short};
 use common::forge;
 use common::random::{seed, Random};
+use common::runs::{self, Shown};
 use common::station::Station;
 use common::tally::Tally;
 use station_model::answer::Answer;
@@ -74,6 +75,7 @@ struct Made {
 }
 
 /// One list in the making: the disc, the book, and what has happened.
+#[derive(Clone)]
 struct List {
     core: Core,
     history: History,
@@ -82,6 +84,8 @@ struct List {
     /// Whether a closing has closed the disc; unknown where a sector had a
     /// pointer's tag at the start.
     closed: Option<bool>,
+    /// What the disc was seen to show of runs.
+    shown: Shown,
     events: Vec<String>,
 }
 
@@ -105,6 +109,7 @@ impl List {
             history,
             lost: false,
             closed,
+            shown: Shown::default(),
             events,
         }
     }
@@ -138,9 +143,11 @@ impl List {
         self.agrees(random)
     }
 
-    /// Agrees with the book, and is closed or not as it must be.
-    fn agrees(&self, random: &mut Random) -> Result<(), String> {
+    /// Agrees with the book, shows of each run what it did, and is closed or not as
+    /// it must be.
+    fn agrees(&mut self, random: &mut Random) -> Result<(), String> {
         compare(&self.core, &self.history, random)?;
+        self.shown.compare(&self.core)?;
         let Core { image, kinds, .. } = &self.core;
         let told = station::is_closed(image, kinds);
         let closed = self.core.disc().is_closed();
@@ -156,8 +163,8 @@ impl List {
     /// A random call, with numbers near those that mean something.
     fn attempt(&self, random: &mut Random) -> Attempt {
         let call = self.call(random);
-        let recorded = self.core.disc().recorded();
-        let mut buffer = forge::buffer(random, call, &self.core.image, recorded);
+        let call = runs::aimed(random, &self.core.disc(), &self.core.volume(), call);
+        let mut buffer = forge::buffer(random, call, &self.core.image, &self.core.kinds);
         let mut short = Short::default();
         match (random.below(40), call.lent_length()) {
             (0, _) => short.image = 1,
@@ -183,18 +190,23 @@ impl List {
         if self.core.disc().blank() as usize >= CLOSING && random.one_in(8) {
             return Call::CloseSession(anchor(random));
         }
-        match random.below(35) {
+        match random.below(43) {
             0 => Call::Begin,
             1 => Call::Mount,
-            2..=12 => Call::Write(number(random, size)),
-            13..=16 => Call::Release(number(random, size)),
+            2..=12 => Call::Write(forge::number(random, size)),
+            13..=16 => Call::Release(forge::number(random, size)),
             17..=18 => Call::ClosePacket,
             19..=22 => Call::Commit,
             23..=27 => Call::CommitAt,
-            28..=29 => Call::Read(number(random, size)),
-            30..=31 => Call::TimeOf(number(random, pages)),
+            28..=29 => Call::Read(forge::number(random, size)),
+            30..=31 => Call::TimeOf(forge::number(random, pages)),
             32 => Call::CloseSession(anchor(random)),
-            _ => Call::LookBack(number(random, pages)),
+            33..=36 => Call::WriteUnnumbered,
+            37..=40 => Call::View {
+                v: forge::number(random, size),
+                offset: runs::offset(random),
+            },
+            _ => Call::LookBack(forge::number(random, pages)),
         }
     }
 
@@ -227,13 +239,14 @@ impl List {
     }
 
     /// "After each call that is done, the ledger's recorded equals the
-    /// disc's"; and what changes or saves the draft finds one in the book.
+    /// disc's"; and what changes or saves the draft, or records beside it, finds one in the book.
     fn check_done(&self, attempt: &Attempt, after: &Core) -> Result<(), String> {
         if after.volume().recorded != after.disc().recorded() {
             return Err("the ledger's recorded is not the disc's".into());
         }
         let changes_draft = matches!(attempt.call, Call::Write(_) | Call::Release(_));
-        let on_draft = changes_draft || attempt.call.is_commit();
+        let records = attempt.call == Call::WriteUnnumbered || attempt.call.is_commit();
+        let on_draft = changes_draft || records;
         if on_draft && self.history.draft.is_none() {
             return Err("done, and the book has no draft".into());
         }
@@ -262,11 +275,8 @@ impl List {
         let cuts = cuts(made.sectors, random);
         for j in &cuts {
             let mut branch = List {
-                core: self.core.clone(),
-                history: self.history.clone(),
-                lost: self.lost,
-                closed: self.closed,
                 events: Vec::new(),
+                ..self.clone()
             };
             branch.cut(attempt, made, *j, random);
             branch
@@ -303,15 +313,6 @@ impl List {
         };
         let event = format!("{call:?} (not lent: {short:?}{lost}{written}): {ending}");
         self.events.push(event);
-    }
-}
-
-/// A number near the bound, rarely far above it.
-fn number(random: &mut Random, bound: usize) -> u32 {
-    match random.below(16) {
-        0 => [458, 459, 500, u32::MAX][random.below(4)],
-        1..=6 => bound as u32,
-        _ => random.below(bound + 2) as u32,
     }
 }
 

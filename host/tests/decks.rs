@@ -15,6 +15,8 @@ mod descriptors;
 mod disc;
 #[path = "decks/reader.rs"]
 mod reader;
+#[path = "decks/runs.rs"]
+mod runs;
 #[path = "decks/udftools.rs"]
 mod udftools;
 #[path = "decks/writer.rs"]

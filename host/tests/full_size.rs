@@ -12,15 +12,18 @@ use std::thread;
 use common::built::fourth;
 use common::closing::{starting, CLOSE};
 use common::core::{unpacked, Core, Short};
-use common::forge::vat_behind;
 use common::guarded::Guarded;
+use common::runs::extent;
 use common::stamps::HALF_PAST;
 use common::station::{done, refused};
+use common::tables::vat_behind;
 use station_model::anchor::pointer_sector;
 use station_model::answer::{Answer, Refusal};
-use station_model::calls::{effect, Call, Effect, Lent};
+use station_model::calls::{effect, Call, Lent};
 use station_model::disc::{Sector, DATA, LINK, MOST_SECTORS, UNREADABLE};
+use station_model::effect::Effect;
 use station_model::ledger::{Volume, LEDGER};
+use station_model::run::{entry_sector, MOST_VIEWED};
 use station_model::table::{stamped_vat_sector, vat_sector, NONE, SECTOR};
 
 /// "every call runs on a 256 KiB stack"
@@ -108,7 +111,7 @@ impl FullSize {
                 assert_eq!(answer, Answer::done(effect.second), "{call:?}");
                 let after = effect.volume.as_ref();
                 ledger = after.map_or(ledger, |volume| volume.to_bytes().to_vec());
-                buffer = effect.shown.clone().unwrap_or(buffer);
+                effect.show_in(&mut buffer);
                 self.compare_sectors(&mut kinds, &effect.sectors);
             }
         }
@@ -151,11 +154,12 @@ fn one_sector_too_many(disc: &mut FullSize) {
     }
 }
 
-fn every_call() -> [Call; 11] {
+fn every_call() -> [Call; 13] {
     [
         Call::Begin,
         Call::Mount,
         Call::Write(0),
+        Call::WriteUnnumbered,
         Call::Release(0),
         Call::ClosePacket,
         Call::Commit,
@@ -164,6 +168,7 @@ fn every_call() -> [Call; 11] {
         Call::LookBack(0),
         Call::TimeOf(0),
         CLOSE,
+        Call::View { v: 0, offset: 0 },
     ]
 }
 
@@ -180,15 +185,17 @@ fn recorded_at_the_start(disc: &mut FullSize) {
     assert_eq!(disc.call(Call::Begin), refused(6));
 }
 
-/// Data up to the 272nd sector before the end: room for seven links, a write and
-/// its reserve of 264, and for no second write.
+/// Data up to the 273rd sector before the end: room for seven links, two writes and
+/// their reserve of 264, and for no third write.
 fn recorded_at_the_end(disc: &mut FullSize) {
-    disc.kinds()[2..MOST_SECTORS - 272].fill(DATA);
+    disc.kinds()[2..MOST_SECTORS - 273].fill(DATA);
     assert_eq!(disc.call(Call::Mount), done(0));
     assert_eq!(disc.call(Call::LookBack(0)), done(1));
     assert_eq!(disc.call(Call::Mount), done(0));
+    assert_eq!(disc.call(Call::WriteUnnumbered), done(SECTORS - 266));
     assert_eq!(disc.call(Call::Write(1)), done(SECTORS - 265));
     assert_eq!(disc.call(Call::Write(2)), refused(14));
+    assert_eq!(disc.call(Call::WriteUnnumbered), refused(14));
     assert_eq!(disc.call(Call::Release(0)), done(0));
     assert_eq!(disc.call(Call::Read(1)), done(0));
     assert_eq!(disc.call(Call::CommitAt), done(SECTORS - 264));
@@ -261,6 +268,7 @@ fn chain(disc: &mut FullSize) {
     assert_eq!(disc.call(Call::Begin), refused(6));
     assert_eq!(disc.call(Call::Mount), done(1));
     assert_eq!(disc.call(Call::Write(0)), refused(14));
+    assert_eq!(disc.call(Call::WriteUnnumbered), refused(14));
     assert_eq!(disc.call(Call::Commit), refused(14));
     assert_eq!(disc.call(Call::CommitAt), refused(14));
     assert_eq!(disc.call(CLOSE), refused(14));
@@ -302,6 +310,40 @@ fn table_in_the_first_sector(disc: &mut FullSize) {
     assert_eq!(disc.call(Call::Commit), refused(4));
 }
 
+/// The entry of the last sector, for all sectors before it.
+fn entry_of_all() -> [u8; SECTOR] {
+    let all = extent((MOST_SECTORS - 1) * SECTOR, 0);
+    entry_sector(SECTORS - 1, &[all])
+}
+
+/// A run of all sectors but the last, which is its entry.
+fn run_over_the_disc(disc: &mut FullSize) {
+    let view = |offset: usize| Call::View {
+        v: 0,
+        offset: offset as u64,
+    };
+    let length = (MOST_SECTORS - 1) * SECTOR;
+    disc.kinds().fill(DATA);
+    disc.put_sector(SECTORS - 1, &entry_of_all());
+    disc.lend_ledger(|volume| {
+        volume.map.fill(NONE);
+        (volume.size, volume.recorded) = (0, SECTORS);
+        (volume.last_vat, volume.mode) = (NONE, 2);
+        volume.set(0, SECTORS - 1);
+    });
+    for offset in [0, 1, length / 2 + 77, length - MOST_VIEWED] {
+        assert_eq!(disc.call(view(offset)), done(MOST_VIEWED as u32));
+    }
+    assert_eq!(disc.call(view(length - 1)), done(1));
+    assert_eq!(disc.call(view(length)), done(0));
+    assert_eq!(disc.call(view(length + 1)), refused(20));
+    for block in [0, MOST_SECTORS / 2, MOST_SECTORS - 2] {
+        disc.kinds()[block] = UNREADABLE;
+        assert_eq!(disc.call(view(0)), refused(19));
+        disc.kinds()[block] = DATA;
+    }
+}
+
 #[test]
 fn a_disc_of_360_000_sectors() {
     let mut disc = FullSize::blank();
@@ -314,7 +356,7 @@ fn a_disc_of_360_000_sectors() {
     disc.compare_image(|block| match block {
         0 => [0x5A; SECTOR],
         1 => vat_sector(1, &[0], NONE),
-        _ if block == SECTORS - 265 => [0x5A; SECTOR],
+        _ if block == SECTORS - 266 || block == SECTORS - 265 => [0x5A; SECTOR],
         _ if block == SECTORS - 264 => {
             stamped_vat_sector(block, &[NONE, SECTORS - 265], 1, &HALF_PAST)
         }
@@ -325,8 +367,10 @@ fn a_disc_of_360_000_sectors() {
     chain(&mut disc);
     broken_chain(&mut disc);
     table_in_the_first_sector(&mut disc);
+    run_over_the_disc(&mut disc);
     disc.compare_image(|block| match block {
         SECTORS => [0; SECTOR],
+        _ if block == SECTORS - 1 => entry_of_all(),
         _ => link_of_the_chain(block),
     });
     println!("{} calls compared at full size", disc.compared);

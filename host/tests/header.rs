@@ -9,7 +9,7 @@ use station::Refusal;
 /// The folder of the archive that this package links.
 const ARCHIVE: &str = env!("STATION_ARCHIVE_FOLDER");
 
-const REFUSALS: [Refusal; 18] = [
+const REFUSALS: [Refusal; 20] = [
     Refusal::DiscSize,
     Refusal::LentLength,
     Refusal::DiscUnsound,
@@ -28,6 +28,8 @@ const REFUSALS: [Refusal; 18] = [
     Refusal::BadTimestamp,
     Refusal::SessionClosed,
     Refusal::PartitionStart,
+    Refusal::NotARun,
+    Refusal::BeyondTheRun,
 ];
 
 fn package() -> &'static Path {
@@ -68,7 +70,7 @@ fn a_c_program_records_and_mounts() {
     let said = run(&mut Command::new(program));
     assert_eq!(
         said,
-        "recorded, mounted, read, looked back, told the times and closed\n"
+        "recorded, mounted, read, looked back, told the times, viewed a run and closed\n"
     );
 }
 
@@ -94,6 +96,8 @@ fn the_header_has_the_crates_numbers() {
         ("LEDGER", station::LEDGER.to_string()),
         ("STAMP", station::STAMP.to_string()),
         ("TIME", station::TIME.to_string()),
+        ("MOST_VIEWED", station::MOST_VIEWED.to_string()),
+        ("MOST_EXTENTS", station::MOST_EXTENTS.to_string()),
         ("MOST_SECTORS", station::MOST_SECTORS.to_string()),
         ("LIMIT", station::LIMIT.to_string()),
         ("UNUSED", format!("0x{:X}u", station::UNUSED)),

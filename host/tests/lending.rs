@@ -1,15 +1,17 @@
 //! Every wrong length of image, kinds, ledger and the fourth buffer (a block, a
-//! timestamp or an answer), alone and together, on the core and on the model,
-//! compared.
+//! timestamp, an answer, or one for a view), alone and together, on the core and on
+//! the model, compared.
 
 mod common;
 
 use common::built::{fourth, saved, saved_at};
 use common::closing::CLOSE;
 use common::pair::{tell_compared, Pair};
-use common::station::{refused, Station};
+use common::runs::{extent, with_run, VIEWED};
+use common::station::{done, refused, Station};
 use station_model::calls::Call;
 use station_model::ledger::LEDGER;
+use station_model::run::MOST_VIEWED;
 use station_model::table::SECTOR;
 
 /// Right, none, one less, one more, and doubled.
@@ -23,10 +25,11 @@ fn resized(bytes: &[u8], length: usize) -> Vec<u8> {
     resized
 }
 
-const CALLS: [Call; 11] = [
+const CALLS: [Call; 13] = [
     Call::Begin,
     Call::Mount,
     Call::Write(0),
+    Call::WriteUnnumbered,
     Call::Release(0),
     Call::ClosePacket,
     Call::Commit,
@@ -34,10 +37,13 @@ const CALLS: [Call; 11] = [
     Call::Read(0),
     Call::LookBack(0),
     Call::TimeOf(0),
+    VIEW,
     CLOSE,
 ];
 
-/// All eleven calls with the station's buffers at each length; a kind that no
+const VIEW: Call = Call::View { v: 0, offset: 0 };
+
+/// All thirteen calls with the station's buffers at each length; a kind that no
 /// disc has, or a spoiled ledger, shows that the refusal tested first is given.
 fn at_each_length(station: &Station) {
     for image in lengths(station.image.len()) {
@@ -122,6 +128,26 @@ fn lengths_with_a_high_bit() {
         pair.take_back(&station);
     }
     tell_compared("lengths_with_a_high_bit");
+}
+
+/// A view's buffer may have any length up to 65,536, and is then filled as far as
+/// the run goes; a longer one gives 2.
+#[test]
+fn every_length_of_a_views_buffer() {
+    let extents = [extent(3 * SECTOR, 1), extent(16 * SECTOR - 9, 2)];
+    let station = with_run(&extents);
+    let run = 19 * SECTOR - 9;
+    let mut pair = Pair::holding(&station);
+    for border in (0..=MOST_VIEWED).step_by(SECTOR).chain([run]) {
+        for length in border.saturating_sub(20)..=MOST_VIEWED.min(border + 20) {
+            let answer = pair.call(VIEW, &VIEWED[..length]);
+            assert_eq!(answer, done(length.min(run) as u32));
+        }
+    }
+    for length in [MOST_VIEWED + 1, 2 * MOST_VIEWED, 1 << 24] {
+        assert_eq!(pair.call(VIEW, &vec![7; length]), refused(2), "{length}");
+    }
+    tell_compared("every_length_of_a_views_buffer");
 }
 
 /// Image lengths about every multiple of a sector.

@@ -7,8 +7,8 @@ use std::io::Write;
 use std::path::Path;
 use std::process::{Command, Stdio};
 
-use common::forge::{most_attributes, vat_behind};
 use common::station::Station;
+use common::tables::{most_attributes, vat_behind};
 use station_model::answer::Refusal;
 use station_model::calls::Call;
 use station_model::disc::Disc;

@@ -9,6 +9,7 @@ use common::closing::disc_of_closings;
 use common::forge;
 use common::pair::Pair;
 use common::random::{cases, Random};
+use common::runs::{aimed, plant_entries};
 use common::station::Station;
 use common::tally::Outcomes;
 use station_model::calls::Call;
@@ -16,8 +17,8 @@ use station_model::ledger::{LEDGER, READ_ONLY};
 use station_model::table::SECTOR;
 
 /// A disc of a few sectors, so that comparing it is cheap: blank, used, with
-/// tables, or with chains of them; rarely a larger one, that has room for a closing
-/// or is closed.
+/// tables, or with chains of them, and some with entries of runs; rarely a larger
+/// one, that has room for a closing or is closed.
 fn small_disc(random: &mut Random) -> Station {
     if random.one_in(24) {
         let mut station = disc_of_closings(random);
@@ -35,6 +36,9 @@ fn small_disc(random: &mut Random) -> Station {
         3 => forge::disc_of_chains(random, sectors),
         _ => forge::used_disc_with_vats(random, sectors),
     };
+    if random.one_in(2) {
+        plant_entries(random, &mut station);
+    }
     random.fill(&mut station.ledger);
     station
 }
@@ -43,8 +47,8 @@ fn small_disc(random: &mut Random) -> Station {
 fn one_call(pair: &mut Pair, random: &mut Random) {
     let station = pair.station();
     let call = forge::call(random, forge::size_in(&station.ledger), 3);
-    let recorded = station.kinds.iter().take_while(|kind| **kind != 0).count();
-    let buffer = forge::buffer(random, call, &station.image, recorded as u32);
+    let call = aimed(random, &station.disc(), &station.volume(), call);
+    let buffer = forge::buffer(random, call, &station.image, &station.kinds);
     pair.call(call, &buffer);
 }
 
@@ -184,7 +188,9 @@ fn lists_of_calls() {
     run(
         20_000,
         list,
-        &[0, 3, 4, 5, 6, 7, 8, 9, 10, 11, 12, 13, 14, 15, 16, 17, 18],
+        &[
+            0, 3, 4, 5, 6, 7, 8, 9, 10, 11, 12, 13, 14, 15, 16, 17, 18, 19, 20,
+        ],
     );
 }
 
@@ -193,7 +199,9 @@ fn calls_with_any_ledgers() {
     run(
         20_000,
         any_ledgers,
-        &[0, 4, 5, 6, 7, 8, 9, 10, 11, 12, 13, 14, 15, 16, 17, 18],
+        &[
+            0, 4, 5, 6, 7, 8, 9, 10, 11, 12, 13, 14, 15, 16, 17, 18, 19, 20,
+        ],
     );
 }
 

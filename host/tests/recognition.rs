@@ -4,11 +4,12 @@
 
 mod common;
 
-use common::forge::{self, most_attributes, vat_behind};
+use common::forge;
 use common::pair::tell_compared;
 use common::random::{cases, Random};
 use common::recogniser::Recogniser;
 use common::station::{done, Station};
+use common::tables::{most_attributes, vat_behind};
 use station_model::calls::Call;
 use station_model::disc::{DATA, UNREADABLE};
 use station_model::table::{seal, LIMIT, NONE, SECTOR};

@@ -6,14 +6,14 @@
 mod common;
 
 use common::built::{saved, saved_at, BLOCK};
-use common::closing::{starting, CLOSE};
+use common::closing::{pointer, starting, CLOSE};
 use common::pair::tell_compared;
-use common::random::{seed, Random};
+use common::runs::{extent, with_run, ENTRY, VIEWED};
 use common::stamps::{ANSWER, HALF_PAST};
 use common::station::{done, refused, Station};
 use station_model::calls::Call;
 use station_model::disc::{BLANK, DATA, LINK, UNREADABLE};
-use station_model::ledger::{Volume, LEDGER};
+use station_model::ledger::Volume;
 use station_model::table::{vat_sector, LIMIT, NONE, SECTOR};
 use station_model::time::NO_STAMP;
 
@@ -36,7 +36,7 @@ fn earlier_refusals_win(mut station: Station, call: Call, buffer: &[u8]) {
         call,
         Call::Begin | Call::Mount | Call::LookBack(_) | Call::TimeOf(_)
     );
-    if reads_ledger && !matches!(call, Call::Read(_)) {
+    if reads_ledger && !matches!(call, Call::Read(_) | Call::View { .. }) {
         station.change(|volume| volume.mode = 2);
         assert_eq!(outcome(&station, call, buffer), 5, "{call:?}");
     }
@@ -77,6 +77,34 @@ fn write() {
     tell_compared("write");
 }
 
+/// "Unnumbered writes are writes in all but the entry" (document 02): no number can
+/// be too high, also where all are taken, and the rest comes as on a write.
+#[test]
+fn write_unnumbered() {
+    let call = Call::WriteUnnumbered;
+    let mut station = Station::begun(9);
+    for size in [0, 1, 457, 458] {
+        station.change(|volume| volume.size = size);
+        assert_eq!(outcome(&station, call, &BLOCK), 0);
+    }
+    let table = vat_sector(0, &[], NONE);
+    assert_eq!(outcome(&station, call, &table), 15);
+    assert_eq!(outcome(&station, call, &pointer(0, 0)), 15);
+    station.kinds.pop();
+    station.image.truncate(8 * SECTOR);
+    assert_eq!(outcome(&station, call, &BLOCK), 14);
+    assert_eq!(outcome(&station, call, &table), 14);
+    earlier_refusals_win(station, call, &table);
+    let mut taken = saved(30);
+    taken.change(|volume| {
+        volume.map.fill(0);
+        volume.size = LIMIT as u32;
+    });
+    assert_eq!(outcome(&taken, Call::Write(458), &BLOCK), 13);
+    assert_eq!(taken.write_unnumbered(&BLOCK), done(2));
+    tell_compared("write_unnumbered");
+}
+
 /// "Testing for 15 at the block before the links" goes wrong.
 #[test]
 fn table_sector_behind_the_links() {
@@ -85,6 +113,7 @@ fn table_sector_behind_the_links() {
     let before_links = vat_sector(2, &[0], 1);
     let behind_links = vat_sector(9, &[0], 1);
     assert_eq!(outcome(&station, Call::Write(1), &behind_links), 15);
+    assert_eq!(outcome(&station, Call::WriteUnnumbered, &behind_links), 15);
     assert_eq!(station.write(1, &before_links), done(9));
     tell_compared("table_sector_behind_the_links");
 }
@@ -108,6 +137,38 @@ fn release_and_read() {
         earlier_refusals_win(station.clone(), call, &BLOCK);
     }
     tell_compared("release_and_read");
+}
+
+/// 19 is "tested after 11", and 20 "tested after 19" (document 02): an entry whose
+/// run is shorter than the offset, then one that is none, then one that cannot be
+/// read, then a number that is not in use.
+#[test]
+fn view() {
+    let beyond = Call::View { v: 0, offset: 5001 };
+    let mut station = with_run(&[extent(5000, 3)]);
+    for (v, offset, expected) in [(0, 5000, 0), (0, 5001, 20), (0, u64::MAX, 20), (1, 0, 10)] {
+        let call = Call::View { v, offset };
+        assert_eq!(outcome(&station, call, &VIEWED), expected);
+        station.change(|volume| volume.mode = 2);
+        assert_eq!(outcome(&station, call, &VIEWED), expected);
+        station.change(|volume| volume.mode = 0);
+    }
+    earlier_refusals_win(station.clone(), beyond, &VIEWED);
+    station.kinds[5] = LINK;
+    assert_eq!(outcome(&station, beyond, &VIEWED), 19);
+    earlier_refusals_win(station.clone(), beyond, &VIEWED);
+    for kind in [LINK, UNREADABLE] {
+        station.kinds[ENTRY as usize] = kind;
+        assert_eq!(outcome(&station, beyond, &VIEWED), 11);
+    }
+    earlier_refusals_win(station.clone(), beyond, &VIEWED);
+    assert_eq!(station.call(Call::Release(0)), done(0));
+    for v in [0, 1, LIMIT as u32, NONE] {
+        let call = Call::View { v, offset: 5001 };
+        assert_eq!(outcome(&station, call, &VIEWED), 10);
+        earlier_refusals_win(station.clone(), call, &VIEWED);
+    }
+    tell_compared("view");
 }
 
 /// "Commit links + 1": on the last blank sector in an open packet, on the last
@@ -244,6 +305,8 @@ fn closed_disc() {
         (Call::Write(0), &table),
         (Call::Write(2), &table),
         (Call::Write(500), &table),
+        (Call::WriteUnnumbered, &BLOCK),
+        (Call::WriteUnnumbered, &table),
         (Call::Release(0), &[]),
         (Call::Release(7), &[]),
         (Call::ClosePacket, &[]),
@@ -263,6 +326,7 @@ fn closed_disc() {
         (Call::Read(1), &BLOCK, 10),
         (Call::LookBack(1), &[], 0),
         (Call::TimeOf(0), &ANSWER, 16),
+        (Call::View { v: 0, offset: 0 }, &VIEWED, 19),
     ] {
         assert_eq!(outcome(&station, call, buffer), expected, "{call:?}");
     }
@@ -324,19 +388,4 @@ fn fewest_sectors() {
         assert_eq!(station.call(Call::Begin).outcome, expected);
     }
     tell_compared("fewest_sectors");
-}
-
-/// The model's own ledger, by which these tests edit the lent one: load and store
-/// are inverse on any 1,848 bytes, and other lengths are none.
-#[test]
-fn ledger_bytes() {
-    let mut random = Random::seeded(seed());
-    for _ in 0..100 {
-        let bytes = random.bytes(LEDGER);
-        let volume = Volume::load(&bytes).expect("1,848 bytes");
-        assert_eq!(volume.to_bytes().to_vec(), bytes);
-    }
-    assert_eq!(4 * LIMIT + 16, LEDGER);
-    assert!(Volume::load(&[0; LEDGER - 1]).is_none());
-    assert!(Volume::load(&[0; LEDGER + 1]).is_none());
 }

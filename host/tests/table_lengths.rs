@@ -5,10 +5,10 @@
 
 mod common;
 
-use common::forge::{put_lengths, seal_over, vat_behind};
 use common::pair::tell_compared;
 use common::recogniser::Recogniser;
 use common::station::{done, Station};
+use common::tables::{put_lengths, seal_over, vat_behind};
 use station_model::calls::Call;
 use station_model::disc::{DATA, LINK};
 use station_model::fields::put;

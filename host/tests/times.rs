@@ -5,11 +5,11 @@
 mod common;
 
 use common::built::{saved, saved_at, BLOCK};
-use common::forge::vat_behind;
 use common::pair::tell_compared;
 use common::random::{cases, Random};
 use common::stamps::{noon, put_modified, stamp, told_by_model, Told, HALF_PAST, NOON};
 use common::station::{done, refused, Station};
+use common::tables::vat_behind;
 use station::Timestamp;
 use station_model::calls::Call;
 use station_model::disc::{DATA, LINK, UNREADABLE};

@@ -7,10 +7,9 @@ use mathlib.Core.Path.{_≡_, refl, ap, _∙_, subst, subst₂}
 use mathlib.Core.Bool.{Bool, true, not}
 use mathlib.Core.List.{List, [], _∷_, _++_}
 use mathlib.Core.Option.{Option, some}
-use lib.Dec.{eqb, ltb, leb}
-use lib.ListN.{length, getD, replicate, length-take}
+use lib.Dec.{eqb, ltb}
+use lib.ListN.{length, replicate, length-take}
 use Rattle.timestamp.specs.Timestamp.{valid, told}
-use Rattle.vat.specs.Table.{limit, unused}
 use Rattle.vat.specs.Sector.{noStamp, sector}
 use Rattle.vat.proofs.Theorems.{length-sector}
 use Rattle.anchor.specs.Anchor.{farthestStart}
@@ -23,9 +22,9 @@ use Rattle.disc.proofs.Found.{newest-table}
 use Rattle.volume.specs.declared.Volume.{Volume}
 use Rattle.volume.specs.Volume.{idle, readOnly, unpack, pack, mapOf, begun, filled}
 use Rattle.recorder.specs.Calls.{Call, begin, mount, write, release, closePacket, commit, closeSession, read, lookBack, timeOf, stampBuffer, bufferOf}
-use Rattle.recorder.specs.Refusals.{test, first, links, target, reserve, basic, ledgerLent, blockLent, stampLent, answerLent, unfit, gate, forbiddenAt, stampWrong, noRoom, notInUse, isSome, walked, isBroken, isEnded, walkTests, tests, outcome}
+use Rattle.recorder.specs.Refusals.{test, first, links, target, reserve, basic, ledgerLent, blockLent, stampLent, answerLent, unfit, gate, forbiddenAt, numberTests, stampWrong, noRoom, blockOf, notInUse, isSome, walked, isBroken, isEnded, walkTests, tests, outcome}
 use Rattle.recorder.specs.Effects.{Effect, settles, blockReached, cleanNumber, stampOf, saved, effect, settled, after, ifDone, sectorsIf, secondNumber, sectorsOf}
-use Rattle.alike.specs.Alike.{Alike, SameCall, MeanNothing}
+use Rattle.alike.specs.Alike.{Alike, SameCall}
 use Rattle.recorder.proofs.Done.{SaveDone, mount-done, write-done, commit-done, closing-done, look-back-done, read-done}
 use Rattle.history.proofs.Steps.{walked-table}
 use Rattle.recorder.proofs.Sectors.{AllWhole, links-whole, whole-append, behind-whole}
@@ -64,10 +63,10 @@ sectors-whole d l c = go (outcome d l c) refl
     go (suc n) z = tt
 
 module _ {d e : Disc} (a : Alike d e) where
-  same-basic : (lengths : Bool) → basic d lengths ≡ basic e lengths
+  pub same-basic : (lengths : Bool) → basic d lengths ≡ basic e lengths
   same-basic lengths = λ i. test 1 (not (same-sized a i)) ∷ test 2 (not lengths) ∷ test 3 (not (same-order a i)) ∷ []
 
-  same-unfit : (l : List ℕ) → unfit d l ≡ unfit e l
+  pub same-unfit : (l : List ℕ) → unfit d l ≡ unfit e l
   same-unfit l = λ i. test 4 (not (same-fits a (unpack l) i))
 
   same-walk : (k : ℕ) → walkTests d k ≡ walkTests e k
@@ -86,11 +85,10 @@ module _ {d e : Disc} (a : Alike d e) where
   same-tests l (write n block) = λ i.
       same-basic (blockLent l block) i
       ++ (same-gate l i
-      ++ (test 13 (leb limit n)
-      ∷ test 12 (ltb (unpack l .size) n)
-      ∷ test 14 (ltb (same-blanks a i) (links (unpack l) + 1 + reserve (length (a .same-kinds i))))
+      ++ (numberTests (unpack l) n
+      ++ (test 14 (ltb (same-blanks a i) (links (unpack l) + 1 + reserve (length (a .same-kinds i))))
       ∷ test 15 (forbiddenAt (target (unpack l)) block)
-      ∷ []))
+      ∷ [])))
   same-tests l (release n) = λ i. same-basic (ledgerLent l) i ++ (same-gate l i ++ (test 10 (notInUse (unpack l) n) ∷ []))
   same-tests l closePacket = λ i. same-basic (ledgerLent l) i ++ same-gate l i
   same-tests l (commit stamp) = λ i.
@@ -101,7 +99,7 @@ module _ {d e : Disc} (a : Alike d e) where
       same-basic (blockLent l block) i
       ++ (same-unfit l i
       ∷ test 10 (notInUse (unpack l) n)
-      ∷ test 11 (not (eqb (same-kind a (getD (unpack l .entries) n unused) i) 1))
+      ∷ test 11 (not (eqb (same-kind a (blockOf (unpack l) n) i) 1))
       ∷ [])
   same-tests l (lookBack k) = λ i. same-basic (ledgerLent l) i ++ same-walk k i
   same-tests l (timeOf k answer) = λ i. same-basic (answerLent l answer) i ++ (same-walk k i ++ (test 16 (not (valid (same-time a k i))) ∷ []))
@@ -141,7 +139,7 @@ module _ {d e : Disc} (a : Alike d e) where
         second = 0;
         sectors = [];
         ledger = l;
-        buffer = a .same-data (getD (unpack l .entries) n unused) (read-done d l n block h .data-kind) i;
+        buffer = a .same-data (blockOf (unpack l) n) (read-done d l n block h .data-kind) i;
       }
   same-effect l (lookBack k) h = λ i.
       settles (blockReached (same-walked a k i))
@@ -165,7 +163,7 @@ module _ {d e : Disc} (a : Alike d e) where
         go zero z = ap (f 0) (same-effect l c z) ∙ done (effect e l c)
         go (suc n) z = refused n (effect d l c) (effect e l c)
 
-    same-call : SameCall d e l c
+    pub same-call : SameCall d e l c
     unfolding after secondNumber sectorsOf
     same-call =
         record {
@@ -179,6 +177,3 @@ module _ {d e : Disc} (a : Alike d e) where
               subst (λ (o : ℕ). Alike (settled d l (bufferOf c) (outcome d l c) (effect d l c) .disc) (settled e l (bufferOf c) o (effect e l c) .disc)) (same-outcome l c)
               (settled-alike l c (outcome d l c) refl);
         }
-
-pub alike-calls : MeanNothing
-alike-calls d e a l c = same-call a l c

@@ -1,4 +1,5 @@
 pub mod Discs
 pub mod Calls
+pub mod Views
 pub mod Ahead
 pub mod Scribbles

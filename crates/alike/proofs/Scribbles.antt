@@ -16,7 +16,8 @@ use Rattle.recorder.specs.Effects.{effect, After, settled, after, sectorsOf}
 use Rattle.alike.specs.Alike.{Alike, SameCall}
 use Rattle.recorder.proofs.Sectors.{AllWhole, whole-take}
 use Rattle.alike.proofs.Discs.{alike-refl, alike-sym, alike-trans, same-recorded, alike-torn, alike-puts}
-use Rattle.alike.proofs.Calls.{sectors-whole, alike-calls}
+use Rattle.alike.proofs.Calls.{sectors-whole}
+use Rattle.alike.proofs.Views.{mean-nothing}
 use Rattle.history.specs.History.{Entry, unusedEntry, shows, Snapshot, History, Fed, answered, feed}
 use Rattle.history.specs.Events.{World, Event, calls, cuts, ledgerHeld, onlyTells, Allowed, tornAt, cutDisc, ledgerAfter, next, told, cutIf, fed, AllAllowed, runs, remembers, afterCall, begunHistory, mountedHistory}
 use Rattle.history.specs.Claim.{reading, Shows, DoneShowing, Mounts, Claim}
@@ -45,13 +46,13 @@ module _ {d e : Disc} (a : Alike d e) (o : Option (List ℕ)) where
   next-alike : (v : Event) → AlikeWorlds (next (record { disc = d; ledger = o }) v) (next (record { disc = e; ledger = o }) v)
   unfolding next
   next-alike (calls c junk) =
-      let s : SameCall d e (ledgerHeld o junk) c = alike-calls d e a (ledgerHeld o junk) c in
+      let s : SameCall d e (ledgerHeld o junk) c = mean-nothing .calls d e a (ledgerHeld o junk) c in
       record { alike-discs = s .alike-discs; same-ledger = λ i. ledgerAfter (onlyTells c) (s .same-outcome i) o (s .same-ledger i) }
   next-alike (cuts c junk j tear) =
       let l : List ℕ = ledgerHeld o junk in
       record {
         alike-discs =
-            subst (λ (ss : List Sector). Alike (cutDisc d (sectorsOf d l c) j tear) (cutDisc e ss j tear)) (alike-calls d e a l c .same-sectors)
+            subst (λ (ss : List Sector). Alike (cutDisc d (sectorsOf d l c) j tear) (cutDisc e ss j tear)) (mean-nothing .calls d e a l c .same-sectors)
             (cut-alike (sectorsOf d l c) (sectors-whole d l c) j tear);
         same-ledger = refl;
       }
@@ -59,17 +60,17 @@ module _ {d e : Disc} (a : Alike d e) (o : Option (List ℕ)) where
   fed-same : (v : Event) → fed (record { disc = d; ledger = o }) v ≡ fed (record { disc = e; ledger = o }) v
   unfolding fed
   fed-same (calls c junk) =
-      let s : SameCall d e (ledgerHeld o junk) c = alike-calls d e a (ledgerHeld o junk) c in
+      let s : SameCall d e (ledgerHeld o junk) c = mean-nothing .calls d e a (ledgerHeld o junk) c in
       λ i. answered (told c) (s .same-outcome i) (s .same-second i)
   fed-same (cuts c junk j tear) =
-      let s : SameCall d e (ledgerHeld o junk) c = alike-calls d e a (ledgerHeld o junk) c in
+      let s : SameCall d e (ledgerHeld o junk) c = mean-nothing .calls d e a (ledgerHeld o junk) c in
       λ i. cutIf (saves c) (told c) (eqb (s .same-outcome i) 0 && eqb j (length (s .same-sectors i)))
 
   allowed-same : (v : Event) → Allowed (record { disc = d; ledger = o }) v → Allowed (record { disc = e; ledger = o }) v
-  allowed-same (calls c junk) f = λ n z. f n (alike-calls d e a junk c .same-outcome ∙ z .0, z .1)
+  allowed-same (calls c junk) f = λ n z. f n (mean-nothing .calls d e a junk c .same-outcome ∙ z .0, z .1)
   allowed-same (cuts c junk j tear) f = (
-    λ n z. f .0 n (alike-calls d e a junk c .same-outcome ∙ z .0, z .1),
-    subst (λ (ss : List Sector). j ≤ length ss) (alike-calls d e a (ledgerHeld o junk) c .same-sectors) (f .1),
+    λ n z. f .0 n (mean-nothing .calls d e a junk c .same-outcome ∙ z .0, z .1),
+    subst (λ (ss : List Sector). j ≤ length ss) (mean-nothing .calls d e a (ledgerHeld o junk) c .same-sectors) (f .1),
     f .2,
   )
 
@@ -110,7 +111,7 @@ read-leaves d l n block = go (outcome d l (read n block))
 module _ {d e : Disc} (a : Alike d e) where
   read-onto : (l : List ℕ) (n : ℕ) (block : List ℕ) → after e l (read n block) ≡ onto e (after d l (read n block))
   read-onto l n block =
-      let s : SameCall d e l (read n block) = alike-calls d e a l (read n block) in
+      let s : SameCall d e l (read n block) = mean-nothing .calls d e a l (read n block) in
       λ i. record { answer = sym (s .same-answer) i; disc = read-leaves e l n block i; ledger = sym (s .same-ledger) i; buffer = sym (s .same-buffer) i }
 
   shows-alike : (l : List ℕ) (p : Snapshot) → Shows d l p → Shows e l p
@@ -123,14 +124,14 @@ module _ {d e : Disc} (a : Alike d e) where
 
   done-alike : (l : List ℕ) (c : Call) (p : Snapshot) → DoneShowing d l c p → DoneShowing e l c p
   done-alike l c p s =
-      let same : SameCall d e l c = alike-calls d e a l c in
+      let same : SameCall d e l c = mean-nothing .calls d e a l c in
       record {
         is-done = sym (same .same-outcome) ∙ s .is-done;
         showing = subst (λ (m : List ℕ). Shows e m p) (same .same-ledger) (shows-alike (after d l c .ledger) p (s .showing));
       }
 
   mounts-alike : (l : List ℕ) (ps : List Snapshot) → Mounts d l ps → Mounts e l ps
-  mounts-alike l [] m = sym (alike-calls d e a l mount .same-outcome) ∙ m
+  mounts-alike l [] m = sym (mean-nothing .calls d e a l mount .same-outcome) ∙ m
   mounts-alike l (p ∷ ps) m = done-alike l mount p m
 
   pub claim-alike : (h : History) → Claim d h → Claim e h

@@ -1,4 +1,4 @@
--- The starred rows of document 01's 'Bench examples', shown once, as one claim over one list of them, and rows for document 02's requests, as two more:
+-- The starred rows of document 01's 'Bench examples', shown once, as one claim over one list of them, and rows for document 02's requests, as three more:
 -- the checker works each out from the definitions.
 -- Assumes nothing.
 use Prim.Native.Nat.{ℕ, _+_, _*_}
@@ -14,7 +14,7 @@ use Rattle.crc.specs.Crc.{crcOf, crcFrom, byteStep}
 use Rattle.tag.specs.Tag.{crcLength, checksum, bodyCrc, summed, sealed, seal}
 use Rattle.timestamp.specs.Calendar.{months, real, daysOfYears, daysBefore, minutesBefore}
 use Rattle.timestamp.specs.Timestamp.{zoneOf, momentOf, valid, minutesOf, told}
-use Rattle.vat.specs.Table.{unused, plainRows, lengthRows, tableName, attributeLength, entryCount, entriesOf, previousOf, modifiedOf, framed, isTable}
+use Rattle.vat.specs.Table.{unused, plainRows, lengthRows, tableRows, tableName, attributeLength, entryCount, entriesOf, previousOf, modifiedOf, framed, isTable}
 use Rattle.vat.specs.Sector.{tableRegid, tableBytes, ownRows, stationName, timed, noStamp, body, sector}
 use Rattle.anchor.specs.Anchor.{extent, anchorRows, anchor, anchorTagged}
 use Rattle.disc.specs.Disc.{Disc, sized, leading, inOrder, sectorAt, content, stored, puts}
@@ -39,7 +39,7 @@ block x = x ∷ replicate 2047 0
 
 -- The table sector of n unused entries at block b behind a bytes of attributes, all zero; its sums are not put yet.
 abbrev pub behind : ℕ → ℕ → ℕ → List ℕ
-behind a n b = lay (sets (block 0) (176 + a) (tableBytes (replicate n unused) unused)) (plainRows b ++ (lengthRows a n ++ ownRows))
+behind a n b = lay (sets (block 0) (176 + a) (tableBytes (replicate n unused) unused)) (plainRows b ++ (tableRows a n ++ ownRows 3))
 
 -- A disc of two sectors, the first with these bytes, the other blank.
 abbrev pub holding : List ℕ → Disc
@@ -50,6 +50,11 @@ unfoldable pub answers : Disc → List ℕ → List Call → List ℕ
 answers d l [] = []
 answers d l (c ∷ cs) = let a : After = after d l c in a .answer ∷ answers (a .disc) (a .ledger) cs
 
+-- The ledger that they leave.
+unfoldable pub ledgerLeft : Disc → List ℕ → List Call → List ℕ
+ledgerLeft d l [] = l
+ledgerLeft d l (c ∷ cs) = let a : After = after d l c in ledgerLeft (a .disc) (a .ledger) cs
+
 unfoldable pub same : List ℕ → List ℕ → Bool
 same [] [] = true
 same [] (y ∷ ys) = false
@@ -59,9 +64,12 @@ same (x ∷ xs) (y ∷ ys) = eqb x y && same xs ys
 abbrev pub refused : ℕ → ℕ
 refused n = n * 4294967296
 
--- So many numbers, all unused, on a disc with nothing recorded.
+-- So many numbers, all unused, on a disc with r sectors recorded, in this mode; and with nothing recorded and no packet open.
+abbrev pub numbersOn : ℕ → ℕ → ℕ → List ℕ
+numbersOn n r mode = pack (record { entries = replicate 458 unused; size = n; recorded = r; last = unused; mode = mode })
+
 abbrev pub numbers : ℕ → List ℕ
-numbers n = pack (record { entries = replicate 458 unused; size = n; recorded = 0; last = unused; mode = 0 })
+numbers n = numbersOn n 0 0
 
 abbrev pub full : List ℕ
 full = numbers 458
@@ -99,10 +107,12 @@ pub data Example : Type 0 where
   reserve-of : ℕ → ℕ → Example
   -- calls on a disc, with the ledger lent to the first of them: their answers
   calls-on : Disc → List ℕ → List Call → List ℕ → Example
+  -- and the ledger that they leave
+  leaves : Disc → List ℕ → List Call → List ℕ → Example
 
 unfoldable pub right : Example → Bool
 right (crc-of bytes value) = eqb (crcOf bytes) value
-right (lengths-of a n table crc) = let s : List ℕ = lay (block 0) (lengthRows a n) in eqb (readLe 4 s 172) table && eqb (crcLength s) crc
+right (lengths-of a n table crc) = let s : List ℕ = lay (block 0) (tableRows a n) in eqb (readLe 4 s 172) table && eqb (crcLength s) crc
 right (no-table n) = not (isTable 1 (sector (replicate n unused) unused noStamp 0) 0)
 right (framed-behind a n true) = framed (behind a n 0) 0
 right (framed-behind a n false) = not (framed (behind a n 0) 0)
@@ -112,6 +122,7 @@ right (tagged-at location b true) = anchorTagged (pointer location) b
 right (tagged-at location b false) = not (anchorTagged (pointer location) b)
 right (reserve-of sectors left) = eqb (reserve sectors) left
 right (calls-on d l cs expected) = same (answers d l cs) expected
+right (leaves d l cs expected) = same (ledgerLeft d l cs) expected
 
 unfoldable pub all-right : List Example → Bool
 all-right [] = true
@@ -124,15 +135,15 @@ starred =
     ∷ lengths-of 0 0 36 196
     ∷ lengths-of 0 458 1868 2028
     ∷ no-table 459
-    ∷ calls-on (blank 8) full (begin ∷ write 0 (block 1) ∷ commit none ∷ []) (0 ∷ refused 14 ∷ 0 ∷ [])
-    ∷ calls-on (blank 9) full (begin ∷ write 0 (block 1) ∷ write 1 (block 2) ∷ []) (0 ∷ 0 ∷ refused 14 ∷ [])
-    ∷ calls-on (blank 10) full (begin ∷ write 0 (block 1) ∷ write 1 (block 2) ∷ write 2 (block 3) ∷ []) (0 ∷ 0 ∷ 1 ∷ refused 14 ∷ [])
-    ∷ calls-on (blank 17) full (begin ∷ write 0 (block 1) ∷ closePacket ∷ write 1 (block 2) ∷ []) (0 ∷ 0 ∷ 0 ∷ 8 ∷ [])
-    ∷ calls-on (blank 16) full (begin ∷ write 0 (block 1) ∷ closePacket ∷ write 1 (block 2) ∷ []) (0 ∷ 0 ∷ 0 ∷ refused 14 ∷ [])
-    ∷ calls-on (blank 9) full (begin ∷ write 1 (block 1) ∷ []) (0 ∷ refused 12 ∷ [])
-    ∷ calls-on (blank 9) full (write 458 (block 1) ∷ []) (refused 13 ∷ [])
-    ∷ calls-on (blank 12) full (begin ∷ write 0 (block 1) ∷ write 1 (block 2) ∷ write 2 (sector [] unused noStamp 1) ∷ []) (0 ∷ 0 ∷ 1 ∷ 2 ∷ [])
-    ∷ calls-on (blank 12) full (begin ∷ write 0 (block 1) ∷ write 1 (block 2) ∷ write 2 (sector [] unused noStamp 2) ∷ []) (0 ∷ 0 ∷ 1 ∷ refused 15 ∷ [])
+    ∷ calls-on (blank 8) full (begin ∷ write (some 0) (block 1) ∷ commit none ∷ []) (0 ∷ refused 14 ∷ 0 ∷ [])
+    ∷ calls-on (blank 9) full (begin ∷ write (some 0) (block 1) ∷ write (some 1) (block 2) ∷ []) (0 ∷ 0 ∷ refused 14 ∷ [])
+    ∷ calls-on (blank 10) full (begin ∷ write (some 0) (block 1) ∷ write (some 1) (block 2) ∷ write (some 2) (block 3) ∷ []) (0 ∷ 0 ∷ 1 ∷ refused 14 ∷ [])
+    ∷ calls-on (blank 17) full (begin ∷ write (some 0) (block 1) ∷ closePacket ∷ write (some 1) (block 2) ∷ []) (0 ∷ 0 ∷ 0 ∷ 8 ∷ [])
+    ∷ calls-on (blank 16) full (begin ∷ write (some 0) (block 1) ∷ closePacket ∷ write (some 1) (block 2) ∷ []) (0 ∷ 0 ∷ 0 ∷ refused 14 ∷ [])
+    ∷ calls-on (blank 9) full (begin ∷ write (some 1) (block 1) ∷ []) (0 ∷ refused 12 ∷ [])
+    ∷ calls-on (blank 9) full (write (some 458) (block 1) ∷ []) (refused 13 ∷ [])
+    ∷ calls-on (blank 12) full (begin ∷ write (some 0) (block 1) ∷ write (some 1) (block 2) ∷ write (some 2) (sector [] unused noStamp 1) ∷ []) (0 ∷ 0 ∷ 1 ∷ 2 ∷ [])
+    ∷ calls-on (blank 12) full (begin ∷ write (some 0) (block 1) ∷ write (some 1) (block 2) ∷ write (some 2) (sector [] unused noStamp 2) ∷ []) (0 ∷ 0 ∷ 1 ∷ refused 15 ∷ [])
     ∷ []
 
 pub starred-rows : T (all-right starred)
@@ -142,8 +153,8 @@ starred-rows = tt
 -- Document 02's: numbers above limit and size, tables behind attributes, timestamps.
 unfoldable pub requested : List Example
 requested =
-    calls-on (blank 9) full (write 459 (block 1) ∷ []) (refused 13 ∷ [])
-    ∷ calls-on (blank 9) (numbers 3) (write 500 (block 1) ∷ []) (refused 13 ∷ [])
+    calls-on (blank 9) full (write (some 459) (block 1) ∷ []) (refused 13 ∷ [])
+    ∷ calls-on (blank 9) (numbers 3) (write (some 500) (block 1) ∷ []) (refused 13 ∷ [])
     ∷ lengths-of 220 2 44 424
     ∷ framed-behind 1832 0 true
     ∷ framed-behind 1836 0 false
@@ -151,7 +162,7 @@ requested =
     ∷ framed-behind 1828 2 false
     ∷ framed-behind 2 0 false
     ∷ framed-behind 4294967292 0 false
-    ∷ calls-on (blank 12) full (begin ∷ write 0 (seal (behind 220 2 1)) ∷ write 1 (seal (behind 220 2 1)) ∷ []) (0 ∷ 0 ∷ refused 15 ∷ [])
+    ∷ calls-on (blank 12) full (begin ∷ write (some 0) (seal (behind 220 2 1)) ∷ write (some 1) (seal (behind 220 2 1)) ∷ []) (0 ∷ 0 ∷ refused 15 ∷ [])
     ∷ calls-on (holding (seal (behind 220 2 0))) full (begin ∷ mount ∷ []) (refused 6 ∷ 1 ∷ [])
     ∷ told-of (stamp 60 1970 1 1 0 30) 0xFFFFFFE2 0
     ∷ told-of (stamp 2049 1970 1 1 0 30) 30 1
@@ -181,10 +192,24 @@ closings =
     ∷ tagged-at 400008 7 false
     ∷ reserve-of 999 8
     ∷ reserve-of 1000 264
-    ∷ calls-on (blank 12) full (begin ∷ write 0 (pointer 400001) ∷ write 1 (pointer 400001) ∷ []) (0 ∷ 0 ∷ refused 15 ∷ [])
+    ∷ calls-on (blank 12) full (begin ∷ write (some 0) (pointer 400001) ∷ write (some 1) (pointer 400001) ∷ []) (0 ∷ 0 ∷ refused 15 ∷ [])
     ∷ calls-on (blank 2) full (begin ∷ commit none ∷ closingAt 400001 ∷ closingAt 400000 ∷ lookBack 0 ∷ closingAt 400001 ∷ []) (0 ∷ 0 ∷ refused 18 ∷ refused 14 ∷ 0 ∷ refused 5 ∷ [])
     ∷ []
 
 pub closing-rows : T (all-right closings)
 unfolding opened answers same right all-right closings
 closing-rows = tt
+
+-- And of writes without a number: size and entries stay, also where all numbers are taken; 14, the links, and 5.
+unfoldable pub unnumbered : List Example
+unnumbered =
+    leaves (blank 9) full (begin ∷ write none (block 1) ∷ []) (numbersOn 0 1 1)
+    ∷ leaves (blank 9) full (write none (block 1) ∷ []) (numbersOn 458 1 1)
+    ∷ calls-on (blank 10) full (write none (block 1) ∷ write none (block 2) ∷ write none (block 3) ∷ []) (0 ∷ 1 ∷ refused 14 ∷ [])
+    ∷ calls-on (blank 17) full (write none (block 1) ∷ closePacket ∷ write none (block 2) ∷ []) (0 ∷ 0 ∷ 8 ∷ [])
+    ∷ calls-on (blank 9) (numbersOn 458 0 2) (write none (block 1) ∷ []) (refused 5 ∷ [])
+    ∷ []
+
+pub unnumbered-rows : T (all-right unnumbered)
+unfolding opened answers ledgerLeft same right all-right unnumbered
+unnumbered-rows = tt

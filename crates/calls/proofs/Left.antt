@@ -6,9 +6,9 @@ use mathlib.Core.Path.{_≡_, refl, sym, ap, ap₂, _∙_}
 use mathlib.Core.List.{List, [], _∷_, _++_}
 use mathlib.Core.Option.{Option, some}
 use lib.Dec.{eqb}
-use lib.ListN.{length, getD, set, replicate, length-append, length-replicate}
+use lib.ListN.{length, set, replicate, length-append, length-replicate}
 use Rattle.timestamp.specs.Timestamp.{stampLength, told}
-use Rattle.vat.specs.Table.{sectorLength, limit, unused}
+use Rattle.vat.specs.Table.{sectorLength, limit}
 use Rattle.vat.specs.Sector.{noStamp, sector}
 use Rattle.anchor.specs.declared.Extent.{Extent}
 use Rattle.anchor.specs.Anchor.{farthestStart, anchor}
@@ -21,15 +21,12 @@ use Rattle.disc.proofs.Recording.{leading-le, puts-append, puts-links}
 use Rattle.volume.specs.declared.Volume.{Volume}
 use Rattle.volume.specs.Volume.{ledgerLength, idle, readOnly, unpack, pack, mapOf, begun, filled, wrote, released, closed}
 use Rattle.recorder.specs.Calls.{Call, begin, mount, write, release, closePacket, commit, closeSession, read, lookBack, timeOf, stampBuffer, bufferOf}
-use Rattle.recorder.specs.Refusals.{links, target, walked, timeReached, outcome}
+use Rattle.recorder.specs.Refusals.{links, target, blockOf, walked, timeReached, outcome}
 use Rattle.recorder.specs.Effects.{Effect, effect, blockReached, cleanNumber, stampOf, saved, After, left, settled, after}
 use Rattle.recorder.proofs.Sectors.{length-closing}
-use Rattle.recorder.proofs.Done.{ledger-accepted, write-done, SaveDone, commit-done, ClosingDone, closing-done}
+use Rattle.recorder.proofs.Done.{ledger-accepted, WriteDone, write-done, SaveDone, commit-done, ClosingDone, closing-done}
 
 -- equal parts leave the same
-pub same-left : {a a′ : ℕ} {i i′ k k′ l l′ b : List ℕ} → a ≡ a′ → i ≡ i′ → k ≡ k′ → l ≡ l′ → left a i k l b ≡ left a′ i′ k′ l′ b
-same-left p q r s = cc
-
 same-after : {a a′ : ℕ} {x x′ : Disc} {l l′ b : List ℕ} → a ≡ a′ → x ≡ x′ → l ≡ l′
     → _≡_ {A = After} (record { answer = a; disc = x; ledger = l; buffer = b }) (record { answer = a′; disc = x′; ledger = l′; buffer = b })
 same-after p q r = cc
@@ -83,7 +80,7 @@ module _ (d : Disc) (l : List ℕ) where
   close-left z = done-left closePacket z
 
   pub read-left : (n : ℕ) (block : List ℕ) → outcome d l (read n block) ≡ 0
-      → left 0 (d .image) (d .kinds) l (sectorAt d (getD (unpack l .entries) n unused)) ≡ after d l (read n block)
+      → left 0 (d .image) (d .kinds) l (sectorAt d (blockOf (unpack l) n)) ≡ after d l (read n block)
   unfolding effect puts
   read-left n block z = done-left (read n block) z
 
@@ -98,26 +95,41 @@ module _ (d : Disc) (l : List ℕ) where
   linkedKinds = puts (lent [] (d .kinds)) (unpack l .recorded) (replicate (links (unpack l)) link) .kinds
 
   -- links, then one data sector
-  recorded-left : (s : List ℕ) → unpack l .recorded ≡ recorded d
-      → lent (stored (d .image) (sectorLength * target (unpack l)) s) (set linkedKinds (target (unpack l)) 1) ≡ puts d (recorded d) (replicate (links (unpack l)) link ++ (plain s ∷ []))
+  abbrev pub behindLinks : List ℕ → List Sector
+  behindLinks s = replicate (links (unpack l)) link ++ (plain s ∷ [])
+
+  pub recorded-block : (s : List ℕ)
+      → lent (stored (d .image) (sectorLength * target (unpack l)) s) (set linkedKinds (target (unpack l)) 1) ≡ puts d (unpack l .recorded) (behindLinks s)
   unfolding puts
-  recorded-left s same =
+  recorded-block s =
       let k : ℕ = links (unpack l) in
       let r : ℕ = unpack l .recorded in
       let place : r + length (replicate {A = Sector} k link) ≡ target (unpack l) = ap (λ (n : ℕ). r + n) (length-replicate k link) in
-      sym (ap (λ (n : ℕ). puts d n (replicate k link ++ (plain s ∷ []))) (sym same)
-      ∙ puts-append (replicate k link) (plain s ∷ []) d r
+      sym (puts-append (replicate k link) (plain s ∷ []) d r
       ∙ ap (λ (n : ℕ). put (puts d r (replicate k link)) n (plain s)) place
       ∙ ap (λ (x : Disc). put x (target (unpack l)) (plain s)) (puts-links k (d .image) (d .kinds) r))
 
-  pub write-left : (n : ℕ) (block : List ℕ) → outcome d l (write n block) ≡ 0
-      → left (target (unpack l)) (stored (d .image) (sectorLength * target (unpack l)) block) (set linkedKinds (target (unpack l)) 1)
-      (pack (wrote n (target (unpack l)) (unpack l))) block
-      ≡ after d l (write n block)
+  -- what recording a write's block asks for, and a write that is done meets it
+  abbrev pub Recordable : List ℕ → Type 0
+  Recordable block =
+      (length l ≡ ledgerLength) × (length (d .image) ≡ sectorLength * length (d .kinds)) × (target (unpack l) < length (d .kinds)) × (length (d .kinds) ≤ mostSectors) × (length block ≡ sectorLength)
+
+  pub write-records : (n : Option ℕ) (block : List ℕ) → outcome d l (write n block) ≡ 0 → Recordable block
+  write-records n block z =
+      let f : WriteDone d l n block = write-done d l n block z in (
+        ledger-accepted d l (write n block) z,
+        f .sound-disc .whole,
+        omega (arith, f .room, f .fit .same-recorded, leading-le (d .kinds)),
+        f .sound-disc .few,
+        f .block-long,
+      )
+
+  pub write-left : (n : Option ℕ) (block : List ℕ) → outcome d l (write n block) ≡ 0 → {a : ℕ} {i k m : List ℕ}
+      → a ≡ target (unpack l) → lent i k ≡ puts d (unpack l .recorded) (behindLinks block) → m ≡ pack (wrote n (target (unpack l)) (unpack l))
+      → left a i k m block ≡ after d l (write n block)
   unfolding effect
-  write-left n block z =
-      let v : Volume = unpack l in
-      ap {B = After} (λ x. record { answer = target v; disc = x; ledger = pack (wrote n (target v) v); buffer = block }) (recorded-left block (write-done d l n block z .fit .same-recorded))
+  write-left n block z at disc ledger =
+      same-after at (disc ∙ ap (λ (r : ℕ). puts d r (behindLinks block)) (write-done d l n block z .fit .same-recorded)) ledger
       ∙ done-left (write n block) z
 
   -- ---- saves

@@ -7,20 +7,19 @@ use mathlib.Core.Bool.{Bool, true, false, _&&_, not, and-true}
 use mathlib.Core.List.{List, [], _∷_, _++_}
 use mathlib.Core.Option.{Option, none, some}
 use lib.Dec.{eqb, leb}
-use lib.ListN.{length, getD}
 use borrow.Author.Tests.{eq-eqb, ne-eqb, le-ltb, lt-ltb, le-leb, lt-leb}
 use Rattle.timestamp.specs.Timestamp.{valid}
 use Rattle.vat.specs.Table.{limit, unused}
 use Rattle.anchor.specs.declared.Extent.{Extent}
 use Rattle.anchor.specs.Anchor.{farthestStart}
 use Rattle.disc.specs.declared.Walk.the-variants.{Reached, Broken, Ended}
-use Rattle.disc.specs.Disc.{Disc, mostSectors, blanks, kindAt}
+use Rattle.disc.specs.Disc.{Disc, mostSectors, kindAt}
 use Rattle.disc.specs.Tables.{timeAt, blockFound, newestBelow, newest}
 use Rattle.disc.specs.Session.{closingLength, sessionClosed}
 use Rattle.disc.proofs.Found.{newest-below}
 use Rattle.volume.specs.Volume.{readOnly, unpack, fits}
 use Rattle.recorder.specs.Calls.{begin, mount, write, release, closePacket, commit, closeSession, read, lookBack, timeOf}
-use Rattle.recorder.specs.Refusals.{Test, test, first, links, target, reserveIf, reserve, basic, ledgerLent, blockLent, stampLent, answerLent, unfit, forbiddenAt, writeTests, stampWrong, noRoom, commitTests, closingTests, notInUse, isSome, walked, isBroken, isEnded, walkTests, timeWrong, tests, outcome}
+use Rattle.recorder.specs.Refusals.{Test, test, first, reserveIf, reserve, basic, ledgerLent, blockLent, stampLent, answerLent, unfit, blockTests, writeTests, stampWrong, noRoom, commitTests, closingTests, blockOf, notInUse, isSome, walked, isBroken, isEnded, walkTests, timeWrong, tests, outcome}
 use Rattle.recorder.proofs.Done.{stopped, resumed, fittingTests, workingTests}
 
 -- ---- the newest table, as a block number
@@ -174,35 +173,30 @@ reserve-few n = go (leb 1000 n)
     go true = omega arith
     go false = omega arith
 
-module _ (d : Disc) (l : List ℕ) (n : ℕ) (block : List ℕ) where
-  writeRest : List Test
-  writeRest = writeTests d (unpack l) n block
-
-  pub write-stopped : (first (workingTests d l (blockLent l block)) ≡ 0 → ⊥) → outcome d l (write n block) ≡ first (workingTests d l (blockLent l block))
-  unfolding outcome tests writeRest
-  write-stopped h = stopped (workingTests d l (blockLent l block)) writeRest h
-
-  write-rest : first (workingTests d l (blockLent l block)) ≡ 0 → outcome d l (write n block) ≡ first writeRest
-  unfolding outcome tests writeRest
-  write-rest z = resumed (workingTests d l (blockLent l block)) writeRest refl z
+module _ (d : Disc) (l : List ℕ) (block : List ℕ) where
+  pub write-stopped : (n : Option ℕ) → (first (workingTests d l (blockLent l block)) ≡ 0 → ⊥) → outcome d l (write n block) ≡ first (workingTests d l (blockLent l block))
+  unfolding outcome tests
+  write-stopped n h = stopped (workingTests d l (blockLent l block)) (writeTests d (unpack l) n block) h
 
   module _ (z : first (workingTests d l (blockLent l block)) ≡ 0) where
-    pub write-13 : limit ≤ n → outcome d l (write n block) ≡ 13
-    unfolding first writeRest
-    write-13 h = write-rest z ∙ rw (le-leb limit n h)
+    write-rest : (n : Option ℕ) → outcome d l (write n block) ≡ first (writeTests d (unpack l) n block)
+    unfolding outcome tests
+    write-rest n = resumed (workingTests d l (blockLent l block)) (writeTests d (unpack l) n block) refl z
 
-    pub write-12 : n < limit → unpack l .size < n → outcome d l (write n block) ≡ 12
-    unfolding first writeRest
-    write-12 m h = write-rest z ∙ rw (lt-leb limit n m, lt-ltb (unpack l .size) n h)
+    pub write-13 : (n : ℕ) → limit ≤ n → outcome d l (write (some n) block) ≡ 13
+    unfolding first
+    write-13 n h = write-rest (some n) ∙ rw (le-leb limit n h)
 
-    pub write-14 : n < limit → n ≤ unpack l .size → blanks d < links (unpack l) + 1 + reserve (length (d .kinds)) → outcome d l (write n block) ≡ 14
-    unfolding first writeRest
-    write-14 m s h = write-rest z ∙ rw (lt-leb limit n m, le-ltb (unpack l .size) n s, lt-ltb (blanks d) (links (unpack l) + 1 + reserve (length (d .kinds))) h)
+    pub write-12 : (n : ℕ) → n < limit → unpack l .size < n → outcome d l (write (some n) block) ≡ 12
+    unfolding first
+    write-12 n m h = write-rest (some n) ∙ rw (lt-leb limit n m, lt-ltb (unpack l .size) n h)
 
-    pub write-tested : n < limit → n ≤ unpack l .size → links (unpack l) + 1 + reserve (length (d .kinds)) ≤ blanks d
-        → outcome d l (write n block) ≡ first (test 15 (forbiddenAt (target (unpack l)) block) ∷ [])
-    unfolding first writeRest
-    write-tested m s h = write-rest z ∙ rw (lt-leb limit n m, le-ltb (unpack l .size) n s, le-ltb (blanks d) (links (unpack l) + 1 + reserve (length (d .kinds))) h)
+    pub write-tested : (n : ℕ) → n < limit → n ≤ unpack l .size → outcome d l (write (some n) block) ≡ first (blockTests d (unpack l) block)
+    unfolding first
+    write-tested n m s = write-rest (some n) ∙ rw (lt-leb limit n m, le-ltb (unpack l .size) n s)
+
+    pub unnumbered-tested : outcome d l (write none block) ≡ first (blockTests d (unpack l) block)
+    unnumbered-tested = write-rest none
 
 module _ (d : Disc) (l : List ℕ) where
   -- no block is lent: only the ledger's length is tested
@@ -258,7 +252,7 @@ module _ (d : Disc) (l : List ℕ) (main reserved : Extent) (start : ℕ) where
 
 module _ (d : Disc) (l : List ℕ) (n : ℕ) (block : List ℕ) where
   readRest : List Test
-  readRest = test 10 (notInUse (unpack l) n) ∷ test 11 (not (eqb (kindAt d (getD (unpack l .entries) n unused)) 1)) ∷ []
+  readRest = test 10 (notInUse (unpack l) n) ∷ test 11 (not (eqb (kindAt d (blockOf (unpack l) n)) 1)) ∷ []
 
   pub read-stopped : (first (fittingTests d l (blockLent l block)) ≡ 0 → ⊥) → outcome d l (read n block) ≡ first (fittingTests d l (blockLent l block))
   unfolding outcome tests readRest
@@ -273,10 +267,10 @@ module _ (d : Disc) (l : List ℕ) (n : ℕ) (block : List ℕ) where
     unfolding first readRest
     read-10 e = read-rest z ∙ rw e
 
-    pub read-11 : notInUse (unpack l) n ≡ false → (kindAt d (getD (unpack l .entries) n unused) ≡ 1 → ⊥) → outcome d l (read n block) ≡ 11
+    pub read-11 : notInUse (unpack l) n ≡ false → (kindAt d (blockOf (unpack l) n) ≡ 1 → ⊥) → outcome d l (read n block) ≡ 11
     unfolding first readRest
-    read-11 e h = read-rest z ∙ rw (e, ne-eqb (kindAt d (getD (unpack l .entries) n unused)) 1 h)
+    read-11 e h = read-rest z ∙ rw (e, ne-eqb (kindAt d (blockOf (unpack l) n)) 1 h)
 
-    pub read-0 : notInUse (unpack l) n ≡ false → kindAt d (getD (unpack l .entries) n unused) ≡ 1 → outcome d l (read n block) ≡ 0
+    pub read-0 : notInUse (unpack l) n ≡ false → kindAt d (blockOf (unpack l) n) ≡ 1 → outcome d l (read n block) ≡ 0
     unfolding first readRest
-    read-0 e h = read-rest z ∙ rw (e, eq-eqb (kindAt d (getD (unpack l .entries) n unused)) 1 h)
+    read-0 e h = read-rest z ∙ rw (e, eq-eqb (kindAt d (blockOf (unpack l) n)) 1 h)

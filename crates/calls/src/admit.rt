@@ -12,14 +12,17 @@ use vat::table::SECTOR;
 use vat::table::UNUSED;
 ghost use mathlib.Core.Path.{_≡_};
 ghost use mathlib.Core.Bool.{true};
+ghost use mathlib.Core.List.{[]};
 ghost use mathlib.Core.Option.{none, some};
+ghost use Prim.Native.Nat.{_≤_};
 ghost use lib.ListN.{length};
 ghost use Rattle.vat.specs.Table.{sectorLength};
 ghost use Rattle.disc.specs.declared.Walk.the-variants.{Reached};
-ghost use Rattle.disc.specs.Disc.{lent, recorded};
+ghost use Rattle.disc.specs.Disc.{lent, leading, recorded};
 ghost use Rattle.disc.specs.Tables.{tableAt, newest};
+ghost use Rattle.volume.specs.Volume.{ledgerLength, unpack};
 ghost use Rattle.recorder.specs.Calls.{begin, mount, write, release, closePacket, commit, closeSession, read, lookBack, timeOf};
-ghost use Rattle.recorder.specs.Refusals.{forbiddenAt, walked, outcome};
+ghost use Rattle.recorder.specs.Refusals.{first, forbiddenAt, blockTests, walked, outcome};
 
 pub fn begin(image: &[u8], kinds: &[u8], ledger: &[u8]) -> Plan
     ensures { λ r. ⌜ (r .outcome ≡ outcome (lent (now (image .entry)) (now (kinds .entry))) (now (ledger .entry)) begin) × (r .outcome ≡ 0 → r .recorded ≡ recorded (lent (now (image .entry)) (now (kinds .entry)))) ⌝ }
@@ -72,8 +75,25 @@ fn forbidden_at(block: &[u8], b: u32) -> bool
     anchor::tagged(block, b)
 }
 
+// 14 and 15 of a write: room for the links, the block and the reserve, and a block that may stand behind the links.
+fn recordable(kinds: &[u8], ledger: &[u8], block: &[u8]) -> u32
+    requires { ⌜ (length (now ledger) ≡ ledgerLength) × (unpack (now ledger) .recorded ≡ leading (now kinds)) × (length (now kinds) ≤ 360000) × (length (now block) ≡ sectorLength) ⌝ }
+    ensures { λ r. ⌜ r ≡ first (blockTests (lent [] (now (kinds .entry))) (unpack (now (ledger .entry))) (now (block .entry))) ⌝ }
+{
+    let links = crate::basic::links(ledger);
+    let recorded = volume::ledger::recorded(ledger);
+    let blank = (kinds.len() as u32) - recorded;
+    if blank < links + 1 + crate::basic::reserve(kinds.len()) {
+        return 14;
+    }
+    if forbidden_at(block, recorded + links) {
+        return 15;
+    }
+    0
+}
+
 pub fn write(image: &[u8], kinds: &[u8], ledger: &[u8], n: u32, block: &[u8]) -> u32
-    ensures { λ r. ⌜ r ≡ outcome (lent (now (image .entry)) (now (kinds .entry))) (now (ledger .entry)) (write n (now (block .entry))) ⌝ }
+    ensures { λ r. ⌜ r ≡ outcome (lent (now (image .entry)) (now (kinds .entry))) (now (ledger .entry)) (write (some n) (now (block .entry))) ⌝ }
 {
     let outcome = crate::basic::working(image, kinds, ledger, block.len() == SECTOR);
     if outcome != 0 {
@@ -86,16 +106,17 @@ pub fn write(image: &[u8], kinds: &[u8], ledger: &[u8], n: u32, block: &[u8]) ->
     if size < n {
         return 12;
     }
-    let links = crate::basic::links(ledger);
-    let recorded = volume::ledger::recorded(ledger);
-    let blank = (kinds.len() as u32) - recorded;
-    if blank < links + 1 + crate::basic::reserve(kinds.len()) {
-        return 14;
+    recordable(kinds, ledger, block)
+}
+
+pub fn write_unnumbered(image: &[u8], kinds: &[u8], ledger: &[u8], block: &[u8]) -> u32
+    ensures { λ r. ⌜ r ≡ outcome (lent (now (image .entry)) (now (kinds .entry))) (now (ledger .entry)) (write none (now (block .entry))) ⌝ }
+{
+    let outcome = crate::basic::working(image, kinds, ledger, block.len() == SECTOR);
+    if outcome != 0 {
+        return outcome;
     }
-    if forbidden_at(block, recorded + links) {
-        return 15;
-    }
-    0
+    recordable(kinds, ledger, block)
 }
 
 pub fn release(image: &[u8], kinds: &[u8], ledger: &[u8], n: u32) -> u32

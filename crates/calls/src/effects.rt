@@ -1,4 +1,4 @@
-// What the calls that are done have in common: links, a save, and a table that is shown.
+// What the calls that are done have in common: links, a block behind them, a save, and a table that is shown.
 use crate::Plan;
 use anchor::Extent;
 use disc::session::CLOSING;
@@ -6,7 +6,7 @@ use disc::session::ZEROS;
 use vat::table::SECTOR;
 use volume::Volume;
 ghost use mathlib.Core.Path.{_≡_};
-ghost use mathlib.Core.List.{[]};
+ghost use mathlib.Core.List.{[], _∷_, _++_};
 ghost use Prim.Native.Nat.{_+_, _*_, _≤_, _<_};
 ghost use lib.ListN.{length, take, drop, set, replicate};
 ghost use Rattle.timestamp.specs.Timestamp.{stampLength};
@@ -28,6 +28,16 @@ pub fn record_links(kinds: &mut [u8], ledger: &[u8]) -> u32
     let recorded = volume::ledger::recorded(ledger);
     disc::record::links(kinds, recorded as usize, links as usize);
     recorded + links
+}
+
+// A write's block behind its links; the answer is the block that it took.
+pub fn record_block(image: &mut [u8], kinds: &mut [u8], ledger: &[u8], block: &[u8]) -> u32
+    requires { ⌜ (length (now ledger) ≡ ledgerLength) × (length (now image) ≡ sectorLength * length (now kinds)) × (target (unpack (now ledger)) < length (now kinds)) × (length (now kinds) ≤ 360000) × (length (now block) ≡ sectorLength) ⌝ }
+    ensures { λ r. ⌜ (r ≡ target (unpack (now (ledger .entry)))) × (lent (now (image .exit)) (now (kinds .exit)) ≡ puts (lent (now (image .entry)) (now (kinds .entry))) (unpack (now (ledger .entry)) .recorded) (replicate (links (unpack (now (ledger .entry)))) link ++ (plain (now (block .entry)) ∷ []))) ⌝ }
+{
+    let b = record_links(kinds, ledger);
+    disc::record::data(image, kinds, b as usize, block);
+    b
 }
 
 // The table sector of a state, with a timestamp, at block b.

@@ -29,7 +29,7 @@ use Rattle.client.proofs.Days.{joined, first-done, part-done, called-do
 use Rattle.client.proofs.Claimed.{world, history, startHistory, opened, remembered}
 use Rattle.client.proofs.Shown.{Reads, mount-reads}
 use Rattle.client.proofs.Saves.{firstPage, first-there}
-use Rattle.client.proofs.Times.{asEvents, Went, went}
+use Rattle.client.proofs.Since.{asEvents, Went, went}
 
 start-closes : (fresh : Bool) (d : Disc) (l : List ℕ) → outcome d l (opening fresh) ≡ 0 → (es : List Event) → AllAllowed (afterCall d l (opening fresh)) es
     → Closes (runs (afterCall d l (opening fresh)) es) (remembers (afterCall d l (opening fresh)) (startHistory fresh d) es)
@@ -59,12 +59,12 @@ module _ (x : Day) (fresh : Bool) (ok : x .answer < 4294967296) (before : List C
 
 -- whatever is tried leaves it
 pub closing-reads : (x : Day) (fresh : Bool) → x .answer < 4294967296 → (v : ℕ) (block : List ℕ) (main reserve : Extent) (n : ℕ)
-    → AllDone x (opening fresh ∷ write v block ∷ closeSession main reserve n ∷ []) → (held : Option (List ℕ)) (tried : List Event) (y : Day) (out : List ℕ) → y .answer < 4294967296
-    → y .disc ≡ leftBy (day x (opening fresh ∷ write v block ∷ closeSession main reserve n ∷ []) .disc) held tried → length (y .ledger) ≡ ledgerLength → length out ≡ sectorLength
+    → AllDone x (opening fresh ∷ write (some v) block ∷ closeSession main reserve n ∷ []) → (held : Option (List ℕ)) (tried : List Event) (y : Day) (out : List ℕ) → y .answer < 4294967296
+    → y .disc ≡ leftBy (day x (opening fresh ∷ write (some v) block ∷ closeSession main reserve n ∷ []) .disc) held tried → length (y .ledger) ≡ ledgerLength → length out ≡ sectorLength
     → Reads y mount v out 0 block
 closing-reads x fresh ok v block main reserve n a held tried y out y-ok same long whole =
-    let d : Disc = day x (opening fresh ∷ write v block ∷ closeSession main reserve n ∷ []) .disc in
-    let left = left-closed x fresh ok (write v block ∷ []) main reserve n a in
+    let d : Disc = day x (opening fresh ∷ write (some v) block ∷ closeSession main reserve n ∷ []) .disc in
+    let left = left-closed x fresh ok (write (some v) block ∷ []) main reserve n a in
     let unchanged : leftBy d held tried ≡ d = closed-discs .unchanged (record { disc = d; ledger = held }) (left .2 .is-closed) tried in
     let page : left .0 ≡ firstPage x fresh v block = some-same (left .0) (firstPage x fresh v block) (sym (left .1)) in
     let shown : DoneShowing (y .disc) (y .ledger) mount (left .0) = subst (λ (z : Disc). DoneShowing z (y .ledger) mount (left .0)) (sym (same ∙ unchanged)) (left .2 .mounts (y .ledger) long) in
@@ -72,17 +72,17 @@ closing-reads x fresh ok v block main reserve n a held tried y out y-ok same lon
 
 -- ---- a call that is turned away
 
-refused-whole : (d : Disc) (l : List ℕ) (v : ℕ) (block : List ℕ) (n : ℕ) → outcome d l (write v block) ≡ n → TurnedAway n
-    → after d l (write v block) ≡ record { answer = n * 4294967296; disc = d; ledger = l; buffer = block }
+refused-whole : (d : Disc) (l : List ℕ) (v : ℕ) (block : List ℕ) (n : ℕ) → outcome d l (write (some v) block) ≡ n → TurnedAway n
+    → after d l (write (some v) block) ≡ record { answer = n * 4294967296; disc = d; ledger = l; buffer = block }
 unfolding after
 refused-whole d l v block zero e (inl z) = absurd (omega arith)
 refused-whole d l v block zero e (inr z) = absurd (omega (arith, z .0))
 refused-whole d l v block (suc n) e t = rw e
 
-pub write-is-refused : (i k l block : List ℕ) (v : ℕ) {r : ℕ} {i′ k′ l′ : List ℕ} → left r i′ k′ l′ block ≡ after (lent i k) l (write v block) → sessionClosed (lent i k) ≡ true
+pub write-is-refused : (i k l block : List ℕ) (v : ℕ) {r : ℕ} {i′ k′ l′ : List ℕ} → left r i′ k′ l′ block ≡ after (lent i k) l (write (some v) block) → sessionClosed (lent i k) ≡ true
     → ClosedAnswer r × (ended r i′ k′ l′ ≡ ended r i k l)
 write-is-refused i k l block v {r} {i′} {k′} {l′} e closed =
-    let n : ℕ = outcome (lent i k) l (write v block) in
-    let away : TurnedAway n = closed-discs .turned-away (lent i k) closed l (write v block) refl in
+    let n : ℕ = outcome (lent i k) l (write (some v) block) in
+    let away : TurnedAway n = closed-discs .turned-away (lent i k) closed l (write (some v) block) refl in
     let all : left r i′ k′ l′ block ≡ left (n * 4294967296) i k l block = e ∙ refused-whole (lent i k) l v block n refl away in
     ((n, away, ap (λ (x : After). x .answer) all), ap {B = Day} (λ (x : After). record { answer = r; disc = x .disc; ledger = x .ledger }) all)

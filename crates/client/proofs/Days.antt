@@ -16,9 +16,9 @@ use Rattle.disc.specs.Tables.{newest, blockFound}
 use Rattle.disc.proofs.Recording.{leading-le}
 use Rattle.disc.proofs.Found.{table-recorded}
 use Rattle.volume.specs.Volume.{ledgerLength}
-use Rattle.recorder.specs.Calls.{Call, begin, mount, lookBack, bufferOf}
+use Rattle.recorder.specs.Calls.{Call, mount, lookBack, bufferOf}
 use Rattle.recorder.specs.Refusals.{outcome}
-use Rattle.recorder.specs.Effects.{Effect, effect, blockReached, cleanNumber, After, left, settled, after, secondNumber}
+use Rattle.recorder.specs.Effects.{effect, blockReached, cleanNumber, After, left, settled, after, secondNumber}
 use Rattle.recorder.proofs.Done.{ledger-accepted, look-back-done}
 use Rattle.history.proofs.Steps.{walked-table}
 use Rattle.client.specs.Day.{Day, ended, morning, called, goingOn, day, AllDone}

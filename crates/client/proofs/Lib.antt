@@ -2,5 +2,8 @@ pub mod Days
 pub mod Claimed
 pub mod Shown
 pub mod Saves
+pub mod Since
 pub mod Times
+pub mod Written
+pub mod Runs
 pub mod Closings

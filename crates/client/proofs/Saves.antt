@@ -81,12 +81,12 @@ begun-size d l e =
 
 module _ (d : Disc) (l : List ℕ) (good : Proper (unpack l)) where
   -- a write leaves the last table
-  written-last : (v : ℕ) (block : List ℕ) → outcome d l (write v block) ≡ 0 → unpack (after d l (write v block) .ledger) .last ≡ unpack l .last
+  written-last : (v : ℕ) (block : List ℕ) → outcome d l (write (some v) block) ≡ 0 → unpack (after d l (write (some v) block) .ledger) .last ≡ unpack l .last
   unfolding after effect wrote
   written-last v block e =
-      let f : WriteDone d l v block = write-done d l v block e in
+      let f : WriteDone d l (some v) block = write-done d l (some v) block e in
       let s : Volume = unpack l in
-      rw e (ap (λ v. v .last) (unpack-pack (wrote v (target s) s) (proper-wrote s good v (target s) (f .fit .few) (omega (arith, few d (f .sound-disc), f .fit .same-recorded, links-few s)))))
+      rw e (ap (λ v. v .last) (unpack-pack (wrote (some v) (target s) s) (proper-wrote s good (some v) (target s) (f .fit .few) (omega (arith, few d (f .sound-disc), f .fit .same-recorded, links-few s)))))
 
   save-long : (c : Call) → saves c ≡ true → outcome d l c ≡ 0 → length (after d l c .ledger) ≡ ledgerLength
   unfolding after
@@ -109,7 +109,7 @@ one-step last {answer} none-there there = go (eqb last unused) refl
 
 -- the block that the write took, and the page that it makes
 abbrev pub taken : Day → Bool → ℕ → List ℕ → ℕ
-taken x fresh v block = secondNumber (opened x fresh .disc) (opened x fresh .ledger) (write v block)
+taken x fresh v block = secondNumber (opened x fresh .disc) (opened x fresh .ledger) (write (some v) block)
 
 abbrev pub firstPage : Day → Bool → ℕ → List ℕ → Snapshot
 firstPage x fresh v block = written (startPage fresh (x .disc)) v (taken x fresh v block) block
@@ -128,18 +128,18 @@ module _ (x : Day) (fresh : Bool) (ok : x .answer < 4294967296) where
           (claim-at y false (omega arith) [] (mount-small (x .disc) (x .ledger) e) .mounts (x .ledger) (ledger-accepted (x .disc) (x .ledger) mount e) .showing .size)
 
   -- number v is written first
-  module _ (v : ℕ) (block : List ℕ) (cs : List Call) (a : AllDone x (opening fresh ∷ write v block ∷ cs)) where
+  module _ (v : ℕ) (block : List ℕ) (cs : List Call) (a : AllDone x (opening fresh ∷ write (some v) block ∷ cs)) where
     abbrev start-done : outcome (x .disc) (x .ledger) (opening fresh) ≡ 0
-    start-done = done-first x (opening fresh) (write v block ∷ cs) ok a
+    start-done = done-first x (opening fresh) (write (some v) block ∷ cs) ok a
 
     abbrev opened-done : opened x fresh .answer < 4294967296
-    opened-done = called-done x (opening fresh) (write v block ∷ cs) ok a
+    opened-done = called-done x (opening fresh) (write (some v) block ∷ cs) ok a
 
-    pub write-is-done : outcome (opened x fresh .disc) (opened x fresh .ledger) (write v block) ≡ 0
-    write-is-done = done-first (opened x fresh) (write v block) cs opened-done (rest-done x (opening fresh) (write v block ∷ cs) ok a)
+    pub write-is-done : outcome (opened x fresh .disc) (opened x fresh .ledger) (write (some v) block) ≡ 0
+    write-is-done = done-first (opened x fresh) (write (some v) block) cs opened-done (rest-done x (opening fresh) (write (some v) block ∷ cs) ok a)
 
     no-gap : v ≤ length (startPage fresh (x .disc))
-    no-gap = omega (arith, write-done (opened x fresh .disc) (opened x fresh .ledger) v block write-is-done .no-gap, start-size start-done)
+    no-gap = omega (arith, write-done (opened x fresh .disc) (opened x fresh .ledger) (some v) block write-is-done .writable .1, start-size start-done)
 
     pub first-there : getD (firstPage x fresh v block) v unusedEntry ≡ shows (taken x fresh v block) (some block)
     first-there = written-there (startPage fresh (x .disc)) v (taken x fresh v block) block no-gap
@@ -147,36 +147,36 @@ module _ (x : Day) (fresh : Bool) (ok : x .answer < 4294967296) where
     below-first : v ≤ length (firstPage x fresh v block)
     below-first = omega (arith, no-gap, length-written (startPage fresh (x .disc)) v (taken x fresh v block) block, grown-more (eqb v (length (startPage fresh (x .disc)))) (length (startPage fresh (x .disc))))
 
-    answered-taken : day x (opening fresh ∷ write v block ∷ []) .answer ≡ taken x fresh v block
+    answered-taken : day x (opening fresh ∷ write (some v) block ∷ []) .answer ≡ taken x fresh v block
     unfolding day
     answered-taken =
-        ap (λ (y : Day). y .answer) (first-done x (opening fresh) (write v block ∷ []) ok ∙ first-done (opened x fresh) (write v block) [] opened-done)
-        ∙ answer-of (opened x fresh .disc) (opened x fresh .ledger) (write v block) write-is-done
+        ap (λ (y : Day). y .answer) (first-done x (opening fresh) (write (some v) block ∷ []) ok ∙ first-done (opened x fresh) (write (some v) block) [] opened-done)
+        ∙ answer-of (opened x fresh .disc) (opened x fresh .ledger) (write (some v) block) write-is-done
 
   -- ---- a save
 
-  module _ (v : ℕ) (block : List ℕ) (c : Call) (is-save : saves c ≡ true) (a : AllDone x (opening fresh ∷ write v block ∷ c ∷ [])) where
+  module _ (v : ℕ) (block : List ℕ) (c : Call) (is-save : saves c ≡ true) (a : AllDone x (opening fresh ∷ write (some v) block ∷ c ∷ [])) where
     abbrev recorded-day : Day
-    recorded-day = day x (opening fresh ∷ write v block ∷ [])
+    recorded-day = day x (opening fresh ∷ write (some v) block ∷ [])
 
     abbrev pub saved-day : Day
-    saved-day = day x (opening fresh ∷ write v block ∷ c ∷ [])
+    saved-day = day x (opening fresh ∷ write (some v) block ∷ c ∷ [])
 
     -- the write, as the history goes on from it
     abbrev written-first : Day
-    written-first = called (opened x fresh .disc) (opened x fresh .ledger) (write v block)
+    written-first = called (opened x fresh .disc) (opened x fresh .ledger) (write (some v) block)
 
-    record-done : AllDone x (opening fresh ∷ write v block ∷ [])
-    record-done = part-done (opening fresh ∷ write v block ∷ []) (c ∷ []) x a
+    record-done : AllDone x (opening fresh ∷ write (some v) block ∷ [])
+    record-done = part-done (opening fresh ∷ write (some v) block ∷ []) (c ∷ []) x a
 
     save-called : saved-day ≡ called (recorded-day .disc) (recorded-day .ledger) c
-    save-called = last-called x (opening fresh ∷ write v block ∷ []) c record-done
+    save-called = last-called x (opening fresh ∷ write (some v) block ∷ []) c record-done
 
     save-is-done : outcome (recorded-day .disc) (recorded-day .ledger) c ≡ 0
-    save-is-done = done-first recorded-day c [] record-done (subst (λ (y : Day). y .answer < 4294967296) (joined (opening fresh ∷ write v block ∷ []) (c ∷ []) x) a)
+    save-is-done = done-first recorded-day c [] record-done (subst (λ (y : Day). y .answer < 4294967296) (joined (opening fresh ∷ write (some v) block ∷ []) (c ∷ []) x) a)
 
     recorded-good : Proper (unpack (recorded-day .ledger))
-    recorded-good = kept-at x fresh ok (write v block ∷ []) record-done .good .ledger-good
+    recorded-good = kept-at x fresh ok (write (some v) block ∷ []) record-done .good .ledger-good
 
     pub saved-long : length (saved-day .ledger) ≡ ledgerLength
     saved-long = ap (λ (y : Day). length (y .ledger)) save-called ∙ save-long (recorded-day .disc) (recorded-day .ledger) recorded-good c is-save save-is-done
@@ -189,8 +189,8 @@ module _ (x : Day) (fresh : Bool) (ok : x .answer < 4294967296) where
 
     mounts : DoneShowing (saved-day .disc) (saved-day .ledger) mount (firstPage x fresh v block)
     mounts =
-        subst (λ (t : Told). Mounts (saved-day .disc) (saved-day .ledger) (done t (secondNumber (written-first .disc) (written-first .ledger) c) (remembered x fresh (write v block ∷ [])) .pages)) (told-save c is-save)
-        (claim-at x fresh ok (write v block ∷ c ∷ []) a .mounts (saved-day .ledger) saved-long)
+        subst (λ (t : Told). Mounts (saved-day .disc) (saved-day .ledger) (done t (secondNumber (written-first .disc) (written-first .ledger) c) (remembered x fresh (write (some v) block ∷ [])) .pages)) (told-save c is-save)
+        (claim-at x fresh ok (write (some v) block ∷ c ∷ []) a .mounts (saved-day .ledger) saved-long)
 
     pub saved-shows : ShowsSave x (opening fresh) v block c (after (saved-day .disc) (saved-day .ledger) mount .answer) (after (saved-day .disc) (saved-day .ledger) mount .ledger)
     unfolding day
@@ -209,27 +209,27 @@ module _ (x : Day) (fresh : Bool) (ok : x .answer < 4294967296) where
         }
 
     -- what a program sees that mounts it
-    pub mounted-shows : {r : ℕ} {i k m : List ℕ} → ended r i k m ≡ day x (opening fresh ∷ write v block ∷ c ∷ mount ∷ []) → ShowsSave x (opening fresh) v block c r m
+    pub mounted-shows : {r : ℕ} {i k m : List ℕ} → ended r i k m ≡ day x (opening fresh ∷ write (some v) block ∷ c ∷ mount ∷ []) → ShowsSave x (opening fresh) v block c r m
     mounted-shows e =
-        subst (λ (y : Day). ShowsSave x (opening fresh) v block c (y .answer) (y .ledger)) (sym (e ∙ last-called x (opening fresh ∷ write v block ∷ c ∷ []) mount a)) saved-shows
+        subst (λ (y : Day). ShowsSave x (opening fresh) v block c (y .answer) (y .ledger)) (sym (e ∙ last-called x (opening fresh ∷ write (some v) block ∷ c ∷ []) mount a)) saved-shows
 
     pub saved-reads : (out : List ℕ) → length out ≡ sectorLength → Reads saved-day mount v out 0 block
     saved-reads out long = mount-reads saved-day a v out long mounts (first-there v block (c ∷ []) a)
 
     -- one step back: the table that was last when the day was opened
-    pub saved-back : {r : ℕ} {i k m : List ℕ} → ended r i k m ≡ day x (opening fresh ∷ write v block ∷ c ∷ lookBack 1 ∷ [])
+    pub saved-back : {r : ℕ} {i k m : List ℕ} → ended r i k m ≡ day x (opening fresh ∷ write (some v) block ∷ c ∷ lookBack 1 ∷ [])
         → r ≡ oneBack (unpack (day x (opening fresh ∷ []) .ledger) .last)
     unfolding day
     saved-back e =
         let o : Day = day x (opening fresh ∷ []) in
-        let o-done : AllDone x (opening fresh ∷ []) = part-done (opening fresh ∷ []) (write v block ∷ c ∷ []) x a in
+        let o-done : AllDone x (opening fresh ∷ []) = part-done (opening fresh ∷ []) (write (some v) block ∷ c ∷ []) x a in
         let same : unpack (recorded-day .ledger) .last ≡ unpack (o .ledger) .last =
-        ap (λ (y : Day). unpack (y .ledger) .last) (last-called x (opening fresh ∷ []) (write v block) o-done)
+        ap (λ (y : Day). unpack (y .ledger) .last) (last-called x (opening fresh ∷ []) (write (some v) block) o-done)
         ∙ written-last (o .disc) (o .ledger) (kept-at x fresh ok [] o-done .good .ledger-good) v block
-        (done-first o (write v block) [] o-done (subst (λ (y : Day). y .answer < 4294967296) (joined (opening fresh ∷ []) (write v block ∷ []) x) record-done)) in
+        (done-first o (write (some v) block) [] o-done (subst (λ (y : Day). y .answer < 4294967296) (joined (opening fresh ∷ []) (write (some v) block ∷ []) x) record-done)) in
         let here : after (saved-day .disc) (saved-day .ledger) (lookBack 1) .answer ≡ after (after (recorded-day .disc) (recorded-day .ledger) c .disc) (saved-day .ledger) (lookBack 1) .answer =
         ap (λ (d : Disc). after d (saved-day .ledger) (lookBack 1) .answer) saved-disc in
-        ap (λ (y : Day). y .answer) (e ∙ last-called x (opening fresh ∷ write v block ∷ c ∷ []) (lookBack 1) a)
+        ap (λ (y : Day). y .answer) (e ∙ last-called x (opening fresh ∷ write (some v) block ∷ c ∷ []) (lookBack 1) a)
         ∙ here ∙ one-step (unpack (o .ledger) .last) (λ z. again .none-back (same ∙ z)) (λ used. again .one-back (λ z. used (sym same ∙ z)) ∙ same)
 
 -- ---- any calls behind a save
@@ -277,39 +277,39 @@ module _ (x : Day) (fresh : Bool) (ok : x .answer < 4294967296) (v : ℕ) where
   claim-later : (cs : List Call) → AllDone x (opening fresh ∷ cs) → {y : Day} {out : List ℕ} → Later x (opening fresh ∷ cs) y out → Claim (y .disc) (remembered x fresh cs)
   claim-later cs a g = subst (λ (d : Disc). Claim d (remembered x fresh cs)) (g .there) (claim-at x fresh ok cs a)
 
-  pub long-ago-reads : (c : Call) → saves c ≡ true → (block : List ℕ) (since : List Call) → AllDone x (opening fresh ∷ write v block ∷ c ∷ since)
-      → (y : Day) (out : List ℕ) → Later x (opening fresh ∷ write v block ∷ c ∷ since) y out
+  pub long-ago-reads : (c : Call) → saves c ≡ true → (block : List ℕ) (since : List Call) → AllDone x (opening fresh ∷ write (some v) block ∷ c ∷ since)
+      → (y : Day) (out : List ℕ) → Later x (opening fresh ∷ write (some v) block ∷ c ∷ since) y out
       → Reads y (lookBack (savesAmong since)) v out 0 block
   unfolding day
   long-ago-reads c is-save block since a y out g =
       let o : Day = opened x fresh in
-      let w : Day = called (o .disc) (o .ledger) (write v block) in
+      let w : Day = called (o .disc) (o .ledger) (write (some v) block) in
       let z : Day = called (w .disc) (w .ledger) c in
-      let h : History = remembered x fresh (write v block ∷ c ∷ []) in
-      let o-done : o .answer < 4294967296 = called-done x (opening fresh) (write v block ∷ c ∷ since) ok a in
-      let o-rest : AllDone o (write v block ∷ c ∷ since) = rest-done x (opening fresh) (write v block ∷ c ∷ since) ok a in
-      let w-done : w .answer < 4294967296 = called-done o (write v block) (c ∷ since) o-done o-rest in
-      let w-rest : AllDone w (c ∷ since) = rest-done o (write v block) (c ∷ since) o-done o-rest in
-      let first : AllDone x (opening fresh ∷ write v block ∷ c ∷ []) = part-done (opening fresh ∷ write v block ∷ c ∷ []) since x a in
-      let same : day x (opening fresh ∷ write v block ∷ c ∷ []) ≡ z = first-done x (opening fresh) (write v block ∷ c ∷ []) ok ∙ first-done o (write v block) (c ∷ []) o-done ∙ first-done w c [] w-done in
-      let k : Kept (world z) h = subst (λ (d : Day). Kept (world d) h) same (kept-at x fresh ok (write v block ∷ c ∷ []) first) in
-      let m : MovedBack (h .pages) (remembered x fresh (write v block ∷ c ∷ since) .pages) (savesAmong since) =
+      let h : History = remembered x fresh (write (some v) block ∷ c ∷ []) in
+      let o-done : o .answer < 4294967296 = called-done x (opening fresh) (write (some v) block ∷ c ∷ since) ok a in
+      let o-rest : AllDone o (write (some v) block ∷ c ∷ since) = rest-done x (opening fresh) (write (some v) block ∷ c ∷ since) ok a in
+      let w-done : w .answer < 4294967296 = called-done o (write (some v) block) (c ∷ since) o-done o-rest in
+      let w-rest : AllDone w (c ∷ since) = rest-done o (write (some v) block) (c ∷ since) o-done o-rest in
+      let first : AllDone x (opening fresh ∷ write (some v) block ∷ c ∷ []) = part-done (opening fresh ∷ write (some v) block ∷ c ∷ []) since x a in
+      let same : day x (opening fresh ∷ write (some v) block ∷ c ∷ []) ≡ z = first-done x (opening fresh) (write (some v) block ∷ c ∷ []) ok ∙ first-done o (write (some v) block) (c ∷ []) o-done ∙ first-done w c [] w-done in
+      let k : Kept (world z) h = subst (λ (d : Day). Kept (world d) h) same (kept-at x fresh ok (write (some v) block ∷ c ∷ []) first) in
+      let m : MovedBack (h .pages) (remembered x fresh (write (some v) block ∷ c ∷ since) .pages) (savesAmong since) =
       moved-back since z h (called-done w c since w-done w-rest) (rest-done w c since w-done w-rest) k in
       let made : h .pages ≡ firstPage x fresh v block ∷ startPages fresh (x .disc) =
-      ap (λ (t : Told). done t (secondNumber (w .disc) (w .ledger) c) (remembered x fresh (write v block ∷ [])) .pages) (told-save c is-save) in
-      let page : getD (remembered x fresh (write v block ∷ c ∷ since) .pages) (savesAmong since) [] ≡ firstPage x fresh v block =
-      ap (λ (n : ℕ). getD (remembered x fresh (write v block ∷ c ∷ since) .pages) n []) (let e : savesAmong since ≡ 0 + savesAmong since = omega arith in e) ∙ m .page 0 ∙ ap (λ (ps : List Snapshot). getD ps 0 []) made in
+      ap (λ (t : Told). done t (secondNumber (w .disc) (w .ledger) c) (remembered x fresh (write (some v) block ∷ [])) .pages) (told-save c is-save) in
+      let page : getD (remembered x fresh (write (some v) block ∷ c ∷ since) .pages) (savesAmong since) [] ≡ firstPage x fresh v block =
+      ap (λ (n : ℕ). getD (remembered x fresh (write (some v) block ∷ c ∷ since) .pages) n []) (let e : savesAmong since ≡ 0 + savesAmong since = omega arith in e) ∙ m .page 0 ∙ ap (λ (ps : List Snapshot). getD ps 0 []) made in
       let some-page : length (h .pages) ≡ suc (length (startPages fresh (x .disc))) = ap length made in
       look-reads y (g .ok) v out (g .block-long) (savesAmong since)
-      (claim-later (write v block ∷ c ∷ since) a g .looks (y .ledger) (g .ledger-long) (savesAmong since) (omega (arith, m .count, some-page)))
+      (claim-later (write (some v) block ∷ c ∷ since) a g .looks (y .ledger) (g .ledger-long) (savesAmong since) (omega (arith, m .count, some-page)))
       (ap (λ (p : Snapshot). getD p v unusedEntry) page ∙ first-there x fresh ok v block (c ∷ since) a)
 
   -- two saves: the newer reads what was written last
-  pub newer-reads : (old new : List ℕ) → (a : AllDone x (opening fresh ∷ write v old ∷ commit none ∷ write v new ∷ closePacket ∷ commit none ∷ []))
-      → (y : Day) (out : List ℕ) → Later x (opening fresh ∷ write v old ∷ commit none ∷ write v new ∷ closePacket ∷ commit none ∷ []) y out → Reads y mount v out 0 new
+  pub newer-reads : (old new : List ℕ) → (a : AllDone x (opening fresh ∷ write (some v) old ∷ commit none ∷ write (some v) new ∷ closePacket ∷ commit none ∷ []))
+      → (y : Day) (out : List ℕ) → Later x (opening fresh ∷ write (some v) old ∷ commit none ∷ write (some v) new ∷ closePacket ∷ commit none ∷ []) y out → Reads y mount v out 0 new
   newer-reads old new a y out g =
-      mount-reads y (g .ok) v out (g .block-long) (claim-later (write v old ∷ commit none ∷ write v new ∷ closePacket ∷ commit none ∷ []) a g .mounts (y .ledger) (g .ledger-long))
-      (written-there (firstPage x fresh v old) v _ new (below-first x fresh ok v old (commit none ∷ write v new ∷ closePacket ∷ commit none ∷ []) a))
+      mount-reads y (g .ok) v out (g .block-long) (claim-later (write (some v) old ∷ commit none ∷ write (some v) new ∷ closePacket ∷ commit none ∷ []) a g .mounts (y .ledger) (g .ledger-long))
+      (written-there (firstPage x fresh v old) v _ new (below-first x fresh ok v old (commit none ∷ write (some v) new ∷ closePacket ∷ commit none ∷ []) a))
 
 -- ---- a number released, and a disc without a save
 
@@ -373,7 +373,7 @@ cut-history d l h c j = go (saves c) refl
 
 module _ (x : Day) (fresh : Bool) (ok : x .answer < 4294967296) (v : ℕ) (stamp : Option (List ℕ)) (old new : List ℕ) (c : Call) (j : ℕ) (tear : Option (List ℕ)) where
   abbrev before-cut : List Call
-  before-cut = write v old ∷ commit stamp ∷ write v new ∷ []
+  before-cut = write (some v) old ∷ commit stamp ∷ write (some v) new ∷ []
 
   abbrev cut-day : Day
   cut-day = day x (opening fresh ∷ before-cut)
@@ -398,8 +398,8 @@ module _ (x : Day) (fresh : Bool) (ok : x .answer < 4294967296) (v : ℕ) (stamp
   cut-reads d y out y-ok g alike long whole = go keeps (cut-claim g alike)
     where
       go : (t : Bool) → Claim (y .disc) (record { pages = savedIf t (remembered x fresh before-cut .draft) (remembered x fresh before-cut .pages); draft = none }) → Reads y mount v out 0 (readsOf t old new)
-      go true claim = mount-reads y y-ok v out whole (claim .mounts (y .ledger) long) (written-there (firstPage x fresh v old) v _ new (below-first x fresh ok v old (commit stamp ∷ write v new ∷ []) (g .all-done)))
-      go false claim = mount-reads y y-ok v out whole (claim .mounts (y .ledger) long) (first-there x fresh ok v old (commit stamp ∷ write v new ∷ []) (g .all-done))
+      go true claim = mount-reads y y-ok v out whole (claim .mounts (y .ledger) long) (written-there (firstPage x fresh v old) v _ new (below-first x fresh ok v old (commit stamp ∷ write (some v) new ∷ []) (g .all-done)))
+      go false claim = mount-reads y y-ok v out whole (claim .mounts (y .ledger) long) (first-there x fresh ok v old (commit stamp ∷ write (some v) new ∷ []) (g .all-done))
 
 -- ---- a program that is stopped
 
@@ -409,25 +409,25 @@ unstruck false b d = refl
 
 module _ (x : Day) (fresh : Bool) (ok : x .answer < 4294967296) (v : ℕ) (stamp : Option (List ℕ)) (old new : List ℕ) (y : Day) (out : List ℕ) (y-ok : y .answer < 4294967296) (long : length (y .ledger) ≡ ledgerLength) (whole : length out ≡ sectorLength) where
   abbrev written-day : Day
-  written-day = day x (opening fresh ∷ write v old ∷ commit stamp ∷ write v new ∷ [])
+  written-day = day x (opening fresh ∷ write (some v) old ∷ commit stamp ∷ write (some v) new ∷ [])
 
   -- no sector marked: as if a call that saves nothing had been cut before its first sector
-  pub storing-reads : StoppedStoring x (opening fresh ∷ write v old ∷ commit stamp ∷ write v new ∷ []) (y .disc) → Reads y mount v out 0 old
+  pub storing-reads : StoppedStoring x (opening fresh ∷ write (some v) old ∷ commit stamp ∷ write (some v) new ∷ []) (y .disc) → Reads y mount v out 0 old
   unfolding puts
   storing-reads s =
       let d : Disc = written-day .disc in
-      let ss : List Sector = sectorsBehind x (opening fresh ∷ write v old ∷ commit stamp ∷ write v new ∷ []) mount in
-      let good : Sound d = kept-at x fresh ok (write v old ∷ commit stamp ∷ write v new ∷ []) (s .all-done) .good .sound-disc in
+      let ss : List Sector = sectorsBehind x (opening fresh ∷ write (some v) old ∷ commit stamp ∷ write (some v) new ∷ []) mount in
+      let good : Sound d = kept-at x fresh ok (write (some v) old ∷ commit stamp ∷ write (some v) new ∷ []) (s .all-done) .good .sound-disc in
       let alike : Alike d (y .disc) = subst (λ (ks : List ℕ). Alike d (lent (y .disc .image) ks)) (s .same-kinds) (blank-bytes d good (y .disc .image) (s .same-length) (s .same-recorded)) in
       cut-reads x fresh ok v stamp old new mount 0 none d y out y-ok
       (record { all-done = s .all-done; within = omega arith; one-sector = tt; is-left = sym (unstruck (ltb 0 (length ss)) (recorded d + 0) d) }) alike long whole
 
   -- the first j sectors marked: as if the call had been cut after them
-  pub marking-reads : (c : Call) (j : ℕ) → StoppedMarking x (opening fresh ∷ write v old ∷ commit stamp ∷ write v new ∷ []) c j (y .disc)
-      → Reads y mount v out 0 (readsOf (tableKept c j (length (sectorsBehind x (opening fresh ∷ write v old ∷ commit stamp ∷ write v new ∷ []) c))) old new)
+  pub marking-reads : (c : Call) (j : ℕ) → StoppedMarking x (opening fresh ∷ write (some v) old ∷ commit stamp ∷ write (some v) new ∷ []) c j (y .disc)
+      → Reads y mount v out 0 (readsOf (tableKept c j (length (sectorsBehind x (opening fresh ∷ write (some v) old ∷ commit stamp ∷ write (some v) new ∷ []) c))) old new)
   marking-reads c j s =
       let d : Disc = written-day .disc in
-      let ss : List Sector = sectorsBehind x (opening fresh ∷ write v old ∷ commit stamp ∷ write v new ∷ []) c in
+      let ss : List Sector = sectorsBehind x (opening fresh ∷ write (some v) old ∷ commit stamp ∷ write (some v) new ∷ []) c in
       let cut : Disc = puts d (recorded d) (take j ss) in
       let alike : Alike cut (y .disc) = subst₂ (λ (i ks : List ℕ). Alike cut (lent i ks)) (s .all-stored) (s .some-marked) (marked-call d (written-day .ledger) c j) in
       cut-reads x fresh ok v stamp old new c j none cut y out y-ok

@@ -7,12 +7,16 @@ use mathlib.Core.Path.{_≡_}
 use lib.Dec.{eqb, ltb}
 use lib.ListN.{length, getD, take}
 use Rattle.vat.specs.Table.{sectorLength, unused}
+use Rattle.anchor.specs.Anchor.{extent}
 use Rattle.disc.specs.Disc.{Disc, lent, Sector, torn, recorded, put, puts}
 use Rattle.volume.specs.Volume.{unpack, grown}
 use Rattle.recorder.specs.Calls.{Call, begin, mount, write, read, saves}
 use Rattle.recorder.specs.Effects.{after, sectorsOf}
+use Rattle.run.specs.Entry.{entry}
+use Rattle.run.specs.View.{filledWith, view}
 use Rattle.history.specs.Events.{Event, runs}
 use Rattle.history.specs.Closed.{TurnedAway}
+use Rattle.archive.specs.Earlier.{Seen}
 
 -- What the last call answered, outcome × 4,294,967,296 + second number; and the disc and the ledger as it left them.
 pub record Day : Type 0 where
@@ -55,8 +59,8 @@ readAt x v out = after (x .disc) (x .ledger) (read v out) .buffer
 -- and as many numbers as before, or one more.
 pub record ShowsSave (x : Day) (start : Call) (v : ℕ) (block : List ℕ) (c : Call) (answer : ℕ) (ledger : List ℕ) : Type 0 where
   pub clean : answer ≡ 1
-  pub table : unpack ledger .last ≡ day x (start ∷ write v block ∷ c ∷ []) .answer
-  pub entry : getD (unpack ledger .entries) v unused ≡ day x (start ∷ write v block ∷ []) .answer
+  pub table : unpack ledger .last ≡ day x (start ∷ write (some v) block ∷ c ∷ []) .answer
+  pub entry : getD (unpack ledger .entries) v unused ≡ day x (start ∷ write (some v) block ∷ []) .answer
   pub size :
       let before : ℕ = unpack (day x (start ∷ []) .ledger) .size in
       unpack ledger .size ≡ grown (eqb v before) before
@@ -137,3 +141,22 @@ leftBy d held tried = runs (record { disc = d; ledger = held }) tried .disc
 -- An answer that turns away a call on a closed disc.
 abbrev pub ClosedAnswer : ℕ → Type 0
 ClosedAnswer r = (n : ℕ) × TurnedAway n × (r ≡ n * 4294967296)
+
+-- What a view tells: its answer, and the buffer with what it fills in.
+abbrev pub showing : ℕ → List ℕ → Seen
+showing answer buffer = record { answer = answer; buffer = buffer }
+
+-- A view that is done and shows these bytes.
+abbrev pub filling : List ℕ → List ℕ → Seen
+filling bytes buffer = showing (length bytes) (filledWith bytes buffer)
+
+-- A block is recorded without a number, and behind it, as number v, the entry of a run: the block's first n bytes.
+abbrev pub storing : Day → Bool → ℕ → List ℕ → ℕ → List Call
+storing x fresh v block n =
+    let t : ℕ = day x (opening fresh ∷ write none block ∷ []) .answer in
+    opening fresh ∷ write none block ∷ write (some v) (entry (extent n t ∷ []) (t + 1)) ∷ []
+
+-- A day that goes on with a view, if all so far was done: it leaves disc and ledger as they were.
+abbrev pub viewed : Day → ℕ → ℕ → List ℕ → Day
+viewed x n offset buffer =
+    goingOn (ltb (x .answer) 4294967296) x (record { answer = view (x .disc) (x .ledger) n offset buffer .answer; disc = x .disc; ledger = x .ledger })

@@ -105,7 +105,7 @@ unfoldable pub cut-save : Event
 cut-save = cuts (commit (some (stamp 2049 1970 1 1 0 30))) [] 1 none
 
 unfoldable pub written : ℕ → Event
-written x = calls (write 0 (block x)) []
+written x = calls (write (some 0) (block x)) []
 
 unfoldable pub asks : List Event
 asks = calls (timeOf 0 answer) full ∷ calls mount full ∷ []

@@ -26,6 +26,7 @@ use Rattle.cuts.proofs.CutCommit.{commit-works, cut-started, cut-allowe
 use Rattle.cuts.proofs.Lists.{start, begun-works, in-the-links, in-the-links-pages, shown-in-the-links, no-table-yet, shown-no-table-yet}
 use Rattle.cuts.proofs.Lists.{before-the-first-table, first-table-pages, shown-before-the-first-table}
 use Rattle.cuts.proofs.Lists.{looks-like-a-table, struck-pages, shown-looks-like-a-table, three-back, three-back-pages, shown-three-back}
+use Rattle.cuts.proofs.Lists.{unnumbered, unnumbered-pages, shown-unnumbered}
 use Rattle.cuts.proofs.Lists.{scratched, on-scratched, scratched-pages, shown-on-scratched, before-the-cut, old-page, new-page, shown-before-the-cut}
 
 -- ---- what is drawn
@@ -152,6 +153,9 @@ allowed-looks-like-a-table = works-allowed (blank 9) begin begunHistory looks-li
 pub allowed-three-back : AllAllowed (start 14) three-back
 allowed-three-back = works-allowed (blank 14) begin begunHistory three-back three-back-pages shown-three-back
 
+pub allowed-unnumbered : AllAllowed (start 13) unnumbered
+allowed-unnumbered = works-allowed (blank 13) begin begunHistory unnumbered unnumbered-pages shown-unnumbered
+
 pub allowed-on-scratched : AllAllowed (afterCall scratched full mount) on-scratched
 allowed-on-scratched = works-allowed scratched mount (mountedHistory scratched) on-scratched scratched-pages shown-on-scratched
 
@@ -174,6 +178,9 @@ drawn-looks-like-a-table = begun-gives 9 looks-like-a-table struck-pages shown-l
 
 pub drawn-three-back : Gives (runs (start 14) three-back .disc) three-back-pages
 drawn-three-back = begun-gives 14 three-back three-back-pages shown-three-back
+
+pub drawn-unnumbered : Gives (runs (start 13) unnumbered .disc) unnumbered-pages
+drawn-unnumbered = begun-gives 13 unnumbered unnumbered-pages shown-unnumbered
 
 pub drawn-on-scratched : Gives (runs (afterCall scratched full mount) on-scratched .disc) scratched-pages
 drawn-on-scratched = mounted-gives scratched on-scratched scratched-pages shown-on-scratched

@@ -4,3 +4,4 @@ pub mod CutCommit
 pub mod Lists
 pub mod Drawn
 pub mod Dated
+pub mod Viewed

@@ -33,7 +33,7 @@ begun-works n es ps = works (blank n) begin begunHistory es ps
 -- begin, write, commit, a commit cut in the links, look back, mount
 unfoldable pub in-the-links : List Event
 in-the-links =
-    calls (write 0 (block 5)) [] ∷ calls (commit none) [] ∷ calls closePacket [] ∷ cuts (commit none) [] 3 (some (block 9)) ∷ calls (lookBack 0) full ∷ calls mount full ∷ []
+    calls (write (some 0) (block 5)) [] ∷ calls (commit none) [] ∷ calls closePacket [] ∷ cuts (commit none) [] 3 (some (block 9)) ∷ calls (lookBack 0) full ∷ calls mount full ∷ []
 
 unfoldable pub in-the-links-pages : List Snapshot
 in-the-links-pages = (shows 0 (some (block 5)) ∷ []) ∷ []
@@ -44,7 +44,7 @@ shown-in-the-links = tt
 
 -- a cut before the first table: no page
 unfoldable pub no-table-yet : List Event
-no-table-yet = cuts (write 0 (block 4)) [] 1 none ∷ []
+no-table-yet = cuts (write (some 0) (block 4)) [] 1 none ∷ []
 
 pub shown-no-table-yet : T (begun-works 9 no-table-yet [])
 unfolding works no-table-yet
@@ -53,7 +53,7 @@ shown-no-table-yet = tt
 -- the same, then begin, and a save
 unfoldable pub before-the-first-table : List Event
 before-the-first-table =
-    cuts (write 0 (block 4)) [] 1 none ∷ calls mount full ∷ calls begin [] ∷ calls begin full ∷ calls (write 0 (block 6)) [] ∷ calls (commit none) [] ∷ []
+    cuts (write (some 0) (block 4)) [] 1 none ∷ calls mount full ∷ calls begin [] ∷ calls begin full ∷ calls (write (some 0) (block 6)) [] ∷ calls (commit none) [] ∷ []
 
 unfoldable pub first-table-pages : List Snapshot
 first-table-pages = (shows 8 (some (block 6)) ∷ []) ∷ []
@@ -64,7 +64,7 @@ shown-before-the-first-table = tt
 
 -- a sector that was struck is unreadable, though its bytes are those of a table at its block
 unfoldable pub looks-like-a-table : List Event
-looks-like-a-table = calls (write 0 (block 5)) [] ∷ calls (commit none) [] ∷ cuts (commit none) [] 0 (some (sector [] 1 noStamp 2)) ∷ []
+looks-like-a-table = calls (write (some 0) (block 5)) [] ∷ calls (commit none) [] ∷ cuts (commit none) [] 0 (some (sector [] 1 noStamp 2)) ∷ []
 
 unfoldable pub struck-pages : List Snapshot
 struck-pages = (shows 0 (some (block 5)) ∷ []) ∷ []
@@ -76,10 +76,10 @@ shown-looks-like-a-table = tt
 -- a save three back, and a number released
 unfoldable pub three-back : List Event
 three-back =
-    calls (write 0 (block 1)) [] ∷ calls (commit none) []
-    ∷ calls (write 1 (block 2)) [] ∷ calls (commit none) []
+    calls (write (some 0) (block 1)) [] ∷ calls (commit none) []
+    ∷ calls (write (some 1) (block 2)) [] ∷ calls (commit none) []
     ∷ calls (release 0) [] ∷ calls (commit none) []
-    ∷ calls (write 0 (block 3)) [] ∷ calls (commit none) []
+    ∷ calls (write (some 0) (block 3)) [] ∷ calls (commit none) []
     ∷ []
 
 unfoldable pub three-back-pages : List Snapshot
@@ -99,7 +99,7 @@ unfoldable pub scratched : Disc
 scratched = puts (blank 21) 0 (torn (block 5) ∷ plain (block 6) ∷ plain (sector (0 ∷ 1 ∷ []) unused noStamp 2) ∷ [])
 
 unfoldable pub on-scratched : List Event
-on-scratched = calls (write 2 (block 7)) [] ∷ calls (commit none) [] ∷ cuts (write 0 (block 8)) [] 1 none ∷ []
+on-scratched = calls (write (some 2) (block 7)) [] ∷ calls (commit none) [] ∷ cuts (write (some 0) (block 8)) [] 1 none ∷ []
 
 unfoldable pub scratched-pages : List Snapshot
 scratched-pages =
@@ -111,9 +111,24 @@ pub shown-on-scratched : T (works scratched mount (mountedHistory scratched) on-
 unfolding works scratched on-scratched scratched-pages
 shown-on-scratched = tt
 
+-- writes without a number, done and cut, between saves: no page shows their blocks
+unfoldable pub unnumbered : List Event
+unnumbered =
+    calls (write (some 0) (block 5)) [] ∷ calls (commit none) []
+    ∷ calls (write none (block 6)) [] ∷ calls (commit none) []
+    ∷ cuts (write none (block 7)) [] 1 none ∷ calls mount full ∷ calls (commit none) []
+    ∷ []
+
+unfoldable pub unnumbered-pages : List Snapshot
+unnumbered-pages = (shows 0 (some (block 5)) ∷ []) ∷ (shows 0 (some (block 5)) ∷ []) ∷ (shows 0 (some (block 5)) ∷ []) ∷ []
+
+pub shown-unnumbered : T (begun-works 13 unnumbered unnumbered-pages)
+unfolding works unnumbered unnumbered-pages
+shown-unnumbered = tt
+
 -- a commit cut after each j of its 8 sectors: 0 to 7 show the old save, 8 the new
 unfoldable pub before-the-cut : List Event
-before-the-cut = calls (write 0 (block 5)) [] ∷ calls (commit none) [] ∷ calls (write 1 (block 6)) [] ∷ calls closePacket [] ∷ []
+before-the-cut = calls (write (some 0) (block 5)) [] ∷ calls (commit none) [] ∷ calls (write (some 1) (block 6)) [] ∷ calls closePacket [] ∷ []
 
 unfoldable pub old-page : Snapshot
 old-page = shows 0 (some (block 5)) ∷ []

@@ -67,7 +67,7 @@ pub both : (a b : Bool) → T (a && b) → T a × T b
 both true b t = (tt, t)
 both false b t = absurd t
 
-same-bytes : (xs ys : List ℕ) → T (same xs ys) → xs ≡ ys
+pub same-bytes : (xs ys : List ℕ) → T (same xs ys) → xs ≡ ys
 unfolding same
 same-bytes [] [] t = refl
 same-bytes [] (y ∷ ys) t = absurd t

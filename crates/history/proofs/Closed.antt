@@ -4,7 +4,7 @@
 use Prim.Native.Nat.{ℕ, zero, suc, _+_, _-_, _≤_, _<_}
 use native.Mathlib.Numerals.{add-one}
 use native.Mathlib.Omega.{arith}
-use mathlib.Core.Path.{_≡_, refl, sym, ap, ap₂, _∙_, subst, subst₂}
+use mathlib.Core.Path.{_≡_, refl, sym, ap, _∙_, subst, subst₂}
 use mathlib.Core.Bool.{Bool, true, false, not}
 use mathlib.Core.List.{List, [], _∷_, _++_}
 use mathlib.Core.Logic.{inl, inr}
@@ -14,13 +14,12 @@ use lib.ListN.{length, getD, take, drop, replicate, length-replicate}
 use lib.Seq.{drop-cons}
 use borrow.Author.Tests.{eqb-true, le-ltb, le-leb}
 use Rattle.le.specs.Bytes.{every}
-use Rattle.vat.specs.Table.{sectorLength}
 use Rattle.anchor.specs.declared.Extent.{Extent}
 use Rattle.anchor.specs.Anchor.{anchor, anchorTagged}
 use Rattle.anchor.proofs.Theorems.{tagged-anchor}
 use Rattle.disc.specs.Disc.{Disc, sized, inOrder, recorded, kindAt, sectorAt, readable, content, Sector, link, plain, torn, put, puts}
 use Rattle.disc.specs.Session.{zeroSectors, zeroSector, closing, closingLength, sessionClosed}
-use Rattle.disc.proofs.Recording.{Sound, Recorded, put-recorded, plain-here, puts-append}
+use Rattle.disc.proofs.Recording.{Sound, Recorded, put-recorded, puts-append}
 use Rattle.volume.specs.Volume.{ledgerLength, readOnly, unpack, fits}
 use Rattle.volume.proofs.State.{Proper}
 use Rattle.recorder.specs.Calls.{Call, begin, mount, write, release, closePacket, commit, closeSession, read, lookBack, timeOf, bufferOf}
@@ -33,7 +32,7 @@ use Rattle.history.specs.Events.{World, Event, calls, cuts, ledgerHeld, 
 use Rattle.history.specs.Claim.{DoneShowing, Mounts, Claim}
 use Rattle.history.specs.Closed.{ClosedShowing, Closes, mayRecord, TurnedAway, ClosedDiscs}
 use Rattle.history.proofs.Log.{none-some, some-same, Extends}
-use Rattle.history.proofs.Growth.{F, NoTables, Grown, puts-plain, links-no-tables, closing-no-tables, behind-counted, behind-extends}
+use Rattle.history.proofs.Growth.{F, plain-content, NoTables, Grown, puts-plain, links-no-tables, closing-no-tables, behind-counted, behind-extends}
 use Rattle.history.proofs.Saving.{Saving, closing-saving, tableSector, beforeTable, length-before, before-whole, before-no-tables, room, sector-long, savedDisc, save}
 use Rattle.history.proofs.Steps.{done-fed, refused-records-none, records-nothing}
 use Rattle.history.proofs.Theorem.{Kept, all-kept, claimed, begun-kept, mounted-kept, drafted, saved-page, saved-disc, remounts}
@@ -59,11 +58,6 @@ zeros-data (suc n) = zeros-data n
 closing-data : (main reserve : Extent) (start b : ℕ) → AllData (closing main reserve start b)
 unfolding closing
 closing-data main reserve start b = zeros-data zeroSectors
-
-plain-content : (d : Disc) (ok : Sound d) (room : recorded d < length (d .kinds)) (s : List ℕ) (w : length s ≡ sectorLength) → content (put d (recorded d) (plain s)) (recorded d) ≡ some s
-unfolding content
-plain-content d ok room s w =
-    ap₂ (λ (k : ℕ) (t : List ℕ). readable (eqb k 1) t) (put-recorded d ok room (plain s) w .its-kind) (plain-here d ok room s w)
 
 stand : (ss : List Sector) (d : Disc) → Sound d → recorded d + length ss ≤ length (d .kinds) → AllWhole ss → AllData ss → NoTables (recorded d) ss → Stands (puts d (recorded d) ss) (recorded d) ss
 unfolding puts

@@ -80,6 +80,12 @@ module _ (d : Disc) (ok : Sound d) (room : recorded d < length (d .kinds)) where
       ap₂ (λ (k : ℕ) (t : List ℕ). isTable k t (recorded d)) (put-recorded d ok room (plain s) w .its-kind) (plain-here d ok room s w) ∙ n
   not-there (torn s) w n = of-kind-1 (kindAt (put d (recorded d) (torn s)) (recorded d)) (sectorAt (put d (recorded d) (torn s)) (recorded d)) (recorded d) (λ e. let z = sym (put-recorded d ok room (torn s) w .its-kind) ∙ e in omega arith)
 
+  -- a data sector reads its bytes
+  pub plain-content : (s : List ℕ) → length s ≡ sectorLength → content (put d (recorded d) (plain s)) (recorded d) ≡ some s
+  unfolding content
+  plain-content s w =
+      ap₂ (λ (k : ℕ) (t : List ℕ). readable (eqb k 1) t) (put-recorded d ok room (plain s) w .its-kind) (plain-here d ok room s w)
+
   put-plain : (s : Sector) → Whole s → NoTable (recorded d) s → Plain F d (put d (recorded d) s)
   put-plain s w n =
       let r : Recorded d (put d (recorded d) s) s = put-recorded d ok room s w in
@@ -178,10 +184,8 @@ module _ (d : Disc) (ok : Sound d) (ss : List Sector) (w : AllWhole ss) (n : NoT
   behind-extends = subst (λ (x : Disc). Extends F (puts d (recorded d) ss) x) (sym goes-behind) (extends-of last-recorded)
 
   pub behind-content : content (puts d (recorded d) (behind ss s)) (recorded d + length ss) ≡ some s
-  unfolding content
   behind-content =
-      ap₂ content goes-behind (sym (before-grown .counted))
-      ∙ ap₂ (λ (k : ℕ) (t : List ℕ). readable (eqb k 1) t) (last-recorded .its-kind) last-here
+      ap₂ content goes-behind (sym (before-grown .counted)) ∙ plain-content before (before-grown .still-sound) before-room s long
 
   pub behind-time : timeAt (puts d (recorded d) (behind ss s)) (recorded d + length ss) ≡ modifiedOf s
   behind-time = ap₂ timeAt goes-behind (sym (before-grown .counted)) ∙ ap modifiedOf last-here

@@ -2,10 +2,9 @@
 -- true. A format owes its operations, one law, and for each call the step that it takes.
 --     kept          every step keeps the invariant, whose first part is that the newest table shows the newest page
 --     newest-saved  a table recorded last is the newest
---     walk-page     the walk back k tables reaches the page k before the newest
 -- Assumes nothing.
 use Prim.Native.Nat.{ℕ, zero, suc, _+_, _-_, _≤_, _<_}
-use native.Mathlib.Nat.{add-zero, add-suc, not-suc-le-zero, le-of-suc-le-suc, le-refl}
+use native.Mathlib.Nat.{add-zero, add-suc, le-refl}
 use native.Mathlib.Omega.{arith}
 use mathlib.Core.Path.{_≡_, refl, sym, ap, ap₂, _∙_, subst}
 use mathlib.Core.Bool.{Bool, true, false}
@@ -13,13 +12,12 @@ use mathlib.Core.List.{List, [], _∷_, _++_, map}
 use mathlib.Core.Option.{Option, none, some}
 use mathlib.Core.Logic.{_⊎_, inl, inr}
 use lib.Dec.{eqb, ltb}
-use lib.ListN.{length, getD, set}
+use lib.ListN.{length, set}
 use borrow.Author.Tests.{eq-eqb, ne-eqb, ltb-true, ltb-false}
 use Rattle.vat.specs.Table.{unused}
 use Rattle.vat.proofs.Theorems.{Named}
 use Rattle.volume.proofs.State.{grownMap}
-use Rattle.disc.specs.declared.Walk.the-variants.{Reached}
-use Rattle.disc.specs.Tables.{found, newestBelow, walk}
+use Rattle.disc.specs.Tables.{found, newestBelow}
 use Rattle.history.specs.History.{Entry, unusedEntry, shows, Snapshot, History, Told, Fed, answered, cutCommit, placed, onDraft, newestPage, saved, feed}
 use Rattle.history.specs.Events.{shownIf}
 
@@ -50,6 +48,11 @@ below-more r r′ x h (inr e) = inr e
 pub all-below-more : (r r′ : ℕ) (xs : List ℕ) → r ≤ r′ → AllBelow r xs → AllBelow r′ xs
 all-below-more r r′ [] h a = tt
 all-below-more r r′ (x ∷ xs) h a = (below-more r r′ x h (a .0), all-below-more r r′ xs h (a .1))
+
+-- the map that a write at block b leaves: one without a number leaves it as it is
+abbrev pub writtenMap : Option ℕ → List ℕ → ℕ → List ℕ
+writtenMap none xs b = xs
+writtenMap (some n) xs b = grownMap (eqb n (length xs)) xs n b
 
 -- the working state as the history sees it
 pub record View : Type 0 where
@@ -161,9 +164,9 @@ module _ (F : Format) where
     mounted : {d : F .Disc} {v : Option View} (second b : ℕ) → newestOf d ≡ some b
         → Step (at d v) (answered Told.mount 0 second) (at d (some (working (F .mapAt d b) b)))
     looked : {d : F .Disc} {v : Option View} (k second : ℕ) (w : View) → w .looking ≡ true → Step (at d v) (answered (Told.lookBack k) 0 second) (at d (some w))
-    wrote : {d d′ : F .Disc} (xs : List ℕ) (last n b : ℕ) (block : List ℕ) → Plain d d′ → b < F .recorded d′
+    wrote : {d d′ : F .Disc} (xs : List ℕ) (last : ℕ) (n : Option ℕ) (b : ℕ) (block : List ℕ) → Plain d d′ → b < F .recorded d′
         → (b ≡ unused → ⊥) → F .content d′ b ≡ some block
-        → Step (at d (some (working xs last))) (answered (Told.write n block) 0 b) (at d′ (some (working (grownMap (eqb n (length xs)) xs n b) last)))
+        → Step (at d (some (working xs last))) (answered (Told.write n block) 0 b) (at d′ (some (working (writtenMap n xs b) last)))
     released : {d : F .Disc} (xs : List ℕ) (last n second : ℕ) → Step (at d (some (working xs last))) (answered (Told.release n) 0 second) (at d (some (working (set xs n unused) last)))
     committed : {d d′ : F .Disc} (xs : List ℕ) (last b second : ℕ) → Saved d d′ (working xs last) b
         → Step (at d (some (working xs last))) (answered Told.commit 0 second) (at d′ (some (working xs b)))
@@ -250,6 +253,10 @@ module _ (F : Format) where
   unfolding newestBelow
   newest-saved {d} {d′} v b s = rw (s .last-sector, s .a-table)
 
+  pub head-link : {d : F .Disc} (b : ℕ) (p : Snapshot) (ps : List Snapshot) → Chain d b p ps → Link d b p
+  head-link b p [] c = c
+  head-link b p (q ∷ qs) c = c .0
+
   module _ (names-below : NamesBelow F) where
     link-kept : {d d′ : F .Disc} → Extends d d′ → (b : ℕ) (p : Snapshot) → Link d b p → Link d′ b p
     link-kept {d} {d′} e b p l =
@@ -259,10 +266,6 @@ module _ (F : Format) where
           inside = omega (arith, l .inside, e .more);
           page = l .page ∙ sym (page-kept e (F .mapAt d b) below) ∙ ap (pageFrom d′) (sym (e .maps b (l .inside)));
         }
-
-    pub head-link : {d : F .Disc} (b : ℕ) (p : Snapshot) (ps : List Snapshot) → Chain d b p ps → Link d b p
-    head-link b p [] c = c
-    head-link b p (q ∷ qs) c = c .0
 
     chain-kept : {d d′ : F .Disc} → Extends d d′ → (b : ℕ) (p : Snapshot) (ps : List Snapshot) → Chain d b p ps → Chain d′ b p ps
     chain-kept e b p [] c = link-kept e b p c
@@ -304,15 +307,24 @@ module _ (F : Format) where
     all-below-set r (x ∷ xs) zero b a h = (h, a .1)
     all-below-set r (x ∷ xs) (suc n) b a h = (a .0, all-below-set r xs n b (a .1) h)
 
+    -- plain sectors leave the draft
+    drafted-plain : {d d′ : F .Disc} → Plain d d′ → (xs : List ℕ) (last : ℕ) (draft : Option Snapshot) → Drafted d xs last draft → Drafted d′ xs last draft
+    drafted-plain {d} {d′} p xs last draft g =
+        record {
+          shown = g .shown ∙ ap some (sym (page-kept (p .extends) xs (g .named)));
+          named = all-below-more (F .recorded d) (F .recorded d′) xs (p .extends .more) (g .named);
+          newest = g .newest ∙ ap orUnused (sym (newest-plain p));
+        }
+
     -- entry n becomes block b, which reads the block lent
-    page-written : (t : Bool) {d d′ : F .Disc} → Extends d d′ → (xs : List ℕ) (n b : ℕ) (block : List ℕ) → AllBelow (F .recorded d) xs → (b ≡ unused → ⊥)
-        → F .content d′ b ≡ some block → placed t (pageFrom d xs) n (shows b (some block)) ≡ pageFrom d′ (grownMap t xs n b)
-    page-written true {d} {d′} e xs n b block a u c =
-        let entry : shownOf d′ b ≡ shows b (some block) = rw (ne-eqb b unused u, c) in
-        ap (λ (p : Snapshot). p ++ (shows b (some block) ∷ [])) (sym (page-kept e xs a)) ∙ sym (page-append d′ xs (b ∷ []) ∙ ap (λ (y : Entry). pageFrom d′ xs ++ (y ∷ [])) entry)
-    page-written false {d} {d′} e xs n b block a u c =
-        let entry : shownOf d′ b ≡ shows b (some block) = rw (ne-eqb b unused u, c) in
-        ap (λ (p : Snapshot). set p n (shows b (some block))) (sym (page-kept e xs a)) ∙ sym (page-set d′ xs n b ∙ ap (set (pageFrom d′ xs) n) entry)
+    page-written : (t : Bool) (d : F .Disc) (xs : List ℕ) (n b : ℕ) (block : List ℕ) → (b ≡ unused → ⊥) → F .content d b ≡ some block
+        → placed t (pageFrom d xs) n (shows b (some block)) ≡ pageFrom d (grownMap t xs n b)
+    page-written true d xs n b block u c =
+        let entry : shownOf d b ≡ shows b (some block) = rw (ne-eqb b unused u, c) in
+        sym (page-append d xs (b ∷ []) ∙ ap (λ (y : Entry). pageFrom d xs ++ (y ∷ [])) entry)
+    page-written false d xs n b block u c =
+        let entry : shownOf d b ≡ shows b (some block) = rw (ne-eqb b unused u, c) in
+        sym (page-set d xs n b ∙ ap (set (pageFrom d xs) n) entry)
 
     grown-below : (t : Bool) (r : ℕ) (xs : List ℕ) (n b : ℕ) → AllBelow r xs → Named r b → AllBelow r (grownMap t xs n b)
     grown-below true r xs n b a h = all-below-append r xs b a h
@@ -349,9 +361,11 @@ module _ (F : Format) where
               };
         }
     kept h (looked {d} k second w looks) i = record { pages = i .pages; draft = rw looks refl }
-    kept h (wrote {d} {d′} xs last n b block p inside used reads) i =
-        let g : Drafted d xs last (h .draft) = i .draft in
-        let page : Snapshot = pageFrom d xs in
+    kept h (wrote xs last none b block p inside used reads) i =
+        record { pages = pages-plain p (h .pages) (i .pages); draft = drafted-plain p xs last (h .draft) (i .draft) }
+    kept h (wrote {d} {d′} xs last (some n) b block p inside used reads) i =
+        let g : Drafted d′ xs last (h .draft) = drafted-plain p xs last (h .draft) (i .draft) in
+        let page : Snapshot = pageFrom d′ xs in
         let entry : Entry = shows b (some block) in
         record {
           pages = pages-plain p (h .pages) (i .pages);
@@ -359,10 +373,9 @@ module _ (F : Format) where
               record {
                 shown =
                     ap (onDraft (λ q. placed (eqb n (length q)) q n entry)) (g .shown)
-                    ∙ ap some (ap (λ (k : ℕ). placed (eqb n k) page n entry) (length-page d xs) ∙ page-written (eqb n (length xs)) (p .extends) xs n b block (g .named) used reads);
-                named =
-                    grown-below (eqb n (length xs)) (F .recorded d′) xs n b (all-below-more (F .recorded d) (F .recorded d′) xs (p .extends .more) (g .named)) (inl inside);
-                newest = g .newest ∙ ap orUnused (sym (newest-plain p));
+                    ∙ ap some (ap (λ (k : ℕ). placed (eqb n k) page n entry) (length-page d′ xs) ∙ page-written (eqb n (length xs)) d′ xs n b block used reads);
+                named = grown-below (eqb n (length xs)) (F .recorded d′) xs n b (g .named) (inl inside);
+                newest = g .newest;
               };
         }
     kept h (released {d} xs last n second) i =
@@ -395,17 +408,3 @@ module _ (F : Format) where
           pages = subst (λ (o : Option Snapshot). Pages d′ (saved o (h .pages))) (sym (g .shown)) (pages-saved xs last b s (h .pages) (i .pages) (g .named) (g .newest));
           draft = refl;
         }
-
-    -- the walk back k tables reaches the page k before the newest
-    pub walk-page : (d : F .Disc) (b : ℕ) (p : Snapshot) (ps : List Snapshot) → Chain d b p ps → (k : ℕ) → k < suc (length ps)
-        → (t : ℕ) × (walk (F .table d) (F .previousAt d) k b ≡ Reached t) × Link d t (getD (p ∷ ps) k [])
-    unfolding walk
-    walk-page d b p ps c zero h = (b, refl, head-link b p ps c)
-    walk-page d b p [] c (suc k) h = absurd (not-suc-le-zero (le-of-suc-le-suc h))
-    walk-page d b p (q ∷ qs) c (suc k) h =
-        let below : ℕ = F .previousAt d b in
-        let further = walk-page d below q qs (c .2) k (le-of-suc-le-suc h) in (
-          further .0,
-          rw (ne-eqb below unused (c .1), head-link below q qs (c .2) .is-table) (further .1),
-          further .2,
-        )

@@ -10,6 +10,7 @@ use mathlib.Core.Path.{_≡_, refl, ap, _∙_, subst}
 use mathlib.Core.Bool.{Bool, true, false, _||_}
 use mathlib.Core.List.{List, [], _++_}
 use mathlib.Core.Logic.{inl, inr}
+use mathlib.Core.Option.{none, some}
 use lib.Dec.{eqb}
 use lib.ListN.{length, replicate, length-append, length-replicate}
 use borrow.Author.Tests.{eqb-true}
@@ -55,7 +56,8 @@ told-save (timeOf k answer) s = absurd (mathlib.Core.Bool.false≢true s)
 pub unsaved : (c : Call) → saves c ≡ false → (second : ℕ) (h : History) → done (told c) second h .pages ≡ h .pages
 unsaved begin s second h = refl
 unsaved mount s second h = refl
-unsaved (write n block) s second h = refl
+unsaved (write none block) s second h = refl
+unsaved (write (some n) block) s second h = refl
 unsaved (release n) s second h = refl
 unsaved closePacket s second h = refl
 unsaved (commit stamp) s second h = absurd (mathlib.Core.Bool.true≢false s)

@@ -20,7 +20,7 @@ use Rattle.volume.specs.declared.Volume.{Volume}
 use Rattle.volume.specs.Volume.{ledgerLength, packetOpen, readOnly, unpack, pack, mapOf, isUnused, fits, filled}
 use Rattle.volume.proofs.State.{Proper, unpack-pack, length-pack, map-filled}
 use Rattle.recorder.specs.Calls.{read}
-use Rattle.recorder.specs.Refusals.{Test, test, first, blockLent, unfit, notInUse, tests, outcome}
+use Rattle.recorder.specs.Refusals.{Test, test, first, blockLent, unfit, blockOf, notInUse, tests, outcome}
 use Rattle.recorder.specs.Effects.{effect, after}
 use Rattle.recorder.proofs.Done.{skip, stop, none-left, skip-basic}
 use Rattle.history.specs.History.{unusedEntry}
@@ -122,29 +122,35 @@ filled-fits d ok b mode m e =
     ap (every (unusedOrBelow r)) (map-filled xs b r mode) ∙ all-below-to r xs (all-below-more b r xs (omega arith) (names-below d b e)) in
     rw (few, behind, named, eq-eqb r r refl, e, or-true (eqb b unused), m .0, m .1)
 
+-- a ledger that fits the disc and whose numbers are the map's
+pub record HoldsMap (d : Disc) (l xs : List ℕ) : Type 0 where
+  pub long : length l ≡ ledgerLength
+  pub fit : fits d (unpack l) ≡ true
+  pub size : unpack l .size ≡ length xs
+  pub entry : (n : ℕ) → blockOf (unpack l) n ≡ getD xs n unused
+
 module _ (d : Disc) (ok : Sound d) (b mode : ℕ) (word : mode < 4294967296) (m : Filling mode) (e : tableAt d b ≡ true) where
-  proper : Proper (filled (mapAt d b) b (recorded d) mode)
-  proper = proper-table d ok b mode word e
-
-  unpacked : unpack (pack (filled (mapAt d b) b (recorded d) mode)) ≡ filled (mapAt d b) b (recorded d) mode
-  unpacked = unpack-pack (filled (mapAt d b) b (recorded d) mode) proper
-
-  entry-at : (n : ℕ) → getD (unpack (pack (filled (mapAt d b) b (recorded d) mode)) .entries) n unused ≡ getD (mapAt d b) n unused
+  pub holds-table : HoldsMap d (pack (filled (mapAt d b) b (recorded d) mode)) (mapAt d b)
   unfolding filled
-  entry-at n = ap (λ (v : Volume). getD (v .entries) n unused) unpacked ∙ padded-at (mapAt d b) (limit - length (mapAt d b)) n
-
-  size-of : unpack (pack (filled (mapAt d b) b (recorded d) mode)) .size ≡ length (mapAt d b)
-  unfolding filled
-  size-of = ap (λ (v : Volume). v .size) unpacked
+  holds-table =
+      let v : Volume = filled (mapAt d b) b (recorded d) mode in
+      let proper : Proper v = proper-table d ok b mode word e in
+      let unpacked : unpack (pack v) ≡ v = unpack-pack v proper in
+      record {
+        long = length-pack v proper;
+        fit = ap (fits d) unpacked ∙ filled-fits d ok b mode m e;
+        size = ap (λ (u : Volume). u .size) unpacked;
+        entry = λ n. ap (λ (u : Volume). blockOf u n) unpacked ∙ padded-at (mapAt d b) (limit - length (mapAt d b)) n;
+      }
 
   pub shows-table : Shows d (pack (filled (mapAt d b) b (recorded d) mode)) (pageFrom F d (mapAt d b))
   shows-table =
+      let l : List ℕ = pack (filled (mapAt d b) b (recorded d) mode) in
+      let h : HoldsMap d l (mapAt d b) = holds-table in
       record {
-        size = size-of ∙ sym (length-page F d (mapAt d b));
-        entry = λ n. entry-at n ∙ sym (ap blockNumber (page-at d (mapAt d b) n) ∙ block-of d (getD (mapAt d b) n unused));
+        size = h .size ∙ sym (length-page F d (mapAt d b));
+        entry = λ n. h .entry n ∙ sym (ap blockNumber (page-at d (mapAt d b) n) ∙ block-of d (getD (mapAt d b) n unused));
         reads = λ n block whole.
-            read-answer d (pack (filled (mapAt d b) b (recorded d) mode)) n block ok (length-pack (filled (mapAt d b) b (recorded d) mode) proper) whole
-            (ap (fits d) unpacked ∙ filled-fits d ok b mode m e)
-            (λ used. subst (λ (k : ℕ). n < k) (sym size-of) (used-below (mapAt d b) n (λ z. used (entry-at n ∙ z))))
-            ∙ ap (reading d (pack (filled (mapAt d b) b (recorded d) mode)) block) (ap (shownOf F d) (entry-at n) ∙ sym (page-at d (mapAt d b) n));
+            read-answer d l n block ok (h .long) whole (h .fit) (λ used. subst (λ (k : ℕ). n < k) (sym (h .size)) (used-below (mapAt d b) n (λ z. used (h .entry n ∙ z))))
+            ∙ ap (reading d l block) (ap (shownOf F d) (h .entry n) ∙ sym (page-at d (mapAt d b) n));
       }

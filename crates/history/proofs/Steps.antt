@@ -12,7 +12,7 @@ use lib.ListN.{length, replicate, length-replicate}
 use lib.Arith.{lt-of-le-ne}
 use borrow.Author.Tests.{eqb-true, eqb-false}
 use Rattle.le.proofs.Runs.{Words}
-use Rattle.vat.specs.Table.{unused, isTable}
+use Rattle.vat.specs.Table.{limit, unused, isTable}
 use Rattle.vat.proofs.Theorems.{Named, Tells, tells}
 use Rattle.disc.specs.Disc.{Disc, recorded, kindAt, sectorAt, content, Sector, link, puts}
 use Rattle.disc.specs.declared.Walk.the-variants.{Reached}
@@ -25,10 +25,10 @@ use Rattle.volume.proofs.State.{Proper, unpack-pack, proper-begun, proper-fille
 use Rattle.recorder.specs.Calls.{Call, begin, mount, write, release, closePacket, commit, closeSession, read, lookBack, timeOf, saves}
 use Rattle.recorder.specs.Refusals.{links, target, walkFrom, walked, outcome}
 use Rattle.recorder.specs.Effects.{Effect, blockReached, effect, settled, after, secondNumber, sectorsIf, sectorsOf}
-use Rattle.recorder.proofs.Done.{WriteDone, begin-done, mount-done, write-done, release-done, close-done, look-back-done}
+use Rattle.recorder.proofs.Done.{Writable, WriteDone, begin-done, mount-done, write-done, release-done, close-done, look-back-done}
 use Rattle.history.specs.History.{History, Told, Fed, answered, cut, cutCommit, feed}
 use Rattle.history.specs.Events.{World, Event, calls, cuts, ledgerHeld, onlyTells, CountsAsDone, Restores, Follows, Torn, Allowed, cutDisc, ledgerAfter, next, told, kept, cutShort, fed}
-use Rattle.history.proofs.Log.{AllBelow, View, State, Step, plain-same, at, working}
+use Rattle.history.proofs.Log.{AllBelow, writtenMap, View, State, Step, plain-same, at, working}
 use Rattle.recorder.proofs.Sectors.{links-whole, whole-take, behind, length-behind, behind-whole}
 use Rattle.history.proofs.Growth.{F, names-below, NoTables, Grown, puts-plain, links-no-tables, no-tables-take, behind-no-tables, behind-content, behind-counted, Left, cut-left, cut-before-left, cut-all, cut-none}
 use Rattle.history.proofs.Saving.{Saving, saving-done, enough, tableSector, beforeTable, before-whole, before-no-tables, room, small, at-table, leaves-behind, savedDisc, save, save-sound}
@@ -199,12 +199,14 @@ closed-view : (v : Volume) → viewIs (closed v) ≡ working F (mapOf v) (v .las
 unfolding closed
 closed-view v = refl
 
-wrote-view : (v : Volume) (n b : ℕ) → n ≤ v .size → v .size ≤ length (v .entries) → n < length (v .entries)
-    → viewIs (wrote n b v) ≡ working F (grownMap (eqb n (length (mapOf v))) (mapOf v) n b) (v .last)
+wrote-view : (v : Volume) (n : Option ℕ) (b : ℕ) → Writable v n → v .size ≤ length (v .entries) → length (v .entries) ≡ limit
+    → viewIs (wrote n b v) ≡ working F (writtenMap n (mapOf v) b) (v .last)
 unfolding wrote
-wrote-view v n b le long inside =
-    let counted : eqb n (v .size) ≡ eqb n (length (mapOf v)) = ap (eqb n) (sym (length-map v long)) in
-    let maps : mapOf (wrote n b v) ≡ grownMap (eqb n (length (mapOf v))) (mapOf v) n b = map-wrote v n b le long inside ∙ ap (λ (t : Bool). grownMap t (mapOf v) n b) counted in
+wrote-view v none b w enough long = refl
+wrote-view v (some n) b w enough long =
+    let counted : eqb n (v .size) ≡ eqb n (length (mapOf v)) = ap (eqb n) (sym (length-map v enough)) in
+    let maps : mapOf (wrote (some n) b v) ≡ grownMap (eqb n (length (mapOf v))) (mapOf v) n b =
+    map-wrote v n b (w .1) enough (omega (arith, w .0, long)) ∙ ap (λ (t : Bool). grownMap t (mapOf v) n b) counted in
     λ i. record { map = maps i; last = v .last; looking = false }
 
 committed-view : (v : Volume) (b : ℕ) → viewIs (committed b v) ≡ working F (mapOf v) b
@@ -212,7 +214,7 @@ unfolding committed
 committed-view v b = refl
 
 -- a write's block is no table behind its links
-written-no-tables : (d : Disc) (l : List ℕ) (n : ℕ) (block : List ℕ) → WriteDone d l n block → NoTables (recorded d) (behind (replicate (links (unpack l)) link) block)
+written-no-tables : (d : Disc) (l : List ℕ) (n : Option ℕ) (block : List ℕ) → WriteDone d l n block → NoTables (recorded d) (behind (replicate (links (unpack l)) link) block)
 written-no-tables d l n block f =
     let m : ℕ = links (unpack l) in
     let here : target (unpack l) ≡ recorded d + length (replicate {A = Sector} m link) = omega (arith, length-replicate {A = Sector} m link, f .fit .same-recorded) in
@@ -256,7 +258,7 @@ module _ (d : Disc) (l : List ℕ) (sound : Sound d) (good : Proper (unpack l)) 
   unfolding feed
   read-step n second = record { good = record { sound-disc = sound; ledger-good = good }; step = Step.quiet (λ h. refl) }
 
-  write-step : (n : ℕ) (block : List ℕ) → outcome d l (write n block) ≡ 0
+  write-step : (n : Option ℕ) (block : List ℕ) → outcome d l (write n block) ≡ 0
       → GoodStep (record { disc = d; ledger = some l }) (answered (Told.write n block) 0 (target (unpack l)))
       (record { disc = puts d (recorded d) (behind (replicate (links (unpack l)) link) block); ledger = some (pack (wrote n (target (unpack l)) (unpack l))) })
   write-step n block e =
@@ -273,8 +275,8 @@ module _ (d : Disc) (l : List ℕ) (sound : Sound d) (good : Proper (unpack l)) 
       puts-plain (behind ss block) d sound (omega (arith, length-behind ss block)) (behind-whole ss block (links-whole (links v)) (f .block-long)) (written-no-tables d l n block f) in
       let ok : Proper (wrote n (target v) v) = proper-wrote v good n (target v) (f .fit .few) (omega arith) in
       let before : viewIs v ≡ working F (mapOf v) (v .last) = working-view v (f .not-looking) in
-      let after-view : viewIs (unpack (pack (wrote n (target v) v))) ≡ working F (grownMap (eqb n (length (mapOf v))) (mapOf v) n (target v)) (v .last) =
-      packed-view (wrote n (target v) v) ok ∙ wrote-view v n (target v) (f .no-gap) (enough d l sound good (f .fit)) (omega (arith, f .below-limit, good .long)) in
+      let after-view : viewIs (unpack (pack (wrote n (target v) v))) ≡ working F (writtenMap n (mapOf v) (target v)) (v .last) =
+      packed-view (wrote n (target v) v) ok ∙ wrote-view v n (target v) (f .writable) (enough d l sound good (f .fit)) (good .long) in
       record {
         good = record { sound-disc = g .still-sound; ledger-good = packed-good (wrote n (target v) v) ok };
         step =
@@ -398,11 +400,11 @@ pub done-records : (d : Disc) (l : List ℕ) (c : Call) → outcome d l c ≡ 0 
 unfolding sectorsOf
 done-records d l c e = rw e
 
-write-records : (d : Disc) (l : List ℕ) (n : ℕ) (block : List ℕ) → effect d l (write n block) .sectors ≡ behind (replicate (links (unpack l)) link) block
+write-records : (d : Disc) (l : List ℕ) (n : Option ℕ) (block : List ℕ) → effect d l (write n block) .sectors ≡ behind (replicate (links (unpack l)) link) block
 unfolding effect
 write-records d l n block = refl
 
-cut-write-left : (d : Disc) (o : Option (List ℕ)) (n : ℕ) (block junk : List ℕ) (j : ℕ) (tear : Option (List ℕ)) → Good (record { disc = d; ledger = o })
+cut-write-left : (d : Disc) (o : Option (List ℕ)) (n : Option ℕ) (block junk : List ℕ) (j : ℕ) (tear : Option (List ℕ)) → Good (record { disc = d; ledger = o })
     → Follows (record { disc = d; ledger = o }) (write n block) junk → j ≤ length (sectorsOf d (ledgerHeld o junk) (write n block)) → Torn tear
     → (m : ℕ) → outcome d (ledgerHeld o junk) (write n block) ≡ m → Left d (cutDisc d (sectorsOf d (ledgerHeld o junk) (write n block)) j tear)
 cut-write-left d o n block junk j tear g f h t (suc m) e =

@@ -1,11 +1,11 @@
 -- Demand 3, proved: after every list of events that document 01 allows, mount and look back show the history's pages.
 --     power-cuts         the claim of specs/Claim.antt
 --     begun-kept, mounted-kept, all-kept  what holds of disc, ledger and history after a begin or a mount, and after any events that follow
+--     all-extends, all-since  these only add to the disc, and leave each save where it was, further back by the saves that they make
 --     remounts           a save that is done, then a mount or a look back on the disc that it leaves
 --     save-then-mount    the same of any 1,848 bytes as ledger
 -- Assumes nothing.
 use Prim.Native.Nat.{ℕ, suc, _+_, _*_, _<_}
-use native.Mathlib.Nat.{not-suc-le-zero}
 use native.Mathlib.Omega.{arith}
 use mathlib.Core.Path.{_≡_, refl, sym, ap, _∙_, subst, subst₂}
 use mathlib.Core.Bool.{Bool, true, false, _||_, not}
@@ -34,7 +34,8 @@ use Rattle.history.specs.History.{Snapshot, History, Told, saved, done, 
 use Rattle.history.specs.Events.{World, Event, calls, onlyTells, AllAllowed, next, told, fed, runs, remembers, shown, pageOf, afterCall, begunHistory, mountedHistory}
 use Rattle.history.specs.Times.{savedStamp}
 use Rattle.history.specs.Claim.{Shows, DoneShowing, Mounts, Claim, PowerCuts}
-use Rattle.history.proofs.Log.{HeldIf, Inv, Pages, Saved, pageFrom, newest-saved, kept, walk-page, head-link, working}
+use Rattle.history.proofs.Log.{Extends, extends-same, extends-on, HeldIf, Inv, Pages, Saved, pageFrom, newest-saved, kept, head-link, working}
+use Rattle.history.proofs.Back.{step-extends, way-walk, Behind, page-behind, Since, since-kept}
 use Rattle.history.proofs.Growth.{F, names-below}
 use Rattle.history.proofs.Steps.{Good, GoodStep, stateOf, event-step, walked-table, proper-table}
 use Rattle.history.proofs.Saving.{told-save, Saving, saving-done, beforeTable, at-table, leaves-behind, savedDisc, save, save-sound}
@@ -52,6 +53,25 @@ all-kept [] w h r a = r
 all-kept (e ∷ es) w h r a =
     let s : GoodStep w (fed w e) (next w e) = event-step w e (r .good) (a .0) in
     all-kept es (next w e) (feed h (fed w e)) (record { good = s .good; inv = kept F names-below h (s .step) (r .inv) }) (a .1)
+
+pub all-extends : (es : List Event) (w : World) → Good w → AllAllowed w es → Extends F (w .disc) (runs w es .disc)
+unfolding AllAllowed runs
+all-extends [] w g a = extends-same F (w .disc)
+all-extends (e ∷ es) w g a =
+    let s : GoodStep w (fed w e) (next w e) = event-step w e g (a .0) in
+    extends-on F (step-extends F (s .step)) (all-extends es (next w e) (s .good) (a .1))
+
+pub all-since : (es : List Event) (w : World) (h : History) → Kept w h → AllAllowed w es → {m b : ℕ}
+    → Since F (w .disc) (h .pages) m b → Since F (runs w es .disc) (remembers w h es .pages) m b
+unfolding AllAllowed runs remembers
+all-since [] w h r a s = s
+all-since (e ∷ es) w h r a s =
+    let step : GoodStep w (fed w e) (next w e) = event-step w e (r .good) (a .0) in
+    all-since es (next w e) (feed h (fed w e)) (all-kept (e ∷ []) w h r (a .0, tt)) (a .1) (since-kept F h (step .step) (r .inv) s)
+
+pub walked-behind : (d : Disc) (k t : ℕ) → Behind F d k t → walked d k ≡ Reached t
+unfolding walked
+walked-behind d k t r = ap (walkFrom d k) (r .is-newest) ∙ way-walk F d k (r .newest) t (r .way)
 
 -- ---- what mount and look back answer on a sound disc
 
@@ -82,16 +102,12 @@ module _ (d : Disc) (l : List ℕ) (ok : Sound d) (long : length l ≡ ledgerLen
             (shows-table d ok b idle (lit< tt) (refl, refl) (newest-table (tableAt d) (recorded d) b n));
       }
 
-  walked-reached : (k b t : ℕ) → newest d ≡ some b → walk (tableAt d) (previousAt d) k b ≡ Reached t → walked d k ≡ Reached t
-  unfolding walked
-  walked-reached k b t n e = ap (walkFrom d k) n ∙ e
-
   look-back-some : (k b t : ℕ) → newest d ≡ some b → walked d k ≡ Reached t → outcome d l (lookBack k) ≡ 0
   unfolding outcome tests
   look-back-some k b t n e =
       skip-basic d (ledgerLent l) (walkTests d k) ok (eq-eqb (length l) ledgerLength long) ∙ skip-walk d k b t [] n e ∙ none-left
 
-  look-back-leaves : (k b t : ℕ) → newest d ≡ some b → walked d k ≡ Reached t → after d l (lookBack k) .ledger ≡ pack (filled (mapAt d t) t (recorded d) readOnly)
+  pub look-back-leaves : (k b t : ℕ) → newest d ≡ some b → walked d k ≡ Reached t → after d l (lookBack k) .ledger ≡ pack (filled (mapAt d t) t (recorded d) readOnly)
   unfolding after effect
   look-back-leaves k b t n e =
       rw (look-back-some k b t n e) (ap (λ (w : Walk). pack (filled (mapAt d (blockReached w)) (blockReached w) (recorded d) readOnly)) e)
@@ -127,15 +143,14 @@ module _ (d : Disc) (l : List ℕ) (ok : Sound d) (long : length l ≡ ledgerLen
 mounts-pages : (d : Disc) (l : List ℕ) → Sound d → length l ≡ ledgerLength → (ps : List Snapshot) → Pages F d ps → Mounts d l ps
 mounts-pages d l ok long [] n = mount-none d l ok long n
 mounts-pages d l ok long (p ∷ ps) n =
-    subst (λ (q : Snapshot). DoneShowing d l mount q) (sym (head-link F names-below (n .0) p ps (n .2) .page)) (mount-shows d l ok long (n .0) (n .1))
+    subst (λ (q : Snapshot). DoneShowing d l mount q) (sym (head-link F (n .0) p ps (n .2) .page)) (mount-shows d l ok long (n .0) (n .1))
 
 looks-pages : (d : Disc) (l : List ℕ) → Sound d → length l ≡ ledgerLength → (ps : List Snapshot) → Pages F d ps → (k : ℕ) → k < length ps
     → DoneShowing d l (lookBack k) (getD ps k [])
-looks-pages d l ok long [] n k h = absurd (not-suc-le-zero h)
-looks-pages d l ok long (p ∷ ps) n k h =
-    let way = walk-page F names-below d (n .0) p ps (n .2) k h in
-    subst (λ (q : Snapshot). DoneShowing d l (lookBack k) q) (sym (way .2 .page))
-    (look-back-shows d l ok long k (n .0) (way .0) (n .1) (walked-reached d l ok long k (n .0) (way .0) (n .1) (way .1)))
+looks-pages d l ok long ps n k h =
+    let page = page-behind F d ps n k h in
+    subst (λ (q : Snapshot). DoneShowing d l (lookBack k) q) (sym (page .2 .page))
+    (look-back-shows d l ok long k (page .1 .newest) (page .0) (page .1 .is-newest) (walked-behind d k (page .0) (page .1)))
 
 pub claimed : (w : World) (h : History) → Kept w h → Claim (w .disc) h
 claimed w h r =

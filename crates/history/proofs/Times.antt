@@ -2,7 +2,7 @@
 --     retells, save-then-time     of the disc that a save leaves, right away
 --     save-times                  the claim of specs/Times.antt
 -- Assumes nothing.
-use Prim.Native.Nat.{ℕ, zero, suc, _+_}
+use Prim.Native.Nat.{ℕ, zero, suc, _+_, _<_}
 use native.Mathlib.Omega.{arith}
 use mathlib.Core.Path.{_≡_, refl, sym, ap, ap₂, _∙_, subst, subst₂}
 use mathlib.Core.Bool.{Bool, true, false, not}
@@ -23,7 +23,7 @@ use Rattle.disc.proofs.Recording.{Sound}
 use Rattle.volume.specs.Volume.{ledgerLength, unpack, mapOf}
 use Rattle.volume.proofs.State.{Proper, proper-unpack}
 use Rattle.recorder.specs.Calls.{Call, begin, mount, timeOf, saves}
-use Rattle.recorder.specs.Refusals.{Test, test, first, answerLent, walkFrom, walked, walkTests, timeReached, timeBack, tests, outcome}
+use Rattle.recorder.specs.Refusals.{Test, test, first, answerLent, walked, walkTests, timeReached, timeBack, tests, outcome}
 use Rattle.recorder.specs.Effects.{effect, After, after, sectorsOf}
 use Rattle.recorder.proofs.Done.{skip, stop, none-left, skip-basic, skip-walk}
 use Rattle.history.specs.History.{History, Fed, feed}
@@ -31,10 +31,10 @@ use Rattle.history.specs.Events.{World, Event, calls, cuts, ledgerHeld, 
 use Rattle.history.specs.Times.{telling, TellsTime, callOf, savedStamp, Saves, ToldLater, EachTold, SaveTimes}
 use Rattle.history.proofs.Log.{newest-saved, working}
 use Rattle.history.proofs.Growth.{F, cut-all}
-use Rattle.history.proofs.Steps.{Good, GoodStep, event-step, refused-fed, done-fed, done-records, no-save-follows}
+use Rattle.history.proofs.Steps.{Good, refused-fed, done-fed, done-records, no-save-follows}
 use Rattle.history.proofs.Saving.{unsaved, Saving, saving-done, beforeTable, leaves-behind, savedDisc, save, save-sound, save-time}
-use Rattle.history.proofs.Theorem.{Kept, all-kept, begun-kept, mounted-kept, saved-disc}
-use Rattle.history.proofs.Back.{way-walk, Behind, Since, since-kept}
+use Rattle.history.proofs.Theorem.{Kept, all-kept, all-extends, all-since, walked-behind, begun-kept, mounted-kept, saved-disc}
+use Rattle.history.proofs.Back.{Behind, Since}
 
 -- ---- what is told on a sound disc
 
@@ -61,53 +61,48 @@ module _ (d : Disc) (l answer : List ℕ) (ok : Sound d) (long : length l ≡ le
           rw (refused, z)
 
 -- a save k steps back tells its time
-behind-tells : (d : Disc) → Sound d → (k b : ℕ) (stamp : List ℕ) → Behind F d k b stamp → TellsTime d k stamp
-unfolding walked
-behind-tells d ok k b stamp r l answer long whole =
-    let way : walked d k ≡ Reached b = ap (walkFrom d k) (r .is-newest) ∙ way-walk F d k (r .newest) b (r .way) in
-    tells-time d l answer ok long whole k (r .newest) b (r .is-newest) way ∙ ap (λ (s : List ℕ). telling (valid s) d l answer s) (r .time)
+behind-tells : (d : Disc) → Sound d → (k b : ℕ) → Behind F d k b → TellsTime d k (timeAt d b)
+behind-tells d ok k b r l answer long whole = tells-time d l answer ok long whole k (r .newest) b (r .is-newest) (walked-behind d k b r)
 
 -- ---- a call makes its save
 
-saved-behind : (d : Disc) (l : List ℕ) (ok : Sound d) (good : Proper (unpack l)) (c : Call) (s : Saving d l c)
-    → Behind F (savedDisc d l ok good c s) 0 (recorded d + length (beforeTable d l ok good c s)) (savedStamp c)
-saved-behind d l ok good c s =
+-- the newest table on the disc, and its time
+abbrev Made : Disc → List ℕ → Type 0
+Made d stamp = (b : ℕ) × Behind F d 0 b × (b < recorded d) × (timeAt d b ≡ stamp)
+
+saved-made : (d : Disc) (l : List ℕ) (ok : Sound d) (good : Proper (unpack l)) (c : Call) (s : Saving d l c) → Made (savedDisc d l ok good c s) (savedStamp c)
+saved-made d l ok good c s =
     let t = save d l ok good c s in
     let b : ℕ = recorded d + length (beforeTable d l ok good c s) in
-    record {
-      newest = b;
-      is-newest = newest-saved F (working F (mapOf (unpack l)) (unpack l .last)) b t;
-      way = (refl, omega (arith, t .last-sector));
-      time = save-time d l ok good c s;
-    }
+    let inside : b < recorded (savedDisc d l ok good c s) = omega (arith, t .last-sector) in
+    let behind : Behind F (savedDisc d l ok good c s) 0 b =
+    record { newest = b; is-newest = newest-saved F (working F (mapOf (unpack l)) (unpack l .last)) b t; way = (refl, inside) } in
+    (b, behind, inside, save-time d l ok good c s)
 
 -- of the disc that a save leaves, on a ledger whose state is proper; and on any that holds bytes
 pub retells : (d : Disc) (l : List ℕ) → Proper (unpack l) → (c : Call) → saves c ≡ true → outcome d l c ≡ 0 → TellsTime (after d l c .disc) 0 (savedStamp c)
 retells d l good c is-save e =
     let s : Saving d l c = saving-done d l c is-save e in
     let ok : Sound d = s .done .sound-disc in
-    subst (λ (x : Disc). TellsTime x 0 (savedStamp c)) (sym (saved-disc d l ok good c s e))
-    (behind-tells (savedDisc d l ok good c s) (save-sound d l ok good c s) 0 (recorded d + length (beforeTable d l ok good c s)) (savedStamp c) (saved-behind d l ok good c s))
+    let made = saved-made d l ok good c s in
+    subst₂ (λ (x : Disc) (stamp : List ℕ). TellsTime x 0 stamp) (sym (saved-disc d l ok good c s e)) (made .3)
+    (behind-tells (savedDisc d l ok good c s) (save-sound d l ok good c s) 0 (made .0) (made .1))
 
 pub save-then-time : (d : Disc) (l : List ℕ) → AllBytes l → (c : Call) → saves c ≡ true → outcome d l c ≡ 0 → TellsTime (after d l c .disc) 0 (savedStamp c)
 save-then-time d l bytes = retells d l (proper-unpack l bytes)
 
 -- ---- an event that makes a save
 
-abbrev Made : Disc → Call → Type 0
-Made d c = (b : ℕ) × Behind F d 0 b (savedStamp c)
-
 not-more : {A : Type 0} (n : ℕ) → n ≡ suc n → A
 not-more n e = absurd (omega arith)
 
 -- what a save records makes one
-saved-made : (d : Disc) (o : Option (List ℕ)) (c : Call) (junk : List ℕ) → Good (record { disc = d; ledger = o }) → Follows (record { disc = d; ledger = o }) c junk
-    → saves c ≡ true → outcome d (ledgerHeld o junk) c ≡ 0 → Made (puts d (recorded d) (effect d (ledgerHeld o junk) c .sectors)) c
-saved-made d none c junk g f is e = absurd (no-save-follows d junk c is (f refl) e)
-saved-made d (some l) c junk g f is e =
+held-made : (d : Disc) (o : Option (List ℕ)) (c : Call) (junk : List ℕ) → Good (record { disc = d; ledger = o }) → Follows (record { disc = d; ledger = o }) c junk
+    → saves c ≡ true → outcome d (ledgerHeld o junk) c ≡ 0 → Made (puts d (recorded d) (effect d (ledgerHeld o junk) c .sectors)) (savedStamp c)
+held-made d none c junk g f is e = absurd (no-save-follows d junk c is (f refl) e)
+held-made d (some l) c junk g f is e =
     let s : Saving d l c = saving-done d l c is e in
-    let b : ℕ = recorded d + length (beforeTable d l (g .sound-disc) (g .ledger-good) c s) in
-    (b, subst (λ (ss : List Sector). Behind F (puts d (recorded d) ss) 0 b (savedStamp c)) (sym (leaves-behind d l (g .sound-disc) (g .ledger-good) c s)) (saved-behind d l (g .sound-disc) (g .ledger-good) c s))
+    subst (λ (ss : List Sector). Made (puts d (recorded d) ss) (savedStamp c)) (sym (leaves-behind d l (g .sound-disc) (g .ledger-good) c s)) (saved-made d l (g .sound-disc) (g .ledger-good) c s)
 
 module _ (d : Disc) (o : Option (List ℕ)) (h : History) (c : Call) (junk : List ℕ) (g : Good (record { disc = d; ledger = o })) (f : Follows (record { disc = d; ledger = o }) c junk) where
   abbrev w : World
@@ -116,15 +111,15 @@ module _ (d : Disc) (o : Option (List ℕ)) (h : History) (c : Call) (junk : Lis
   abbrev held : List ℕ
   held = ledgerHeld o junk
 
-  call-made : Saves w h (calls c junk) → (t : Bool) → saves c ≡ t → (m : ℕ) → outcome d held c ≡ m → Made (next w (calls c junk) .disc) c
+  call-made : Saves w h (calls c junk) → (t : Bool) → saves c ≡ t → (m : ℕ) → outcome d held c ≡ m → Made (next w (calls c junk) .disc) (savedStamp c)
   unfolding next after feed
   call-made more t is (suc m) e =
       not-more (length (h .pages)) (ap (λ (x : Fed). length (feed h x .pages)) (sym (refused-fed w c junk m e)) ∙ more)
   call-made more false is zero e =
       not-more (length (h .pages)) (ap length (sym (unsaved c is (effect d held c .second) h)) ∙ ap (λ (x : Fed). length (feed h x .pages)) (sym (done-fed w c junk e)) ∙ more)
-  call-made more true is zero e = rw e (saved-made d o c junk g f is e)
+  call-made more true is zero e = rw e (held-made d o c junk g f is e)
 
-  cut-made : (j : ℕ) (tear : Option (List ℕ)) → Saves w h (cuts c junk j tear) → (t : Bool) → saves c ≡ t → (k : Bool) → kept d held c j ≡ k → Made (next w (cuts c junk j tear) .disc) c
+  cut-made : (j : ℕ) (tear : Option (List ℕ)) → Saves w h (cuts c junk j tear) → (t : Bool) → saves c ≡ t → (k : Bool) → kept d held c j ≡ k → Made (next w (cuts c junk j tear) .disc) (savedStamp c)
   unfolding next fed feed
   cut-made j tear more false is k z =
       not-more (length (h .pages)) (ap (λ (t : Bool). length (feed h (cutIf t (told c) (kept d held c j)) .pages)) (sym is) ∙ more)
@@ -136,38 +131,31 @@ module _ (d : Disc) (o : Option (List ℕ)) (h : History) (c : Call) (junk : Lis
       let e : outcome d held c ≡ 0 = eqb-true (outcome d held c) 0 (and-left out all z) in
       let same : cutDisc d (sectorsOf d held c) j tear ≡ puts d (recorded d) (effect d held c .sectors) =
       cut-all (sectorsOf d held c) d tear j (eqb-true j (length (sectorsOf d held c)) (and-right out all z)) ∙ ap (puts d (recorded d)) (done-records d held c e) in
-      subst (λ (x : Disc). Made x c) (sym same) (saved-made d o c junk g f is e)
+      subst (λ (x : Disc). Made x (savedStamp c)) (sym same) (held-made d o c junk g f is e)
 
-made : (w : World) (h : History) → Good w → (e : Event) → Allowed w e → Saves w h e → Made (next w e .disc) (callOf e)
+made : (w : World) (h : History) → Good w → (e : Event) → Allowed w e → Saves w h e → Made (next w e .disc) (savedStamp (callOf e))
 made w h g (calls c junk) a more = call-made (w .disc) (w .ledger) h c junk g a more (saves c) refl (outcome (w .disc) (ledgerHeld (w .ledger) junk) c) refl
 made w h g (cuts c junk j tear) a more = cut-made (w .disc) (w .ledger) h c junk g (a .0) j tear more (saves c) refl (kept (w .disc) (ledgerHeld (w .ledger) junk) c j) refl
 
 -- ---- and any events that follow
 
-all-since : (es : List Event) (w : World) (h : History) → Kept w h → AllAllowed w es → {m b : ℕ} {stamp : List ℕ}
-    → Since F (w .disc) (h .pages) m b stamp → Since F (runs w es .disc) (remembers w h es .pages) m b stamp
-unfolding AllAllowed runs remembers
-all-since [] w h r a s = s
-all-since (e ∷ es) w h r a s =
-    let step : GoodStep w (fed w e) (next w e) = event-step w e (r .good) (a .0) in
-    all-since es (next w e) (feed h (fed w e)) (all-kept (e ∷ []) w h r (a .0, tt)) (a .1) (since-kept F h (step .step) (r .inv) s)
-
 each-told : (w : World) (h : History) → Kept w h → EachTold w h
 unfolding AllAllowed runs remembers
 each-told w h r es a e allowed more later follow k counted =
-    let stamp : List ℕ = savedStamp (callOf e) in
     let w₁ : World = runs w es in
     let h₁ : History = remembers w h es in
+    let w₂ : World = next w₁ e in
+    let h₂ : History = feed h₁ (fed w₁ e) in
     let r₁ : Kept w₁ h₁ = all-kept es w h r a in
-    let r₂ : Kept (next w₁ e) (feed h₁ (fed w₁ e)) = all-kept (e ∷ []) w₁ h₁ r₁ (allowed, tt) in
-    let r₃ : Kept (runs (next w₁ e) later) (remembers (next w₁ e) (feed h₁ (fed w₁ e)) later) = all-kept later (next w₁ e) (feed h₁ (fed w₁ e)) r₂ follow in
+    let r₂ : Kept w₂ h₂ = all-kept (e ∷ []) w₁ h₁ r₁ (allowed, tt) in
+    let r₃ : Kept (runs w₂ later) (remembers w₂ h₂ later) = all-kept later w₂ h₂ r₂ follow in
     let b = made w₁ h₁ (r₁ .good) e allowed more in
-    let s : Since F (next w₁ e .disc) (feed h₁ (fed w₁ e) .pages) (length (feed h₁ (fed w₁ e) .pages)) (b .0) stamp = record { followed = 0; counted = omega arith; behind = b .1 } in
-    let t : Since F (runs (next w₁ e) later .disc) (remembers (next w₁ e) (feed h₁ (fed w₁ e)) later .pages) (length (feed h₁ (fed w₁ e) .pages)) (b .0) stamp =
-    all-since later (next w₁ e) (feed h₁ (fed w₁ e)) r₂ follow s in
+    let s : Since F (w₂ .disc) (h₂ .pages) (length (h₂ .pages)) (b .0) = record { followed = 0; counted = omega arith; behind = b .1 } in
+    let t : Since F (runs w₂ later .disc) (remembers w₂ h₂ later .pages) (length (h₂ .pages)) (b .0) = all-since later w₂ h₂ r₂ follow s in
     let same : t .followed ≡ k = omega (arith, t .counted, counted) in
-    subst (λ (n : ℕ). TellsTime (runs (next w₁ e) later .disc) n stamp) same
-    (behind-tells (runs (next w₁ e) later .disc) (r₃ .good .sound-disc) (t .followed) (b .0) stamp (t .behind))
+    let time : timeAt (runs w₂ later .disc) (b .0) ≡ savedStamp (callOf e) = all-extends later w₂ (r₂ .good) follow .times (b .0) (b .2) ∙ b .3 in
+    subst₂ (λ (n : ℕ) (stamp : List ℕ). TellsTime (runs w₂ later .disc) n stamp) same time
+    (behind-tells (runs w₂ later .disc) (r₃ .good .sound-disc) (t .followed) (b .0) (t .behind))
 
 pub save-times : SaveTimes
 save-times =

@@ -23,7 +23,7 @@ pub record History : Type 0 where
 pub data Told : Type 0 where
   begin : Told
   mount : Told
-  write : ℕ → List ℕ → Told
+  write : Option ℕ → List ℕ → Told
   release : ℕ → Told
   closePacket : Told
   commit : Told
@@ -59,11 +59,12 @@ abbrev pub savedIf : Bool → Option Snapshot → List Snapshot → List Snapsho
 savedIf true draft pages = saved draft pages
 savedIf false draft pages = pages
 
--- A call that was done, by its second number.
+-- A call that was done, by its second number. A write without a number is one that the draft does not see.
 abbrev pub done : Told → ℕ → History → History
 done begin second h = record { pages = h .pages; draft = some [] }
 done mount second h = record { pages = h .pages; draft = newestPage (h .pages) }
-done (write n block) second h =
+done (write none block) second h = h
+done (write (some n) block) second h =
     record { pages = h .pages; draft = onDraft (λ p. placed (eqb n (length p)) p n (shows second (some block))) (h .draft) }
 done (release n) second h = record { pages = h .pages; draft = onDraft (λ p. set p n unusedEntry) (h .draft) }
 done closePacket second h = h

@@ -59,7 +59,7 @@ fn put_rows(image: &[u8], kinds: &[u8], out: &mut [u8], clean: bool) -> usize
     let mut k: u32 = 0;
     while k < 32 {
         let mut ledger = [0u8; 1848];
-        let answer = station::station_look_back(image, kinds, &mut ledger, k);
+        let answer = log::look_back(image, kinds, &mut ledger, k);
         let outcome = answer / 4294967296;
         if outcome != 0 {
             return put_last(out, at, outcome == 8, clean);
@@ -79,7 +79,7 @@ fn put_listed(image: &[u8], kinds: &[u8], out: &mut [u8]) -> usize
     ensures { λ r. ⌜ (now (out .exit) ≡ sets (now (out .entry)) 0 (listed (lent (now (image .entry)) (now (kinds .entry))))) × (r ≡ length (listed (lent (now (image .entry)) (now (kinds .entry))))) ⌝ }
 {
     let mut ledger = [0u8; 1848];
-    let answer = station::station_mount(image, kinds, &mut ledger);
+    let answer = log::mount(image, kinds, &mut ledger);
     let outcome = answer / 4294967296;
     if outcome != 0 {
         return put_refused(out, outcome as u32);

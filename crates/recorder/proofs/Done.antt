@@ -28,7 +28,7 @@ use Rattle.disc.proofs.Found.{sector-end, table-within}
 use Rattle.volume.specs.declared.Volume.{Volume}
 use Rattle.volume.specs.Volume.{ledgerLength, idle, packetOpen, readOnly, mapOf, unpack, isUnused, fits}
 use Rattle.recorder.specs.Calls.{Call, begin, mount, write, release, closePacket, commit, closeSession, read, lookBack, timeOf}
-use Rattle.recorder.specs.Refusals.{Test, test, orElse, first, linkCount, linksIf, links, target, reserve, basic, ledgerLent, blockLent, stampLong, stampLent, answerLent, unfit, gate, forbiddenAt, writeTests, stampWrong, commitTests, closingTests, notInUse, isSome, walked, isBroken, isEnded, walkTests, timeBack, timeWrong, tests, outcome}
+use Rattle.recorder.specs.Refusals.{Test, test, orElse, first, linkCount, linksIf, links, target, reserve, basic, ledgerLent, blockLent, stampLong, stampLent, answerLent, unfit, gate, forbiddenAt, numberTests, writeTests, stampWrong, commitTests, closingTests, blockOf, notInUse, numberedTests, isSome, walked, isBroken, isEnded, walkTests, timeBack, timeWrong, tests, outcome}
 use Rattle.recorder.specs.Effects.{stampOf}
 use Rattle.recorder.proofs.Sectors.{AllWhole, closing-whole, length-closing}
 
@@ -158,7 +158,6 @@ fitting d v e =
 pub record Working (d : Disc) (l : List ℕ) (rest : List Test) : Type 0 where
   pub fit : Fits d (unpack l)
   pub not-looking : eqb (unpack l .mode) readOnly ≡ false
-  pub not-closed : sessionClosed d ≡ false
   pub rest-passed : first rest ≡ 0
 
 pub working-passed : (d : Disc) (l : List ℕ) (rest : List Test) → first (gate d l ++ rest) ≡ 0 → Working d l rest
@@ -171,7 +170,6 @@ working-passed d l rest e =
     record {
       fit = fitting d (unpack l) (not-false (fits d (unpack l)) (passed 3 four (test 5 five ∷ test 17 seventeen ∷ rest) e));
       not-looking = passed 4 five (test 17 seventeen ∷ rest) e₂;
-      not-closed = passed 16 seventeen rest e₃;
       rest-passed = later 16 seventeen rest e₃;
     }
 
@@ -238,7 +236,7 @@ ledger-accepted d l (commit stamp) e = lent-long d l (stampLong stamp) (gate d l
 ledger-accepted d l (closeSession main reserve start) e = alone-long d l (gate d l ++ closingTests d (unpack l) start) e
 ledger-accepted d l (read n block) e =
     lent-long d l (eqb (length block) sectorLength)
-    (unfit d l ∷ test 10 (notInUse (unpack l) n) ∷ test 11 (not (eqb (kindAt d (getD (unpack l .entries) n unused)) 1)) ∷ []) e
+    (numberedTests d l n) e
 ledger-accepted d l (lookBack k) e = alone-long d l (walkTests d k) e
 ledger-accepted d l (timeOf k answer) e = lent-long d l (eqb (length answer) toldLength) (walkTests d k ++ (timeWrong d k ∷ [])) e
 
@@ -247,14 +245,14 @@ pub record ReadDone (d : Disc) (l : List ℕ) (n : ℕ) (block : List ℕ) : Typ
   pub block-long : length block ≡ sectorLength
   pub fit : Fits d (unpack l)
   pub used : notInUse (unpack l) n ≡ false
-  pub data-kind : kindAt d (getD (unpack l .entries) n unused) ≡ 1
+  pub data-kind : kindAt d (blockOf (unpack l) n) ≡ 1
 
 pub read-done : (d : Disc) (l : List ℕ) (n : ℕ) (block : List ℕ) → outcome d l (read n block) ≡ 0 → ReadDone d l n block
 unfolding outcome tests
 read-done d l n block e =
     let four : Bool = not (fits d (unpack l)) in
     let ten : Bool = notInUse (unpack l) n in
-    let kind : ℕ = kindAt d (getD (unpack l .entries) n unused) in
+    let kind : ℕ = kindAt d (blockOf (unpack l) n) in
     let eleven : Bool = not (eqb kind 1) in
     let rest : List Test = test 10 ten ∷ test 11 eleven ∷ [] in
     let b : Basic d (blockLent l block) (unfit d l ∷ rest) = basic-passed d (blockLent l block) (unfit d l ∷ rest) e in
@@ -301,13 +299,17 @@ mount-done d l e =
     let b : Basic d (ledgerLent l) (test 7 seven ∷ []) = basic-passed d (ledgerLent l) (test 7 seven ∷ []) e in
     (b .sound-disc, some-found (newest d) (passed 6 seven [] (b .rest-passed)))
 
-pub record WriteDone (d : Disc) (l : List ℕ) (n : ℕ) (block : List ℕ) : Type 0 where
+-- what is known of a number that may be written
+abbrev pub Writable : Volume → Option ℕ → Type 0
+Writable v none = Unit
+Writable v (some n) = (n < limit) × (n ≤ v .size)
+
+pub record WriteDone (d : Disc) (l : List ℕ) (n : Option ℕ) (block : List ℕ) : Type 0 where
   pub sound-disc : Sound d
   pub block-long : length block ≡ sectorLength
   pub fit : Fits d (unpack l)
   pub not-looking : eqb (unpack l .mode) readOnly ≡ false
-  pub below-limit : n < limit
-  pub no-gap : n ≤ unpack l .size
+  pub writable : Writable (unpack l) n
   pub room : links (unpack l) + 1 + reserve (length (d .kinds)) ≤ blanks d
   pub no-table : isTable 1 block (target (unpack l)) ≡ false
 
@@ -315,12 +317,19 @@ neither : (a b : Bool) → (a || b) ≡ false → a ≡ false
 neither true b e = e
 neither false b e = refl
 
-pub write-done : (d : Disc) (l : List ℕ) (n : ℕ) (block : List ℕ) → outcome d l (write n block) ≡ 0 → WriteDone d l n block
+-- 13 and 12 passed, and what comes behind them
+numbered : (v : Volume) (n : Option ℕ) (rest : List Test) → first (numberTests v n ++ rest) ≡ 0 → Writable v n × (first rest ≡ 0)
+numbered v none rest e = (tt, e)
+numbered v (some n) rest e =
+    let thirteen : Bool = leb limit n in
+    let twelve : Bool = ltb (v .size) n in
+    let e₁ : first (test 12 twelve ∷ rest) ≡ 0 = later 12 thirteen (test 12 twelve ∷ rest) e in
+    ((leb-false limit n (passed 12 thirteen (test 12 twelve ∷ rest) e), ltb-false (v .size) n (passed 11 twelve rest e₁)), later 11 twelve rest e₁)
+
+pub write-done : (d : Disc) (l : List ℕ) (n : Option ℕ) (block : List ℕ) → outcome d l (write n block) ≡ 0 → WriteDone d l n block
 unfolding outcome tests
 write-done d l n block e =
     let v : Volume = unpack l in
-    let thirteen : Bool = leb limit n in
-    let twelve : Bool = ltb (v .size) n in
     let needed : ℕ = links v + 1 + reserve (length (d .kinds)) in
     let fourteen : Bool = ltb (blanks d) needed in
     let fifteen : Bool = forbiddenAt (target v) block in
@@ -328,17 +337,15 @@ write-done d l n block e =
     let rest : List Test = writeTests d v n block in
     let b : Basic d (blockLent l block) (gate d l ++ rest) = basic-passed d (blockLent l block) (gate d l ++ rest) e in
     let w : Working d l rest = working-passed d l rest (b .rest-passed) in
-    let e₁ : first (test 12 twelve ∷ behind) ≡ 0 = later 12 thirteen (test 12 twelve ∷ behind) (w .rest-passed) in
-    let e₂ : first behind ≡ 0 = later 11 twelve behind e₁ in
+    let number = numbered v n behind (w .rest-passed) in
     record {
       sound-disc = b .sound-disc;
       block-long = eqb-true (length block) sectorLength (and-right (ledgerLent l) (eqb (length block) sectorLength) (b .lent));
       fit = w .fit;
       not-looking = w .not-looking;
-      below-limit = leb-false limit n (passed 12 thirteen (test 12 twelve ∷ behind) (w .rest-passed));
-      no-gap = ltb-false (v .size) n (passed 11 twelve behind e₁);
-      room = ltb-false (blanks d) needed (passed 13 fourteen (test 15 fifteen ∷ []) e₂);
-      no-table = neither (isTable 1 block (target v)) (anchorTagged block (target v)) (passed 14 fifteen [] (later 13 fourteen (test 15 fifteen ∷ []) e₂));
+      writable = number .0;
+      room = ltb-false (blanks d) needed (passed 13 fourteen (test 15 fifteen ∷ []) (number .1));
+      no-table = neither (isTable 1 block (target v)) (anchorTagged block (target v)) (passed 14 fifteen [] (later 13 fourteen (test 15 fifteen ∷ []) (number .1)));
     }
 
 in-use : (v : Volume) (n : ℕ) → notInUse v n ≡ false → n < v .size

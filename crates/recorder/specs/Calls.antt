@@ -8,7 +8,7 @@ use Rattle.anchor.specs.declared.Extent.{Extent}
 pub data Call : Type 0 where
   begin : Call
   mount : Call
-  write : ℕ → List ℕ → Call
+  write : Option ℕ → List ℕ → Call  -- "Blocks may be recorded without a number."
   release : ℕ → Call
   closePacket : Call
   commit : Option (List ℕ) → Call  -- "A second form of commit takes a 12-byte ECMA-167 timestamp"
@@ -25,7 +25,7 @@ stampBuffer (some stamp) = stamp
 abbrev pub bufferOf : Call → List ℕ
 bufferOf begin = []
 bufferOf mount = []
-bufferOf (write v block) = block
+bufferOf (write n block) = block
 bufferOf (release v) = []
 bufferOf closePacket = []
 bufferOf (commit stamp) = stampBuffer stamp
@@ -38,7 +38,7 @@ bufferOf (timeOf k answer) = answer
 abbrev pub saves : Call → Bool
 saves begin = false
 saves mount = false
-saves (write v block) = false
+saves (write n block) = false
 saves (release v) = false
 saves closePacket = false
 saves (commit stamp) = true

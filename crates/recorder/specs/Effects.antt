@@ -5,9 +5,8 @@ use mathlib.Core.Bool.{Bool, true, false}
 use mathlib.Core.List.{List, [], _∷_, _++_}
 use mathlib.Core.Option.{Option, none, some}
 use lib.Dec.{eqb}
-use lib.ListN.{length, getD, replicate}
+use lib.ListN.{length, replicate}
 use Rattle.timestamp.specs.Timestamp.{told}
-use Rattle.vat.specs.Table.{unused}
 use Rattle.vat.specs.Sector.{noStamp, sector}
 use Rattle.disc.specs.Disc.{Disc, lent, Sector, link, plain, recorded, sectorAt, puts}
 use Rattle.disc.specs.declared.Walk.{Walk}
@@ -17,7 +16,7 @@ use Rattle.disc.specs.Session.{closing}
 use Rattle.volume.specs.declared.Volume.{Volume}
 use Rattle.volume.specs.Volume.{idle, readOnly, unpack, pack, mapOf, begun, filled, wrote, released, closed, committed}
 use Rattle.recorder.specs.Calls.{Call, begin, mount, write, release, closePacket, commit, closeSession, read, lookBack, timeOf, stampBuffer, bufferOf}
-use Rattle.recorder.specs.Refusals.{links, target, walked, timeBack, outcome}
+use Rattle.recorder.specs.Refusals.{links, target, blockOf, walked, timeBack, outcome}
 
 pub record Effect : Type 0 where
   pub second : ℕ
@@ -77,7 +76,7 @@ effect d l (closeSession main reserve start) =
     let v : Volume = unpack l in
     saved v (closing main reserve start (target v)) noStamp []
 effect d l (read n block) =
-    record { second = 0; sectors = []; ledger = l; buffer = sectorAt d (getD (unpack l .entries) n unused) }
+    record { second = 0; sectors = []; ledger = l; buffer = sectorAt d (blockOf (unpack l) n) }
 effect d l (lookBack k) =
     let b : ℕ = blockReached (walked d k) in
     settles b (pack (filled (mapAt d b) b (recorded d) readOnly))

@@ -91,14 +91,18 @@ gate d l = unfit d l ∷ test 5 (eqb (unpack l .mode) readOnly) ∷ test 17 (ses
 abbrev pub forbiddenAt : ℕ → List ℕ → Bool
 forbiddenAt b block = isTable 1 block b || anchorTagged block b
 
--- Write's own tests: the number, the room, the lent block. "13 comes directly before 12": "a number at or above the limit gives 13, even above size".
-abbrev pub writeTests : Disc → Volume → ℕ → List ℕ → List Test
-writeTests d v n block =
-    test 13 (leb limit n)
-    ∷ test 12 (ltb (v .size) n)
-    ∷ test 14 (ltb (blanks d) (links v + 1 + reserve (length (d .kinds))))
-    ∷ test 15 (forbiddenAt (target v) block)
-    ∷ []
+-- Write's own tests: the number, if it has one, the room, the lent block. "13 comes directly before 12": "a number at or above the limit gives 13, even
+-- above size".
+abbrev pub numberTests : Volume → Option ℕ → List Test
+numberTests v none = []
+numberTests v (some n) = test 13 (leb limit n) ∷ test 12 (ltb (v .size) n) ∷ []
+
+abbrev pub blockTests : Disc → Volume → List ℕ → List Test
+blockTests d v block =
+    test 14 (ltb (blanks d) (links v + 1 + reserve (length (d .kinds)))) ∷ test 15 (forbiddenAt (target v) block) ∷ []
+
+abbrev pub writeTests : Disc → Volume → Option ℕ → List ℕ → List Test
+writeTests d v n block = numberTests v n ++ blockTests d v block
 
 -- 16, "a timestamp given .. breaks these limits": "tested after 5 on a commit".
 abbrev pub stampWrong : Option (List ℕ) → Bool
@@ -117,9 +121,18 @@ commitTests d v stamp = test 16 (stampWrong stamp) ∷ noRoom d v 0 ∷ []
 abbrev pub closingTests : Disc → Volume → ℕ → List Test
 closingTests d v start = test 18 (ltb farthestStart start) ∷ noRoom d v closingLength ∷ []
 
--- 10: "v not below size, or .. an unused entry".
+-- The block that number n names. 10: "v not below size, or .. an unused entry".
+abbrev pub blockOf : Volume → ℕ → ℕ
+blockOf v n = getD (v .entries) n unused
+
 abbrev pub notInUse : Volume → ℕ → Bool
-notInUse v n = leb (v .size) n || eqb (getD (v .entries) n unused) unused
+notInUse v n = leb (v .size) n || eqb (blockOf v n) unused
+
+-- What a call that shows a number is asked behind 1, 2 and 3: 4, 10, and 11, "the entry's sector is not kind 1".
+abbrev pub numberedTests : Disc → List ℕ → ℕ → List Test
+numberedTests d l n =
+    let v : Volume = unpack l in
+    unfit d l ∷ test 10 (notInUse v n) ∷ test 11 (not (eqb (kindAt d (blockOf v n)) 1)) ∷ []
 
 -- 6 and 7: a table sector exists, or none.
 abbrev pub isSome : Option ℕ → Bool
@@ -169,10 +182,7 @@ tests d l (release n) = basic d (ledgerLent l) ++ (gate d l ++ (test 10 (notInUs
 tests d l closePacket = basic d (ledgerLent l) ++ gate d l
 tests d l (commit stamp) = basic d (stampLent l stamp) ++ (gate d l ++ commitTests d (unpack l) stamp)
 tests d l (closeSession main reserve start) = basic d (ledgerLent l) ++ (gate d l ++ closingTests d (unpack l) start)
-tests d l (read n block) =
-    let v : Volume = unpack l in
-    basic d (blockLent l block)
-    ++ (unfit d l ∷ test 10 (notInUse v n) ∷ test 11 (not (eqb (kindAt d (getD (v .entries) n unused)) 1)) ∷ [])
+tests d l (read n block) = basic d (blockLent l block) ++ numberedTests d l n
 tests d l (lookBack k) = basic d (ledgerLent l) ++ walkTests d k
 tests d l (timeOf k answer) = basic d (answerLent l answer) ++ (walkTests d k ++ (timeWrong d k ∷ []))
 

@@ -15,12 +15,12 @@ use Rattle.le.proofs.Fields.{length-le}
 use Rattle.le.proofs.Rows.{and-left, and-right, lay-append, holds-lay, holds-append}
 use Rattle.le.proofs.Runs.{length-leWords}
 use Rattle.timestamp.specs.Timestamp.{stampLength}
-use Rattle.vat.specs.Table.{sectorLength, limit, tableStart, regidAt, plainRows, lengthRows, tableName, modifiedAt, modifiedOf}
+use Rattle.vat.specs.Table.{sectorLength, limit, tableStart, tableLength, regidAt, plainRows, lengthRows, tableRows, tableName, modifiedAt, modifiedOf}
 use Rattle.vat.specs.Sector.{tableRegid, tableBytes, ownRows, stationAt, stationName, accessAt, attributeAt, timed, body}
 use Rattle.vat.proofs.Frame.{Lengths, lengths}
 
 abbrev pub header : ℕ → ℕ → List Row
-header b n = plainRows b ++ (lengthRows 0 n ++ ownRows)
+header b n = plainRows b ++ (tableRows 0 n ++ (ownRows 3))
 
 -- the regid as it is put: flags, text, suffix
 regid-parts : tableRegid ≡ le 1 0 ++ (tableName ++ le 8 0x0150)
@@ -63,16 +63,16 @@ pub header-held : (b n : ℕ) (s : List ℕ) → b < 4294967296 → n ≤ limit 
 unfolding plainRows lengthRows ownRows
 header-held b n s hb hn hs = holds-lay (header b n) s tt 176 tt (omega arith) (omega arith)
 
-pub header-lengths : (b n : ℕ) (s : List ℕ) → b < 4294967296 → n ≤ limit → length s ≡ sectorLength → Lengths (lay s (header b n)) 0 n
+pub header-lengths : (b n : ℕ) (s : List ℕ) → b < 4294967296 → n ≤ limit → length s ≡ sectorLength → Lengths (lay s (header b n)) 0 (tableLength n) (tableLength n)
 header-lengths b n s hb hn hs =
     let t : List ℕ = lay s (header b n) in
-    let all : (holds t (plainRows b) && holds t (lengthRows 0 n ++ ownRows)) ≡ true = sym (holds-append (plainRows b) (lengthRows 0 n ++ ownRows) t) ∙ header-held b n s hb hn hs in
-    let rest : (holds t (lengthRows 0 n) && holds t ownRows) ≡ true = sym (holds-append (lengthRows 0 n) ownRows t) ∙ and-right (holds t (plainRows b)) (holds t (lengthRows 0 n ++ ownRows)) all in
-    lengths t 0 n (and-left (holds t (lengthRows 0 n)) (holds t ownRows) rest)
+    let all : (holds t (plainRows b) && holds t (tableRows 0 n ++ (ownRows 3))) ≡ true = sym (holds-append (plainRows b) (tableRows 0 n ++ (ownRows 3)) t) ∙ header-held b n s hb hn hs in
+    let rest : (holds t (tableRows 0 n) && holds t (ownRows 3)) ≡ true = sym (holds-append (tableRows 0 n) (ownRows 3) t) ∙ and-right (holds t (plainRows b)) (holds t (tableRows 0 n ++ (ownRows 3))) all in
+    lengths t 0 (tableLength n) (tableLength n) (and-left (holds t (tableRows 0 n)) (holds t (ownRows 3)) rest)
 
 -- the header laid part by part
-pub header-laid : (b n : ℕ) (s : List ℕ) → lay (lay (lay s (plainRows b)) (lengthRows 0 n)) ownRows ≡ lay s (header b n)
-header-laid b n s = rw (lay-append (plainRows b) (lengthRows 0 n ++ ownRows) s, lay-append (lengthRows 0 n) ownRows (lay s (plainRows b)))
+pub header-laid : (b n : ℕ) (s : List ℕ) → lay (lay (lay s (plainRows b)) (tableRows 0 n)) (ownRows 3) ≡ lay s (header b n)
+header-laid b n s = rw (lay-append (plainRows b) (tableRows 0 n ++ (ownRows 3)) s, lay-append (tableRows 0 n) (ownRows 3) (lay s (plainRows b)))
 
 pub length-timed : (stamp s : List ℕ) → length (timed stamp s) ≡ length s
 unfolding timed

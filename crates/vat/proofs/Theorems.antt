@@ -17,16 +17,16 @@ use lib.ListN.{length, drop, getD, replicate, length-append, length-replicate}
 use lib.Seq.{sets}
 use borrow.Author.Tests.{eq-eqb, eqb-true, ltb-true, lt-ltb}
 use Rattle.le.specs.Bytes.{every, holdsText}
-use Rattle.le.specs.Field.{le, readLe, words, leWords, holds, lay}
+use Rattle.le.specs.Field.{Row, row, le, readLe, words, leWords, holds, lay}
 use Rattle.le.proofs.Bytes.{drop-sets, drop-sets-after}
 use Rattle.le.proofs.Fields.{length-le, read-le}
 use Rattle.le.proofs.Rows.{and-left, and-right, length-lay, holds-spared, holds-append, drop-lay, part-lay}
 use Rattle.le.proofs.Runs.{length-leWords, drop-on, text-held, Words, words-read, length-words}
 use Rattle.tag.specs.Tag.{sealed}
 use Rattle.timestamp.specs.Timestamp.{stampLength}
-use Rattle.vat.specs.Table.{sectorLength, limit, unused, tableStart, tableLength, regidAt, plainRows, lengthRows, embedded, tableName, attributeLength, entryCount, wholeLength, entriesOf, previousOf, modifiedAt, modifiedOf, unusedOrBelow, framed, isTable}
+use Rattle.vat.specs.Table.{sectorLength, limit, unused, tableStart, tableLength, regidAt, entryRows, plainRows, lengthRows, tableRows, embedded, tableName, attributeLength, entryCount, wholeLength, entriesOf, previousOf, modifiedAt, modifiedOf, unusedOrBelow, framed, isTable}
 use Rattle.vat.specs.Sector.{tableRegid, tableBytes, ownRows, stationName, stationAt, body, sector}
-use Rattle.vat.proofs.Frame.{lengths, few-entries, Framed, framed-tells}
+use Rattle.vat.proofs.Frame.{lengths, located, few-entries, Framed, framed-tells}
 use Rattle.vat.proofs.Record.{header, header-held, length-timed, length-body, behind-times, time-stands}
 use Rattle.tag.proofs.Sums.{sealRows, seal-lays, sealed-seal}
 
@@ -56,14 +56,10 @@ recognised kind s b e =
     }
 
 location : (s : List ℕ) (b : ℕ) → holds s (plainRows b) ≡ true → readLe 4 s 12 ≡ b
-unfolding holds plainRows
+unfolding plainRows
 location s b e =
-    let tail : Bool = eqb (readLe 2 s 20) 4 && (eqb (readLe 1 s 27) 0 && (eqb (readLe 2 s 48) 0 && true)) in
-    let at : Bool = eqb (readLe 4 s 12) b in
-    let three : Bool = eqb (readLe 1 s 5) 0 in
-    let two : Bool = eqb (readLe 2 s 2) 2 in
-    eqb-true (readLe 4 s 12) b
-    (and-left at tail (and-right three (at && tail) (and-right two (three && (at && tail)) (and-right (eqb (readLe 2 s 0) 261) (two && (three && (at && tail))) e))))
+    let links : List Row = row 48 2 0 ∷ [] in
+    located s 0 b (and-left (holds s (entryRows 0 b)) (holds s links) (sym (holds-append (entryRows 0 b) links s) ∙ e))
 
 not-true : (t : Bool) → (t ≡ true → ⊥) → t ≡ false
 not-true true h = absurd (h refl)
@@ -202,16 +198,16 @@ module _ (map : List ℕ) (previous : ℕ) (stamp : List ℕ) (b : ℕ) (few : l
   plain-held : holds (sector map previous stamp b) (plainRows b) ≡ true
   plain-held =
       let s : List ℕ = sector map previous stamp b in
-      and-left (holds s (plainRows b)) (holds s (lengthRows 0 (length map) ++ ownRows)) (sym (holds-append (plainRows b) (lengthRows 0 (length map) ++ ownRows) s) ∙ held)
+      and-left (holds s (plainRows b)) (holds s (tableRows 0 (length map) ++ (ownRows 3))) (sym (holds-append (plainRows b) (tableRows 0 (length map) ++ (ownRows 3)) s) ∙ held)
 
-  rest-held : (holds (sector map previous stamp b) (lengthRows 0 (length map)) && holds (sector map previous stamp b) ownRows) ≡ true
+  rest-held : (holds (sector map previous stamp b) (tableRows 0 (length map)) && holds (sector map previous stamp b) (ownRows 3)) ≡ true
   rest-held =
       let s : List ℕ = sector map previous stamp b in
-      sym (holds-append (lengthRows 0 (length map)) ownRows s)
-      ∙ and-right (holds s (plainRows b)) (holds s (lengthRows 0 (length map) ++ ownRows)) (sym (holds-append (plainRows b) (lengthRows 0 (length map) ++ ownRows) s) ∙ held)
+      sym (holds-append (tableRows 0 (length map)) (ownRows 3) s)
+      ∙ and-right (holds s (plainRows b)) (holds s (tableRows 0 (length map) ++ (ownRows 3))) (sym (holds-append (plainRows b) (tableRows 0 (length map) ++ (ownRows 3)) s) ∙ held)
 
-  lengths-held : holds (sector map previous stamp b) (lengthRows 0 (length map)) ≡ true
-  lengths-held = and-left (holds (sector map previous stamp b) (lengthRows 0 (length map))) (holds (sector map previous stamp b) ownRows) rest-held
+  lengths-held : holds (sector map previous stamp b) (tableRows 0 (length map)) ≡ true
+  lengths-held = and-left (holds (sector map previous stamp b) (tableRows 0 (length map))) (holds (sector map previous stamp b) (ownRows 3)) rest-held
 
   flags-held : embedded (sector map previous stamp b) ≡ true
   unfolding holds ownRows
@@ -220,16 +216,16 @@ module _ (map : List ℕ) (previous : ℕ) (stamp : List ℕ) (b : ℕ) (few : l
       let tail : Bool = eqb (readLe 4 s 36) unused && (eqb (readLe 4 s 40) unused && (eqb (readLe 4 s 108) 1 && true)) in
       let most : Bool = eqb (readLe 2 s 24) 1 in
       let flags : Bool = eqb (readLe 2 s 34) 3 in
-      let own : (most && (flags && tail)) ≡ true = and-right (holds s (lengthRows 0 (length map))) (holds s ownRows) rest-held in
+      let own : (most && (flags && tail)) ≡ true = and-right (holds s (tableRows 0 (length map))) (holds s (ownRows 3)) rest-held in
       rw (eqb-true (readLe 2 s 34) 3 (and-left flags tail (and-right most (flags && tail) own)))
 
   unattributed : attributeLength (sector map previous stamp b) ≡ 0
   unfolding attributeLength
-  unattributed = lengths (sector map previous stamp b) 0 (length map) lengths-held .attributes
+  unattributed = lengths (sector map previous stamp b) 0 (tableLength (length map)) (tableLength (length map)) lengths-held .attributes
 
   counted : entryCount (sector map previous stamp b) ≡ length map
   unfolding entryCount
-  counted = omega (arith, lengths (sector map previous stamp b) 0 (length map) lengths-held .descriptors)
+  counted = omega (arith, lengths (sector map previous stamp b) 0 (tableLength (length map)) (tableLength (length map)) lengths-held .descriptors)
 
   -- the parts of the table, each where it stands
   regid-stands : drop (regidAt 0 (length map)) (sector map previous stamp b) ≡ tableRegid ++ (le 4 previous ++ drop (tableStart 0 + tableLength (length map)) (replicate sectorLength 0))

@@ -6,7 +6,7 @@ use lib.Seq.{sets}
 use Rattle.le.specs.Field.{Row, row, le, leWords, lay}
 use Rattle.tag.specs.Tag.{seal}
 use Rattle.timestamp.specs.Timestamp.{stampLength}
-use Rattle.vat.specs.Table.{sectorLength, unused, tableStart, plainRows, lengthRows, tableName, modifiedAt}
+use Rattle.vat.specs.Table.{sectorLength, unused, tableStart, plainRows, tableRows, tableName, modifiedAt}
 
 -- "table regid flags 0, suffix hex 50 01 and six zeros".
 unfoldable pub tableRegid : List ℕ
@@ -16,11 +16,11 @@ tableRegid = 0 ∷ (tableName ++ (0x50 ∷ 0x01 ∷ 0 ∷ 0 ∷ 0 ∷ 0 ∷ 0 �
 unfoldable pub tableBytes : List ℕ → ℕ → List ℕ
 tableBytes map previous = leWords map ++ (tableRegid ++ le 4 previous)
 
--- Rows that are recorded and not tested, and the flags, of which only the low three bits are tested.
-unfoldable pub ownRows : List Row
-ownRows =
+-- Rows that are recorded and not tested, and the flags, of which only the low three bits are tested, the allocation type.
+unfoldable pub ownRows : ℕ → List Row
+ownRows allocation =
     row 24 2 1  -- maximum entries
-    ∷ row 34 2 3  -- flags: embedded
+    ∷ row 34 2 allocation  -- flags
     ∷ row 36 4 unused  -- user
     ∷ row 40 4 unused  -- group
     ∷ row 108 4 1  -- checkpoint
@@ -52,4 +52,4 @@ body map previous stamp = timed stamp (sets (sets (replicate sectorLength 0) (ta
 
 -- The sector for a map, a previous table, a timestamp and the block b that it is recorded at. "Our commit [..] records none" of the attributes.
 unfoldable pub sector : List ℕ → ℕ → List ℕ → ℕ → List ℕ
-sector map previous stamp b = seal (lay (body map previous stamp) (plainRows b ++ (lengthRows 0 (length map) ++ ownRows)))
+sector map previous stamp b = seal (lay (body map previous stamp) (plainRows b ++ (tableRows 0 (length map) ++ ownRows 3)))

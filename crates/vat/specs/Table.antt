@@ -2,7 +2,7 @@
 -- the virtual allocation table, with the table embedded behind extended attributes. What such a sector holds, and which sectors are such.
 use Prim.Native.Nat.{ℕ, _+_, _-_, _*_, _/_, _%_}
 use mathlib.Core.Bool.{Bool, _&&_, _||_}
-use mathlib.Core.List.{List, [], _∷_}
+use mathlib.Core.List.{List, [], _∷_, _++_}
 use lib.Dec.{eqb, ltb}
 use lib.ListN.{length, take, drop}
 use Rattle.le.specs.Bytes.{every, holdsText}
@@ -33,30 +33,40 @@ tableLength n = 4 * n + 36
 abbrev pub regidAt : ℕ → ℕ → ℕ
 regidAt a n = tableStart a + 4 * n
 
--- Rows whose number the format or the block b settles.
-unfoldable pub plainRows : ℕ → List Row
-plainRows b =
+-- Rows that every file entry has: its file type t and its block b settle them. "Its tag, sums and location hold as a table sector's do" (document 02, R-6).
+abbrev pub entryRows : ℕ → ℕ → List Row
+entryRows t b =
     row 0 2 261  -- tag identifier
     ∷ row 2 2 2  -- descriptor version
     ∷ row 5 1 0  -- zero
     ∷ row 12 4 b  -- tag location
     ∷ row 20 2 4  -- strategy
-    ∷ row 27 1 0  -- file type
-    ∷ row 48 2 0  -- link count
+    ∷ row 27 1 t  -- file type
     ∷ []
 
--- Rows whose number the attribute length a and the entry count n settle.
-unfoldable pub lengthRows : ℕ → ℕ → List Row
-lengthRows a n =
-    row 168 4 a  -- attribute length
-    ∷ row 172 4 (tableLength n)  -- descriptor length = table length
-    ∷ row 56 8 (tableLength n)  -- information length = table length
-    ∷ row 10 2 (160 + a + tableLength n)  -- CRC length = 160 + attribute length + descriptor length
+-- Rows whose number the format or the block b settles.
+unfoldable pub plainRows : ℕ → List Row
+plainRows b = entryRows 0 b ++ (row 48 2 0 ∷ [])  -- link count
+
+-- The lengths of a file entry: of its attributes, of its descriptors and of what it holds.
+unfoldable pub lengthRows : ℕ → ℕ → ℕ → List Row
+lengthRows attributes descriptors information =
+    row 168 4 attributes
+    ∷ row 172 4 descriptors
+    ∷ row 56 8 information
+    ∷ row 10 2 (160 + attributes + descriptors)  -- CRC length
     ∷ []
 
--- Byte 34, 16 bits: "flags: low three bits 3, embedded".
+-- Byte 34, 16 bits: the flags, whose low three bits are the allocation type; of a table "3, embedded".
+abbrev pub allocationType : List ℕ → ℕ
+allocationType s = readLe 2 s 34 % 8
+
 abbrev pub embedded : List ℕ → Bool
-embedded s = eqb (readLe 2 s 34 % 8) 3
+embedded s = eqb (allocationType s) 3
+
+-- Of n entries: "descriptor length = table length", "information length = table length".
+abbrev pub tableRows : ℕ → ℕ → List Row
+tableRows a n = lengthRows a (tableLength n) (tableLength n)
 
 -- "Regid bytes 1 to 23 hold the text `*UDF Virtual Alloc Tbl` and one zero."
 unfoldable pub tableName : List ℕ
@@ -103,7 +113,7 @@ framed s b =
     let a : ℕ = attributeLength s in
     let n : ℕ = entryCount s in
     holds s (plainRows b)
-    && (embedded s && (placed s && (holds s (lengthRows a n) && (holdsText s (regidAt a n + 1) tableName && unusedOrBelow b (previousOf s)))))
+    && (embedded s && (placed s && (holds s (tableRows a n) && (holdsText s (regidAt a n + 1) tableName && unusedOrBelow b (previousOf s)))))
 
 -- The sector s of the kind given is a table sector at block b. The costly CRC comes last.
 unfoldable pub isTable : ℕ → List ℕ → ℕ → Bool

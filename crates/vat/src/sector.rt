@@ -8,45 +8,60 @@ ghost use Prim.Native.Nat.{_≤_};
 ghost use lib.ListN.{length};
 ghost use lib.Seq.{sets};
 ghost use Rattle.le.specs.Field.{lay};
-ghost use Rattle.vat.specs.Table.{sectorLength, limit, tableStart, plainRows, lengthRows};
+ghost use Rattle.vat.specs.Table.{sectorLength, limit, tableStart, entryRows, plainRows, lengthRows};
 ghost use Rattle.timestamp.specs.Timestamp.{stampLength};
-ghost use Rattle.vat.specs.Sector.{tableBytes, ownRows, timed, sector};
+ghost use Rattle.vat.specs.Sector.{tableBytes, ownRows, stationAt, stationName, timed, sector};
 
 const STATION_NAME: [u8; 14] = *b"*Bench Station";
 
-fn put_plain(s: &mut [u8], b: u32)
+pub fn put_entry(s: &mut [u8], file_type: u8, b: u32)
     requires { ⌜ length (now s) ≡ sectorLength ⌝ }
-    ensures { λ _. ⌜ now (s .exit) ≡ lay (now (s .entry)) (plainRows b) ⌝ }
+    ensures { λ _. ⌜ now (s .exit) ≡ lay (now (s .entry)) (entryRows «file_type» b) ⌝ }
 {
     le::put16(s, 0, 261);
     le::put16(s, 2, 2);
     le::put8(s, 5, 0);
     le::put32(s, 12, b);
     le::put16(s, 20, 4);
-    le::put8(s, 27, 0);
+    le::put8(s, 27, file_type);
+}
+
+fn put_plain(s: &mut [u8], b: u32)
+    requires { ⌜ length (now s) ≡ sectorLength ⌝ }
+    ensures { λ _. ⌜ now (s .exit) ≡ lay (now (s .entry)) (plainRows b) ⌝ }
+{
+    put_entry(s, 0, b);
     le::put16(s, 48, 0);
 }
 
-fn put_lengths(s: &mut [u8], n: u32)
-    requires { ⌜ (length (now s) ≡ sectorLength) × (n ≤ limit) ⌝ }
-    ensures { λ _. ⌜ now (s .exit) ≡ lay (now (s .entry)) (lengthRows 0 n) ⌝ }
+// The lengths of an entry without attributes.
+pub fn put_lengths(s: &mut [u8], descriptors: u32, information: u64)
+    requires { ⌜ (length (now s) ≡ sectorLength) × (descriptors ≤ sectorLength) ⌝ }
+    ensures { λ _. ⌜ now (s .exit) ≡ lay (now (s .entry)) (lengthRows 0 descriptors information) ⌝ }
 {
-    let length = 4 * n + 36;
     le::put32(s, 168, 0);
-    le::put32(s, 172, length);
-    le::put64(s, 56, length as u64);
-    le::put16(s, 10, (160 + length) as u16);
+    le::put32(s, 172, descriptors);
+    le::put64(s, 56, information);
+    le::put16(s, 10, (160 + descriptors) as u16);
 }
 
-fn put_own(s: &mut [u8])
+pub fn put_own(s: &mut [u8], allocation: u16)
     requires { ⌜ length (now s) ≡ sectorLength ⌝ }
-    ensures { λ _. ⌜ now (s .exit) ≡ lay (now (s .entry)) ownRows ⌝ }
+    ensures { λ _. ⌜ now (s .exit) ≡ lay (now (s .entry)) (ownRows allocation) ⌝ }
 {
     le::put16(s, 24, 1);
-    le::put16(s, 34, 3);
+    le::put16(s, 34, allocation);
     le::put32(s, 36, UNUSED);
     le::put32(s, 40, UNUSED);
     le::put32(s, 108, 1);
+}
+
+pub fn put_name(s: &mut [u8])
+    requires { ⌜ length (now s) ≡ sectorLength ⌝ }
+    ensures { λ _. ⌜ now (s .exit) ≡ sets (now (s .entry)) stationAt stationName ⌝ }
+{
+    let station = STATION_NAME;
+    le::run::put_text(s, 129, &station);
 }
 
 // The entries, the regid (flags, text, suffix) and the previous table, one behind the other.
@@ -78,13 +93,13 @@ pub fn record(s: &mut [u8], map: &[u32], previous: u32, stamp: &[u8], b: u32)
     requires { ⌜ (length (now s) ≡ sectorLength) × (length (now map) ≤ limit) × (length (now stamp) ≡ stampLength) ⌝ }
     ensures { λ _. ⌜ now (s .exit) ≡ sector (now (map .entry)) previous (now (stamp .entry)) b ⌝ }
 {
-    let station = STATION_NAME;
+    let length = 4 * (map.len() as u32) + 36;
     le::run::clear(s);
     put_table(s, map, previous);
-    le::run::put_text(s, 129, &station);
+    put_name(s);
     put_times(s, stamp);
     put_plain(s, b);
-    put_lengths(s, map.len() as u32);
-    put_own(s);
+    put_lengths(s, length, length as u64);
+    put_own(s, 3);
     tag::seal(s);
 }

@@ -5,7 +5,7 @@ ghost use lib.Dec.{eqb};
 ghost use lib.ListN.{length};
 ghost use Rattle.le.specs.Bytes.{every};
 ghost use Rattle.le.specs.Field.{readLe, holds, words};
-ghost use Rattle.vat.specs.Table.{sectorLength, tableStart, regidAt, plainRows, lengthRows, unusedOrBelow, attributeLength, entryCount, wholeLength, previousOf, placed, framed, isTable};
+ghost use Rattle.vat.specs.Table.{sectorLength, tableStart, regidAt, entryRows, plainRows, tableRows, unusedOrBelow, attributeLength, entryCount, wholeLength, previousOf, placed, framed, isTable};
 
 pub const SECTOR: usize = 2048;
 
@@ -22,10 +22,10 @@ pub const MODIFIED_AT: usize = 84;
 
 pub const TABLE_NAME: [u8; 23] = *b"*UDF Virtual Alloc Tbl\0";
 
-// The tag identifier first: nearly every sector that is no table is known by it.
-fn plain_held(s: &[u8], b: u32) -> bool
+// A file entry of a file type. The tag identifier first: nearly every sector that is none is known by it.
+pub fn entry_held(s: &[u8], file_type: u8, b: u32) -> bool
     requires { ⌜ length (now s) ≡ sectorLength ⌝ }
-    ensures { λ r. ⌜ r ≡ holds (now (s .entry)) (plainRows b) ⌝ }
+    ensures { λ r. ⌜ r ≡ holds (now (s .entry)) (entryRows «file_type» b) ⌝ }
 {
     if le::read16(s, 0) != 261 {
         return false;
@@ -34,9 +34,18 @@ fn plain_held(s: &[u8], b: u32) -> bool
     let zero = le::read8(s, 5) == 0;
     let location = le::read32(s, 12) == b;
     let strategy = le::read16(s, 20) == 4;
-    let file_type = le::read8(s, 27) == 0;
-    let links = le::read16(s, 48) == 0;
-    version & (zero & (location & (strategy & (file_type & links))))
+    let typed = le::read8(s, 27) == file_type;
+    version & (zero & (location & (strategy & typed)))
+}
+
+fn plain_held(s: &[u8], b: u32) -> bool
+    requires { ⌜ length (now s) ≡ sectorLength ⌝ }
+    ensures { λ r. ⌜ r ≡ holds (now (s .entry)) (plainRows b) ⌝ }
+{
+    if !entry_held(s, 0, b) {
+        return false;
+    }
+    le::read16(s, 48) == 0
 }
 
 fn attribute_length(s: &[u8]) -> u32
@@ -93,7 +102,7 @@ pub fn previous(s: &[u8]) -> u32
 // The attribute length needs no test of its own: the others are held against it.
 fn lengths_held(s: &[u8]) -> bool
     requires { ⌜ (length (now s) ≡ sectorLength) × (wholeLength (now s) < sectorLength) ⌝ }
-    ensures { λ r. ⌜ r ≡ holds (now (s .entry)) (lengthRows (attributeLength (now (s .entry))) (entryCount (now (s .entry)))) ⌝ }
+    ensures { λ r. ⌜ r ≡ holds (now (s .entry)) (tableRows (attributeLength (now (s .entry))) (entryCount (now (s .entry)))) ⌝ }
 {
     let length = 4 * entry_count(s) + 36;
     let descriptors = le::read32(s, 172) == length;

@@ -1,5 +1,5 @@
-// Runs the CRC, the table sector, timestamps and a closing's pointer on outside vectors, and prints what it finds. What must come stands in the file `stdout`; an
-// independent program, tests/vectors.py, makes it.
+// Runs the CRC, the table sector, timestamps, a closing's pointer and the entry of a run on outside vectors, and prints what it finds. What must come stands in
+// the file `stdout`; an independent program, tests/vectors.py, makes it.
 use anchor::Extent;
 use vat::sector::record;
 use vat::table::UNUSED;
@@ -319,6 +319,72 @@ fn pointer() {
     show_tag(&sector, 1491);
 }
 
+// The sector judged as the entry of a run at a block, on a disc with these kinds.
+fn show_run(kinds: &[u8], s: &[u8], b: u32) {
+    if s.len() != 2048 {
+        return;
+    }
+    if kinds.len() < (b as usize) {
+        return;
+    }
+    say(b"entry at ");
+    io::print_decimal(STDOUT, b as u64);
+    if run::entry::is_entry(kinds, s, b) {
+        say(b": run of ");
+        io::print_decimal(STDOUT, run::entry::information_length(s));
+        say(b"\n");
+    } else {
+        say(b": none\n");
+    }
+}
+
+// Of the entry for extents, length and block by turns, what is worked out: the checksum, the CRC and its length, and the information length.
+fn show_entry(words: &[u32], b: u32) {
+    if words.len() % 2 != 0 {
+        return;
+    }
+    if 200 < words.len() {
+        return;
+    }
+    let mut sector = [0u8; 2048];
+    run::sector::record(&mut sector, words, b);
+    say(b"entry of ");
+    io::print_decimal(STDOUT, (words.len() / 2) as u64);
+    say(b" at ");
+    io::print_decimal(STDOUT, b as u64);
+    say(b" sum ");
+    show_byte(le::read8(&sector, 4));
+    say(b" crc ");
+    io::print_hex(STDOUT, le::read16(&sector, 8) as u64, 4);
+    say(b" over ");
+    io::print_decimal(STDOUT, le::read16(&sector, 10) as u64);
+    say(b" length ");
+    io::print_decimal(STDOUT, le::read64(&sector, 56));
+    say(b"\n");
+}
+
+// The entry of a run of three extents, at its block, at another, and with the last extent's sector unreadable; and what is worked out in others.
+fn runs() {
+    let mut sector = [0u8; 2048];
+    let three: [u32; 6] = [4096, 3, 2048, 10, 1000, 12];
+    ramp(&mut sector);
+    run::sector::record(&mut sector, &three, 20);
+    show_rows(&sector);
+    let mut kinds = [1u8; 32];
+    show_run(&kinds, &sector, 20);
+    show_run(&kinds, &sector, 21);
+    kinds[12] = 3;
+    show_run(&kinds, &sector, 20);
+    show_entry(&three, 20);
+    let one: [u32; 2] = [1, 0];
+    show_entry(&one, 1);
+    let mut many = [0u32; 200];
+    fill(&mut many);
+    show_entry(&many, 300000);
+    let long: [u32; 4] = [737275904, 0, 1, 359998];
+    show_entry(&long, 359999);
+}
+
 fn main() {
     crcs();
     small_table();
@@ -327,4 +393,5 @@ fn main() {
     dated_table();
     stamps();
     pointer();
+    runs();
 }

@@ -5,6 +5,7 @@ use native.Mathlib.Nat.{add-zero, pow-suc}
 use native.Mathlib.Omega.{arith}
 use mathlib.Core.Path.{_≡_, refl, sym, ap, ap₂, _∙_, subst}
 use mathlib.Core.Bool.{Bool, true, false}
+use mathlib.Core.Option.{Option, none, some}
 use mathlib.Core.List.{List, [], _∷_, _++_, append-nil}
 use lib.Dec.{eqb, lit<}
 use lib.ListN.{length, getD, take, drop, set, replicate, length-set, length-append, length-replicate, length-drop, take-append-drop, drop-of-length-le}
@@ -161,9 +162,18 @@ grown-le true n = omega arith
 grown-le false n = omega arith
 
 module _ (v : Volume) (ok : Proper v) where
-  pub proper-wrote : (n b : ℕ) → v .size ≤ limit → b < unused → Proper (wrote n b v)
+  pub proper-wrote : (n : Option ℕ) (b : ℕ) → v .size ≤ limit → b < unused → Proper (wrote n b v)
   unfolding wrote
-  proper-wrote n b few h =
+  proper-wrote none b few h =
+      record {
+        long = ok .long;
+        entry-words = ok .entry-words;
+        size-word = ok .size-word;
+        recorded-word = omega arith;
+        last-word = ok .last-word;
+        mode-word = lit< tt;
+      }
+  proper-wrote (some n) b few h =
       record {
         long = length-set (v .entries) n b ∙ ok .long;
         entry-words = words-set (v .entries) n b (ok .entry-words) (omega arith);
@@ -219,7 +229,7 @@ pub map-filled : (map : List ℕ) (b r mode : ℕ) → mapOf (filled map b r mod
 unfolding filled
 map-filled map b r mode = take-at map (replicate (limit - length map) unused) (length map) refl
 
-pub map-wrote : (v : Volume) (n b : ℕ) → n ≤ v .size → v .size ≤ length (v .entries) → n < length (v .entries) → mapOf (wrote n b v) ≡ grownMap (eqb n (v .size)) (mapOf v) n b
+pub map-wrote : (v : Volume) (n b : ℕ) → n ≤ v .size → v .size ≤ length (v .entries) → n < length (v .entries) → mapOf (wrote (some n) b v) ≡ grownMap (eqb n (v .size)) (mapOf v) n b
 unfolding wrote
 map-wrote v n b le long inside = go (eqb n (v .size)) refl
   where

@@ -2,6 +2,7 @@
 use Prim.Native.Nat.{ℕ, _+_, _-_, _*_}
 use mathlib.Core.Bool.{Bool, true, false, _&&_, _||_, not}
 use mathlib.Core.List.{List, _++_}
+use mathlib.Core.Option.{Option, none, some}
 use lib.Dec.{eqb, ltb, leb}
 use lib.ListN.{length, take, drop, set, replicate}
 use Rattle.le.specs.Bytes.{every}
@@ -69,20 +70,23 @@ unfoldable pub filled : List ℕ → ℕ → ℕ → ℕ → Volume
 filled map b r mode =
     record { entries = map ++ replicate (limit - length map) unused; size = length map; recorded = r; last = b; mode = mode }
 
--- **Write** number n, recorded at block b: "sets entry v to it. If v equals size, size grows by one." "Mode becomes 1."
+-- **Write**, recorded at block b: of number n it "sets entry v to it. If v equals size, size grows by one." "Mode becomes 1." "Unnumbered writes are
+-- writes in all but the entry."
 abbrev pub grown : Bool → ℕ → ℕ
 grown true size = size + 1
 grown false size = size
 
-unfoldable pub wrote : ℕ → ℕ → Volume → Volume
+abbrev pub entriesWith : Option ℕ → ℕ → List ℕ → List ℕ
+entriesWith none b entries = entries
+entriesWith (some n) b entries = set entries n b
+
+abbrev pub sizeWith : Option ℕ → ℕ → ℕ
+sizeWith none size = size
+sizeWith (some n) size = grown (eqb n size) size
+
+unfoldable pub wrote : Option ℕ → ℕ → Volume → Volume
 wrote n b v =
-    record {
-      entries = set (v .entries) n b;
-      size = grown (eqb n (v .size)) (v .size);
-      recorded = b + 1;
-      last = v .last;
-      mode = packetOpen;
-    }
+    record { entries = entriesWith n b (v .entries); size = sizeWith n (v .size); recorded = b + 1; last = v .last; mode = packetOpen }
 
 -- **Release** n: "sets the entry to unused. Size stays."
 unfoldable pub released : ℕ → Volume → Volume

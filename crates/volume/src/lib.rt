@@ -4,6 +4,7 @@ pub mod ledger;
 use vat::table::UNUSED;
 ghost use mathlib.Core.Path.{_≡_};
 ghost use mathlib.Core.List.{_++_};
+ghost use mathlib.Core.Option.{none, some};
 ghost use Prim.Native.Nat.{_+_, _-_, _*_, _≤_, _<_};
 ghost use lib.ListN.{length, replicate};
 ghost use Rattle.le.specs.Field.{words};
@@ -106,13 +107,23 @@ impl Volume {
 
     pub fn wrote(mut self, n: u32, b: u32) -> Volume
         requires { ⌜ (n < limit) × (b < unused) × (self .size ≤ limit) ⌝ }
-        ensures { λ r. ⌜ r ≡ wrote n b self ⌝ }
+        ensures { λ r. ⌜ r ≡ wrote (some n) b self ⌝ }
     {
         let at = n as usize;
         self.entries[at] = b;
         if n == self.size {
             self.size = self.size + 1;
         }
+        self.recorded = b + 1;
+        self.mode = 1;
+        self
+    }
+
+    // A write without a number leaves the entries and the size.
+    pub fn wrote_unnumbered(mut self, b: u32) -> Volume
+        requires { ⌜ b < unused ⌝ }
+        ensures { λ r. ⌜ r ≡ wrote none b self ⌝ }
+    {
         self.recorded = b + 1;
         self.mode = 1;
         self

@@ -3,7 +3,9 @@
 
 use std::hint::black_box;
 
-use crate::tuned::{self, Sector, Stamp, LEDGER, LIMIT, NONE, SECTOR, TIME};
+use station::{file_entry, Extent};
+
+use crate::tuned::{self, Sector, Stamp, LEDGER, LIMIT, MOST_VIEWED, NONE, SECTOR, TIME};
 
 /// Sectors behind the recorded ones that the calls of one batch may record: the
 /// most are those of a closing.
@@ -11,6 +13,9 @@ const WINDOW: usize = 257;
 
 /// The time of every prepared table: 14:05 on 15 November 2026 with zone 60.
 pub const STAMP: Stamp = [60, 0x10, 0xEA, 0x07, 11, 15, 14, 5, 0, 0, 0, 0];
+
+/// The highest number of a table of 458, whose block may be a run's entry.
+pub const HIGHEST: u32 = LIMIT as u32 - 1;
 
 /// Where the ledger has its last table and its mode.
 const LAST_VAT: usize = 1840;
@@ -22,11 +27,15 @@ pub struct Buffers {
     pub ledger: Vec<u8>,
     pub block: Vec<u8>,
     pub answer: [u8; TIME],
+    /// For a part of a run.
+    pub viewed: Vec<u8>,
     /// The ledger before each batch.
     prepared: Vec<u8>,
     recorded: usize,
     /// Sectors that do not hold plain data.
     planted: Vec<usize>,
+    /// Bytes of the run whose entry was planted last.
+    run: usize,
     /// Whether the whole image is read between two batches.
     swept: bool,
 }
@@ -44,15 +53,22 @@ impl Buffers {
             ledger: vec![0xA5; LEDGER],
             block: vec![0x5A; SECTOR],
             answer: [0x5A; TIME],
+            viewed: vec![0x5A; MOST_VIEWED],
             prepared: vec![0xA5; LEDGER],
             recorded: 0,
             planted: Vec::new(),
+            run: 0,
             swept: false,
         }
     }
 
     pub fn sectors(&self) -> usize {
         self.kinds.len()
+    }
+
+    /// The length of the planted run.
+    pub fn run(&self) -> usize {
+        self.run
     }
 
     /// Plain data in every sector, of which the first are recorded, and a
@@ -74,11 +90,25 @@ impl Buffers {
     pub fn plant_vat(&mut self, block: usize, numbers: usize, previous: u32) {
         let entry = |v: usize| match block {
             0 => NONE,
-            _ => (v * block / LIMIT) as u32,
+            _ => block_below(block, v) as u32,
         };
         let entries: Vec<u8> = (0..numbers).flat_map(|v| entry(v).to_le_bytes()).collect();
         tuned::put_vat(self.sector(block), block as u32, &entries, previous, &STAMP);
         self.planted.push(block);
+    }
+
+    /// The entry of a run in the block of the highest number of a table of 458: so many
+    /// extents of so many sectors, spread over the blocks below it.
+    pub fn plant_entry(&mut self, table: usize, extents: usize, sectors: usize) {
+        let block = block_below(table, HIGHEST as usize);
+        let extent = |m: usize| Extent {
+            length: (sectors * SECTOR) as u32,
+            location: (m * (block - sectors) / extents) as u32,
+        };
+        let extents: Vec<Extent> = (0..extents).map(extent).collect();
+        *self.sector(block) = file_entry(&extents, block as u32);
+        self.planted.push(block);
+        self.run = extents.len() * sectors * SECTOR;
     }
 
     /// The ledger as mount leaves it, with the mode given.
@@ -126,11 +156,12 @@ impl Buffers {
         }
     }
 
-    /// Sets back the image bytes, the block and the answer too.
+    /// Sets back the image bytes, the block, the answer and the bytes viewed too.
     pub fn set_back_all(&mut self) {
         self.set_back();
         self.block.fill(0x5A);
         self.answer.fill(0x5A);
+        self.viewed.fill(0x5A);
         for block in self.recorded..self.sectors().min(self.recorded + WINDOW) {
             put_plain(self.sector(block), block);
         }
@@ -139,10 +170,21 @@ impl Buffers {
     /// A number that tells whether two runs left the same bytes: a difference
     /// in one word always changes it.
     pub fn fingerprint(&self) -> u64 {
-        let parts = [&self.image, &self.kinds, &self.ledger, &self.block];
+        let parts = [
+            &self.image,
+            &self.kinds,
+            &self.ledger,
+            &self.block,
+            &self.viewed,
+        ];
         let sum = parts.iter().fold(0, |sum, bytes| mix(sum, bytes));
         mix(sum, &self.answer)
     }
+}
+
+/// The block of number v in a table at the block.
+fn block_below(table: usize, v: usize) -> usize {
+    v * table / LIMIT
 }
 
 /// Four sums side by side, each multiplied by an odd number at every word.

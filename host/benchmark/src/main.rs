@@ -1,4 +1,4 @@
-//! The recording core side by side with a tuned Rust version of the same eleven
+//! The recording core side by side with a tuned Rust version of the same thirteen
 //! calls, on discs of 1,000, 36,000 and 360,000 sectors.
 //!
 //! `station-benchmark` prints Markdown; `--quick` leaves out the largest disc.
@@ -31,13 +31,16 @@ const SIZES: [usize; 3] = [1000, 36_000, 360_000];
 const HOW: &str = "\
 Both versions are called on the same prepared buffers in one run, in turn (core, tuned, core, tuned ..), through
 function pointers. Before a row is timed, both must give the same answers and leave the same bytes of image, kinds,
-ledger, block and time told. A round is one batch of each, of up to 64 calls; one of close session, since it closes the
+ledger, block, time told and part of a run viewed. A round is one batch of each, of up to 64 calls; one of close session, since it closes the
 disc. Ledger and kinds are set back between batches, outside the measured time. The bytes that a call reads were read in
 the round before. Unless a row says otherwise, half of the disc is recorded, the ledger has 458 numbers in use and the
 last table has 458 entries, so that its CRC of 2,028 bytes is part of each call that reads the ledger. `no table yet`:
 the ledger has no last table. `image swept`: the whole image was read since the round before, ending at block 0. Before
 each write with links, four bytes of the ledger are set to mode 0 within the measured time. Tables of `dirty by all` and
-`look back to the first` have no entries: a CRC of 196 bytes.
+`look back to the first` have no entries: a CRC of 196 bytes. A view is of a number whose block is a run's entry; it fills
+its buffer, of so many bytes, each call of a batch from another offset within 614,400 bytes. `1 extent` and `100 extents`:
+a run of 300 sectors. `of 32 sectors` and `of nearly all sectors`: one extent, on a full disc; of the latter each call
+passes over the kinds.
 ";
 
 const KINDS_PASS: &str = "\

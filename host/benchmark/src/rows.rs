@@ -1,7 +1,7 @@
 //! The measured calls: what each is prepared with, and one call of its batch.
 
-use crate::buffers::{Buffers, STAMP};
-use crate::tuned::{LIMIT, NONE};
+use crate::buffers::{Buffers, HIGHEST, STAMP};
+use crate::tuned::{LIMIT, MOST_VIEWED, NONE, SECTOR};
 use crate::version::Version;
 
 /// Calls of a batch that the clock is read once for.
@@ -65,7 +65,7 @@ const fn row(name: &'static str, prepare: fn(&mut Buffers), call: Call) -> Row {
 /// Close packet before the first commit: kinds and ledger, and no table.
 pub const CLOSE_PACKET: &str = "close packet, no table yet";
 
-pub static ROWS: [Row; 21] = [
+pub static ROWS: [Row; 28] = [
     row("begin, blank disc", blank, begin),
     row("begin, all data, no table", all_plain, begin).over_every_sector(),
     row("mount, clean", clean, mount),
@@ -75,6 +75,7 @@ pub static ROWS: [Row; 21] = [
     row("write, mode 1, no table yet", open_without_vat, write).recording(1),
     row("write, mode 1", open, write).recording(1),
     row("write, mode 0 with links", open, write_links).recording(8),
+    row("write unnumbered, mode 1", open, write_unnumbered).recording(1),
     row("release", open, release),
     row(CLOSE_PACKET, open_without_vat, close_packet),
     row("close packet", open, close_packet),
@@ -87,6 +88,12 @@ pub static ROWS: [Row; 21] = [
     row("look back to the first", all_vats, look_back_all).over_every_sector(),
     row("time of 0", clean, time_of_newest),
     row("close session", open, close_session).recording(257),
+    row("view 4,096, 1 extent", one_extent, view_some),
+    row("view 65,536, 1 extent", one_extent, view_most),
+    row("view 4,096, 100 extents", many_extents, view_some),
+    row("view 65,536, 100 extents", many_extents, view_most),
+    row("view 4,096 of 32 sectors", short_run, view_some),
+    row("view 4,096 of nearly all sectors", long_run, view_some),
 ];
 
 fn blank(buffers: &mut Buffers) {
@@ -158,6 +165,41 @@ fn all_vats(buffers: &mut Buffers) {
     }
 }
 
+/// Half of the disc is recorded, and a number is the entry of a run of 300 sectors.
+fn one_extent(buffers: &mut Buffers) {
+    run_in_half(buffers, 1);
+}
+
+/// The same in a hundred parts, of three sectors each.
+fn many_extents(buffers: &mut Buffers) {
+    run_in_half(buffers, 100);
+}
+
+fn run_in_half(buffers: &mut Buffers, extents: usize) {
+    clean(buffers);
+    let table = buffers.sectors() / 2 - 1;
+    buffers.plant_entry(table, extents, 300 / extents);
+    buffers.mount(0);
+}
+
+/// The disc is full, and a number is the entry of a run in one extent.
+fn short_run(buffers: &mut Buffers) {
+    run_on_a_full_disc(buffers, 32);
+}
+
+/// The same, over 350,000 of 360,000 sectors.
+fn long_run(buffers: &mut Buffers) {
+    run_on_a_full_disc(buffers, buffers.sectors() / 36 * 35);
+}
+
+fn run_on_a_full_disc(buffers: &mut Buffers, sectors: usize) {
+    all_plain(buffers);
+    let table = buffers.sectors() - 1;
+    buffers.plant_vat(table, LIMIT, NONE);
+    buffers.plant_entry(table, 1, sectors);
+    buffers.mount(0);
+}
+
 fn begin(version: &Version, b: &mut Buffers, _: usize) -> u64 {
     (version.begin)(&b.image, &b.kinds, &mut b.ledger)
 }
@@ -176,6 +218,11 @@ fn write(version: &Version, b: &mut Buffers, i: usize) -> u64 {
 fn write_links(version: &Version, b: &mut Buffers, i: usize) -> u64 {
     b.set_mode(0);
     write(version, b, i)
+}
+
+/// Each call of a batch takes the next sector.
+fn write_unnumbered(version: &Version, b: &mut Buffers, _: usize) -> u64 {
+    (version.write_unnumbered)(&mut b.image, &mut b.kinds, &mut b.ledger, &b.block)
 }
 
 /// Another number each time.
@@ -223,4 +270,26 @@ fn close_session(version: &Version, b: &mut Buffers, _: usize) -> u64 {
     let (length, start) = (32_768, 257);
     let (image, kinds, ledger) = (&mut b.image, &mut b.kinds, &mut b.ledger);
     (version.close_session)(image, kinds, ledger, length, 96, length, 240, start)
+}
+
+fn view_some(version: &Version, b: &mut Buffers, i: usize) -> u64 {
+    view(version, b, i, 4096)
+}
+
+fn view_most(version: &Version, b: &mut Buffers, i: usize) -> u64 {
+    view(version, b, i, MOST_VIEWED)
+}
+
+/// Of the first 614,400 bytes another part each time, of which the buffer is filled.
+fn view(version: &Version, b: &mut Buffers, i: usize, most: usize) -> u64 {
+    let offset = i * (b.run().min(300 * SECTOR) - most) / BATCH;
+    let buffer = &mut b.viewed[..most];
+    (version.view)(
+        &b.image,
+        &b.kinds,
+        &b.ledger,
+        HIGHEST,
+        offset as u64,
+        buffer,
+    )
 }

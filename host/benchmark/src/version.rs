@@ -1,4 +1,4 @@
-//! The two versions of the eleven calls, with the same signatures.
+//! The two versions of the thirteen calls, with the same signatures.
 
 use crate::tuned;
 use station::raw;
@@ -6,25 +6,28 @@ use station::raw;
 type Plain = fn(&[u8], &[u8], &mut [u8]) -> u64;
 type Numbered = fn(&[u8], &[u8], &mut [u8], u32) -> u64;
 type Committing = fn(&mut [u8], &mut [u8], &mut [u8]) -> u64;
-type CommittingAt = fn(&mut [u8], &mut [u8], &mut [u8], &[u8]) -> u64;
+type Lending = fn(&mut [u8], &mut [u8], &mut [u8], &[u8]) -> u64;
 type Writing = fn(&mut [u8], &mut [u8], &mut [u8], u32, &[u8]) -> u64;
 type Closing = fn(&mut [u8], &mut [u8], &mut [u8], u32, u32, u32, u32, u32) -> u64;
 type Reading = fn(&[u8], &[u8], &[u8], u32, &mut [u8]) -> u64;
+type Viewing = fn(&[u8], &[u8], &[u8], u32, u64, &mut [u8]) -> u64;
 
-/// Eleven functions. They are called through pointers, so that neither version
+/// Thirteen functions. They are called through pointers, so that neither version
 /// is compiled into the loop that measures it.
 pub struct Version {
     pub begin: Plain,
     pub mount: Plain,
     pub write: Writing,
+    pub write_unnumbered: Lending,
     pub release: Numbered,
     pub close_packet: Plain,
     pub commit: Committing,
-    pub commit_at: CommittingAt,
+    pub commit_at: Lending,
     pub read: Reading,
     pub look_back: Numbered,
     pub time_of: Reading,
     pub close_session: Closing,
+    pub view: Viewing,
 }
 
 /// The recording core, through the package `station`.
@@ -32,6 +35,7 @@ pub const CORE: Version = Version {
     begin: raw::begin,
     mount: raw::mount,
     write: raw::write,
+    write_unnumbered: raw::write_unnumbered,
     release: raw::release,
     close_packet: raw::close_packet,
     commit: raw::commit,
@@ -40,6 +44,7 @@ pub const CORE: Version = Version {
     look_back: raw::look_back,
     time_of: raw::time_of,
     close_session: raw::close_session,
+    view: raw::view,
 };
 
 /// The version written for the comparison.
@@ -47,6 +52,7 @@ pub const TUNED: Version = Version {
     begin: tuned::begin,
     mount: tuned::mount,
     write: tuned::write,
+    write_unnumbered: tuned::write_unnumbered,
     release: tuned::release,
     close_packet: tuned::close_packet,
     commit: tuned::commit,
@@ -55,4 +61,5 @@ pub const TUNED: Version = Version {
     look_back: tuned::look_back,
     time_of: tuned::time_of,
     close_session: tuned::close_session,
+    view: tuned::view,
 };

@@ -8,6 +8,10 @@ const BLOCK_LENGTH: &str =
 const FULL: &str = "Take another disc: this one is full, and its last finished save stays.";
 const FULL_FOR_WRITES: &str =
     "Commit what is written, or close the disc, and take another one: a write leaves 8 sectors free, or 264 on a disc of 1,000 or more.";
+const FULL_FOR_THE_RUN: &str =
+    "Commit what is written, and store the run on another disc: it takes a sector for each 2048 bytes and one for its entry, and leaves 8 sectors free, or 264 on a disc of 1,000 or more.";
+const PACK_THE_RUN: &str =
+    "Pack the run, for example with gzip, and store that: as it is, one of its blocks would pass for a save or for a closing.";
 const NO_ROOM_TO_CLOSE: &str =
     "Commit what is written, and write the runs on another disc for the plain drive: a closing needs 257 blank sectors, and 7 more where links come first.";
 const NO_SUCH_TIME: &str =
@@ -52,6 +56,10 @@ pub fn of(refusal: Refusal) -> &'static str {
         Refusal::PartitionStart => {
             "Look at the number behind --start again: no partition starts above block 400,000."
         }
+        Refusal::NotARun => {
+            "Read the number as a block, with read; if it was stored as a run, one of its sectors is unreadable: look back to an older one, or drive the run again."
+        }
+        Refusal::BeyondTheRun => "Give a lower --offset: the run ends before this one.",
     }
 }
 
@@ -59,6 +67,15 @@ pub fn of(refusal: Refusal) -> &'static str {
 pub fn of_commit(refusal: Refusal) -> &'static str {
     match refusal {
         Refusal::BadTimestamp => NO_SUCH_TIME,
+        _ => of(refusal),
+    }
+}
+
+/// The advice for a store.
+pub fn of_store(refusal: Refusal) -> &'static str {
+    match refusal {
+        Refusal::NoRoom => FULL_FOR_THE_RUN,
+        Refusal::WouldBeVat => PACK_THE_RUN,
         _ => of(refusal),
     }
 }

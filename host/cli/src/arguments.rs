@@ -2,8 +2,10 @@
 
 use std::borrow::Cow;
 use std::ffi::{OsStr, OsString};
+use std::fmt::Display;
 use std::os::unix::ffi::OsStrExt;
 use std::path::Path;
+use std::str::FromStr;
 
 use station::{Extent, Timestamp, MOST_SECTORS};
 
@@ -116,6 +118,12 @@ impl Arguments {
         given.map(|(_, value)| value.as_os_str())
     }
 
+    /// The file behind an option; without it, and with `-`, the stream is meant.
+    pub fn file(&self, option: &str) -> Option<&Path> {
+        let named = self.value(option).filter(|name| *name != "-");
+        named.map(Path::new)
+    }
+
     /// The words of the command that is cut.
     pub fn rest(&self) -> &[OsString] {
         &self.rest
@@ -130,13 +138,25 @@ impl Arguments {
     }
 
     pub fn number(&self, place: usize) -> Result<u32, Failure> {
-        self.number_in(self.command.operands[place], &self.operands[place])
+        self.number_in(
+            self.command.operands[place],
+            &self.operands[place],
+            u32::MAX,
+        )
     }
 
     /// Behind an option that may be missing.
     fn option_number(&self, option: &str) -> Result<Option<u32>, Failure> {
         let word = self.value(option);
-        word.map(|word| self.number_in(option, word)).transpose()
+        word.map(|word| self.number_in(option, word, u32::MAX))
+            .transpose()
+    }
+
+    /// The same, of 64 bits: a run has more bytes than a number may count.
+    pub fn option_long(&self, option: &str) -> Result<Option<u64>, Failure> {
+        let word = self.value(option);
+        word.map(|word| self.number_in(option, word, u64::MAX))
+            .transpose()
     }
 
     /// What stands behind an option without which the command means nothing.
@@ -146,15 +166,18 @@ impl Arguments {
     }
 
     pub fn needed_number(&self, option: &str) -> Result<u32, Failure> {
-        self.number_in(option, self.needed(option)?)
+        self.number_in(option, self.needed(option)?, u32::MAX)
     }
 
-    fn number_in(&self, name: &str, word: &OsStr) -> Result<u32, Failure> {
+    fn number_in<N: FromStr + Display>(
+        &self,
+        name: &str,
+        word: &OsStr,
+        most: N,
+    ) -> Result<N, Failure> {
         let text = word.to_string_lossy();
-        number(&text).ok_or_else(|| {
-            let most = u32::MAX;
-            self.wrong(format!("{name} is a number from 0 to {most}, not '{text}'"))
-        })
+        number(&text)
+            .ok_or_else(|| self.wrong(format!("{name} is a number from 0 to {most}, not '{text}'")))
     }
 
     /// `LENGTH,LOCATION`: an extent as a descriptor names it.
@@ -207,8 +230,9 @@ impl Arguments {
     }
 }
 
-/// "The numbers v and k have 32 bits", and so have those of a closing.
-fn number(text: &str) -> Option<u32> {
+/// "The numbers v and k have 32 bits", and so have those of a closing; an offset
+/// has 64.
+fn number<N: FromStr>(text: &str) -> Option<N> {
     let digits = text.bytes().all(|byte| byte.is_ascii_digit());
     text.parse().ok().filter(|_| digits)
 }

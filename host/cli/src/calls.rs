@@ -1,26 +1,25 @@
 //! A new disc, and the calls of the core. Each answers only after its files are
 //! kept and free for the next command.
 
-use std::path::Path;
-
-use station::SECTOR;
-
 use crate::arguments::Arguments;
 use crate::closing::{self, Closing};
 use crate::failure::Done;
-use crate::files::put;
 use crate::form::counted;
 use crate::making::make_disc;
 use crate::map::Map;
 use crate::session::{Lent, Session};
+use crate::storing::Storing;
 use crate::surroundings::{say, Surroundings};
 use crate::times::Time;
-use crate::writing::{is_stream, Saving, Writing};
+use crate::writing::{Saving, Writing};
 
 pub fn new(given: &Arguments, around: &mut Surroundings) -> Done {
     let sectors = given.sectors(1)?;
     make_disc(given.path(0), 0, sectors, |_| Ok(()))?;
-    say(around, format!("blank disc, {}\n", counted(sectors)))
+    say(
+        around,
+        format!("blank disc, {}\n", counted(sectors, "sector")),
+    )
 }
 
 pub fn begin(given: &Arguments, around: &mut Surroundings) -> Done {
@@ -50,6 +49,19 @@ pub fn write(given: &Arguments, around: &mut Surroundings) -> Done {
     let block = writing.record(&mut session)?;
     session.keep_both()?;
     say(around, format!("block {block}\n"))
+}
+
+/// A run is stored as one: it is kept when all its calls are done, and until then the
+/// files are as they were.
+pub fn store(given: &Arguments, around: &mut Surroundings) -> Done {
+    let mut storing = Storing::of(given, around)?;
+    let mut session = Session::open(given.path(0), Lent::Kept, around)?;
+    storing.admit(&mut session)?;
+    storing.announce(around)?;
+    let entry = storing.record(&mut session)?;
+    session.keep_both()?;
+    let told = storing.told();
+    say(around, format!("run of {told}, entry at block {entry}\n"))
 }
 
 pub fn release(given: &Arguments, around: &mut Surroundings) -> Done {
@@ -93,24 +105,6 @@ pub fn close_session(given: &Arguments, around: &mut Surroundings) -> Done {
     session.keep_both()?;
     let text = format!("saved and closed, pointer at block {pointer}, table at block {table}\n");
     say(around, text)
-}
-
-pub fn read(given: &Arguments, around: &mut Surroundings) -> Done {
-    let v = given.number(1)?;
-    let to = given.value("--to").filter(|file| !is_stream(file));
-    let to = to.map(Path::new);
-    let session = Session::open(given.path(0), Lent::Kept, around)?;
-    if to.is_some_and(|file| session.place.has(file)) {
-        return Err(given.wrong("--to names the disc or its ledger".into()));
-    }
-    let mut block = [0; SECTOR];
-    let (image, kinds) = session.disc.lent();
-    station::read(image, kinds, &session.ledger, v, &mut block)?;
-    drop(session);
-    match to {
-        Some(file) => put(file, &block),
-        None => say(around, block),
-    }
 }
 
 pub fn look_back(given: &Arguments, around: &mut Surroundings) -> Done {

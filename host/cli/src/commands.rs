@@ -13,6 +13,7 @@ use crate::listing::list;
 use crate::nearly::nearest;
 use crate::surroundings::{say, Surroundings};
 use crate::syntax::{self, Syntax};
+use crate::viewing::{read, view};
 
 struct Command {
     syntax: &'static Syntax,
@@ -26,16 +27,18 @@ const fn command(
     Command { syntax, run }
 }
 
-static COMMANDS: [Command; 16] = [
+static COMMANDS: [Command; 18] = [
     command(&syntax::NEW, calls::new),
     command(&syntax::BEGIN, calls::begin),
     command(&syntax::MOUNT, calls::mount),
     command(&syntax::WRITE, calls::write),
+    command(&syntax::STORE, calls::store),
     command(&syntax::RELEASE, calls::release),
     command(&syntax::CLOSE, calls::close),
     command(&syntax::COMMIT, calls::commit),
     command(&syntax::CLOSE_SESSION, calls::close_session),
-    command(&syntax::READ, calls::read),
+    command(&syntax::READ, read),
+    command(&syntax::VIEW, view),
     command(&syntax::LOOK_BACK, calls::look_back),
     command(&syntax::TIME, calls::time),
     command(&syntax::LIST, list),

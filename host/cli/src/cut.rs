@@ -8,16 +8,18 @@ use crate::arguments::{parse, Arguments, Asked};
 use crate::closing::{announce, Closing};
 use crate::failure::{Done, Failure};
 use crate::session::{Lent, Session};
+use crate::storing::Storing;
 use crate::surroundings::{say, Surroundings};
-use crate::syntax::{Syntax, CLOSE_SESSION, COMMIT, WRITE};
+use crate::syntax::{Syntax, CLOSE_SESSION, COMMIT, STORE, WRITE};
 use crate::writing::{Saving, Writing};
 
 /// An unreadable sector, and how many of its bytes were recorded.
 const TORN: (u8, usize) = (3, SECTOR / 2);
 
-/// The call that is cut.
+/// The call that is cut; of a store, one of its calls.
 enum Call {
     Write(Writing),
+    Store(Storing),
     Commit(Saving),
     CloseSession(Closing),
 }
@@ -26,22 +28,27 @@ impl Call {
     fn of(name: &str, given: &Arguments, around: &mut Surroundings) -> Result<Call, Failure> {
         Ok(match name {
             "write" => Call::Write(Writing::of(given, around)?),
+            "store" => Call::Store(Storing::of(given, around)?),
             "commit" => Call::Commit(Saving::of(given)?),
             _ => Call::CloseSession(Closing::of(given)?),
         })
     }
 
     /// The last block recorded.
-    fn record(&self, session: &mut Session) -> Result<u32, Failure> {
+    fn record(&mut self, session: &mut Session) -> Result<u32, Failure> {
         match self {
             Call::Write(writing) => writing.record(session),
+            Call::Store(storing) => {
+                storing.admit(session)?;
+                storing.record(session)
+            }
             Call::Commit(saving) => saving.record(session),
             Call::CloseSession(closing) => closing.record(session),
         }
     }
 }
 
-/// Makes the call whole in memory, and keeps of it what the cut leaves.
+/// Makes the calls whole in memory, and keeps of it what the cut leaves.
 pub fn cut(given: &Arguments, around: &mut Surroundings) -> Done {
     let kept = given.number(0)? as usize;
     let torn = given.has("--torn");
@@ -50,7 +57,7 @@ pub fn cut(given: &Arguments, around: &mut Surroundings) -> Done {
         Asked::Help => return say(around, command.help),
         Asked::Run(inner) => inner,
     };
-    let call = Call::of(command.name, &inner, around)?;
+    let mut call = Call::of(command.name, &inner, around)?;
     let mut session = Session::open(inner.path(0), Lent::Kept, around)?;
     call.record(&mut session)?;
     let sectors = session.disc.newly_recorded().count();
@@ -67,10 +74,10 @@ pub fn cut(given: &Arguments, around: &mut Surroundings) -> Done {
 
 fn cut_command(given: &Arguments) -> Result<&'static Syntax, Failure> {
     let name = given.text(1);
-    let found = [&WRITE, &COMMIT, &CLOSE_SESSION]
+    let found = [&WRITE, &STORE, &COMMIT, &CLOSE_SESSION]
         .into_iter()
         .find(|command| command.name == name);
-    let fault = || format!("only write, commit and close-session can be cut, not {name}");
+    let fault = || format!("only write, store, commit and close-session can be cut, not {name}");
     found.ok_or_else(|| given.wrong(fault()))
 }
 

@@ -1,5 +1,6 @@
 //! A worked example that runs: document 01's disc of 31, then a power cut
-//! inside a commit, and the last finished save after it.
+//! inside a commit, and the last finished save after it; and on another disc a run
+//! longer than a block.
 
 use std::env;
 use std::ffi::OsString;
@@ -15,8 +16,9 @@ use crate::surroundings::{say, Surroundings};
 /// What runs one command line.
 type Run = fn(&[OsString], &mut Surroundings) -> Done;
 
-/// The disc file's name, as it is shown.
+/// The disc files' names, as they are shown.
 const DISC: &str = "run.disc";
+const LONG_DISC: &str = "long.disc";
 
 /// One line of the demo.
 enum Step {
@@ -27,11 +29,15 @@ enum Step {
     Write(u32, &'static str),
     /// What this number reads, without the padding.
     Read(u32),
+    /// The numbers from 1 to this one, a line each, stored as number 0.
+    Store(u32),
+    /// The last line of the run that number 0 shows.
+    View,
 }
 
-use Step::{Plain, Read, Remark, Write};
+use Step::{Plain, Read, Remark, Store, View, Write};
 
-static STEPS: [Step; 32] = [
+static STEPS: [Step; 44] = [
     Remark("A blank disc of 31 sectors; two runs, three saves."),
     Plain("new run.disc 31"),
     Plain("begin run.disc"),
@@ -64,6 +70,18 @@ static STEPS: [Step; 32] = [
     Remark("Looking back changes nothing; a mount ends it."),
     Plain("mount run.disc"),
     Read(1),
+    Remark("A run of 1,000 values is longer than a block; another disc has room for it."),
+    Plain("new long.disc 60"),
+    Plain("begin long.disc"),
+    Store(1000),
+    Plain("commit long.disc"),
+    Remark("It is driven again, with 2,000 values."),
+    Store(2000),
+    Plain("commit long.disc"),
+    View,
+    Remark("The save before still shows the first run."),
+    Plain("look-back long.disc 1"),
+    View,
 ];
 
 impl Step {
@@ -74,6 +92,8 @@ impl Step {
             Plain(words) => format!("$ station {words}"),
             Write(v, text) => format!("$ printf '{text}\\n' | station write {DISC} {v} --pad"),
             Read(v) => format!("$ station read {DISC} {v} | tr -d '\\0'"),
+            Store(last) => format!("$ seq {last} | station store {LONG_DISC} 0"),
+            View => format!("$ station view {LONG_DISC} 0 | tail -n 1"),
         }
     }
 
@@ -84,9 +104,14 @@ impl Step {
             Plain(words) => (words.to_string(), String::new()),
             Write(v, text) => (format!("write {DISC} {v} --pad"), format!("{text}\n")),
             Read(v) => (format!("read {DISC} {v}"), String::new()),
+            Store(last) => {
+                let lines = (1..=*last).map(|value| format!("{value}\n"));
+                (format!("store {LONG_DISC} 0"), lines.collect())
+            }
+            View => (format!("view {LONG_DISC} 0"), String::new()),
         };
         let in_folder = |word: &str| match word {
-            DISC => folder.join(DISC).into_os_string(),
+            DISC | LONG_DISC => folder.join(word).into_os_string(),
             _ => word.into(),
         };
         (words.split_whitespace().map(in_folder).collect(), input)
@@ -108,17 +133,25 @@ impl Step {
             input: &mut input.as_bytes(),
             output: &mut shown,
             aside: around.aside,
+            watched: around.watched,
             disk: around.disk,
         };
         match run(&words, &mut inner) {
             Err(refused @ Failure::Refused(..)) => shown.extend(refused.to_string().bytes()),
             outcome => outcome?,
         }
-        if matches!(self, Read(_)) {
-            shown.retain(|byte| *byte != 0);
+        match self {
+            Read(_) => shown.retain(|byte| *byte != 0),
+            View => shown = last_line(&shown),
+            _ => {}
         }
         Ok(shown)
     }
+}
+
+fn last_line(text: &[u8]) -> Vec<u8> {
+    let mut lines = text.split_inclusive(|byte| *byte == b'\n');
+    lines.next_back().unwrap_or_default().to_vec()
 }
 
 pub fn demo(given: &Arguments, around: &mut Surroundings, run: Run) -> Done {

@@ -20,6 +20,8 @@ pub enum Failure {
     NoDisc(PathBuf, String),
     /// The file has not the form of a raw image, and why.
     NoImage(PathBuf, String),
+    /// The file, or standard input, holds no run, and why.
+    NoRun(PathBuf, String),
     /// A file cannot be read.
     Unreadable(PathBuf, io::Error),
     /// A file cannot be made or replaced, and why.
@@ -43,7 +45,7 @@ impl Failure {
     pub fn status(&self) -> u8 {
         match self {
             Failure::Usage(..) => 64,
-            Failure::NoDisc(..) | Failure::NoImage(..) => 65,
+            Failure::NoDisc(..) | Failure::NoImage(..) | Failure::NoRun(..) => 65,
             Failure::Unreadable(..) => 66,
             Failure::Unwritable(..) => 73,
             Failure::Output(_) => 74,
@@ -73,6 +75,9 @@ impl fmt::Display for Failure {
             Failure::NoImage(file, reason) => {
                 let file = file.display();
                 writeln!(out, "station: {file} is no raw image of a disc: {reason}")
+            }
+            Failure::NoRun(file, reason) => {
+                writeln!(out, "station: {} is no run: {reason}", file.display())
             }
             Failure::Unreadable(file, error) => {
                 writeln!(out, "station: {}", unreadable(&file.display(), error))

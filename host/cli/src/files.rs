@@ -72,6 +72,12 @@ pub fn lock(file: &File, name: &Path) -> Done {
     locked.map_err(|error| Failure::unwritable(name, format!("no lock: {error}")))
 }
 
+/// Gives the lock back, while the file is open or in memory.
+pub fn unlock(file: &File, name: &Path) -> Done {
+    let unlocked = lock::release(file);
+    unlocked.map_err(|error| Failure::unwritable(name, format!("no lock: {error}")))
+}
+
 /// Opens a file to be read; the name is for the message, and so is `no_file`, if it
 /// is none. What it is, is asked before: opening a pipe would wait for a writer.
 pub fn open(
@@ -85,6 +91,15 @@ pub fn open(
         return Err(no_file(name.to_path_buf(), "it is not a file".into()));
     }
     File::open(path).map_err(unreadable)
+}
+
+/// Why a file cannot be read to the length that it had.
+pub fn not_whole(name: &Path, error: io::Error) -> Failure {
+    let error = match error.kind() {
+        ErrorKind::UnexpectedEof => io::Error::other("it became shorter meanwhile"),
+        _ => error,
+    };
+    Failure::unreadable(name, error)
 }
 
 /// At most so many bytes of a file or of another source.
@@ -178,22 +193,21 @@ pub fn replace(path: &Path, fill: impl FnOnce(&Part) -> Done) -> Done {
     flush_folder(path)
 }
 
-/// Puts bytes where an operator asked for them. A link stays a link, and what is
-/// no file, such as a pipe or a device, is written to and not replaced.
-pub fn put(path: &Path, bytes: &[u8]) -> Done {
+/// Puts bytes where an operator asked for them; `give` is told where each piece
+/// goes. A link stays a link, and what is no file, such as a pipe or a device, is
+/// written to and not replaced.
+pub fn put(path: &Path, give: impl FnOnce(&mut dyn FnMut(&[u8]) -> Done) -> Done) -> Done {
     let unwritable = |error: io::Error| Failure::unwritable(path, error);
-    match fs::metadata(path) {
-        Ok(about) if about.is_file() => {
-            let real = fs::canonicalize(path).map_err(unwritable)?;
-            replace(&real, |part| part.write(bytes))
-        }
+    let real = match fs::metadata(path) {
+        Ok(about) if about.is_file() => fs::canonicalize(path).map_err(unwritable)?,
         Ok(_) => {
             let opened = OpenOptions::new().write(true).open(path);
-            let written = opened.and_then(|mut file| file.write_all(bytes));
-            written.map_err(unwritable)
+            let mut file = opened.map_err(unwritable)?;
+            return give(&mut |bytes| file.write_all(bytes).map_err(unwritable));
         }
-        Err(_) => replace(path, |part| part.write(bytes)),
-    }
+        Err(_) => path.to_path_buf(),
+    };
+    replace(&real, |part| give(&mut |bytes| part.write(bytes)))
 }
 
 /// A new empty file beside the one that it is to replace: a rename is one step

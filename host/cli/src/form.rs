@@ -13,6 +13,9 @@ use station::{Sector, MOST_SECTORS, SECTOR};
 use crate::failure::Failure;
 use crate::mapping;
 
+/// The kind of a sector that is not recorded.
+const BLANK: u8 = 0;
+
 /// The sector count's columns and its newline.
 const HEAD: usize = 9;
 
@@ -47,6 +50,18 @@ impl Disc {
     pub fn lent_to_record(&mut self) -> (&mut [u8], &mut [u8]) {
         let image = image_place(self.kinds.len());
         (&mut self.file[image..], &mut self.kinds)
+    }
+
+    /// How many sectors there are up to the last one that is not blank: of a sound
+    /// disc, the recorded ones.
+    pub fn used(&self) -> usize {
+        let last = self.kinds.iter().rposition(|kind| *kind != BLANK);
+        last.map_or(0, |last| last + 1)
+    }
+
+    /// As it is in the file: "Bytes of a sector whose kind is not 1 mean nothing."
+    pub fn take_back(&mut self) {
+        self.kinds[self.recorded..].fill(BLANK);
     }
 
     /// The sectors that are recorded here and not yet in the file, ascending.
@@ -92,11 +107,11 @@ pub fn digit(kind: u8) -> u8 {
     kind + b'0'
 }
 
-/// How many sectors, in words.
-pub fn counted(sectors: usize) -> String {
-    match sectors {
-        1 => "1 sector".into(),
-        _ => format!("{sectors} sectors"),
+/// How many of a thing, in words.
+pub fn counted(count: usize, thing: &str) -> String {
+    match count {
+        1 => format!("1 {thing}"),
+        _ => format!("{count} {thing}s"),
     }
 }
 

@@ -1,7 +1,7 @@
 //! The texts of `--help`.
 
 pub const PROGRAM: &str = "\
-station: a write-once disc kept in a file, with numbered blocks and saves
+station: a write-once disc kept in a file, with numbered blocks, runs and saves
 
 Usage: station COMMAND DISC ...
 
@@ -9,17 +9,19 @@ Usage: station COMMAND DISC ...
   begin DISC            start a disc that has no save
   mount DISC            find the last finished save and go on from it
   write DISC V          record a block as number V
+  store DISC V          record a run of any length, with its entry as number V
   release DISC V        number V is no longer in use
   close DISC            close the packet
   commit DISC           save: record the table
   close-session DISC    save, and close the disc for good
   read DISC V           the block that number V names
+  view DISC V           the run whose entry number V names
   look-back DISC K      show the save K before the newest, looking only
   time DISC K           when the save K before the newest was made
   list DISC             every save, newest first
   import IMAGE DISC     make a disc file of another deck's raw image
   export DISC IMAGE     give the raw sectors back
-  cut J COMMAND ...     what a power cut leaves of a write, commit or closing
+  cut J COMMAND ...     what a power cut leaves of a command that records
   demo                  a worked example
 
 'station COMMAND --help' tells more. '--version' tells the version.
@@ -27,9 +29,9 @@ Usage: station COMMAND DISC ...
 DISC is a file; its ledger is kept beside it in DISC.ledger. Until a commit,
 only the ledger knows where a written block lies.
 
-Exit status: 0 done; 1 to 18 the refusal's number; 64 wrong command line; 65
-the file is no disc, or no raw image; 66 a file cannot be read; 73 a file
-cannot be written; 74 the answer cannot be told.
+Exit status: 0 done; 1 to 20 the refusal's number; 64 wrong command line; 65
+the file is no disc, no raw image or no run; 66 a file cannot be read; 73 a
+file cannot be written; 74 the answer cannot be told.
 ";
 
 pub const NEW: &str = "\
@@ -65,6 +67,20 @@ block is safe from a power cut only after a commit.
 
   --from FILE   the block's bytes; - is standard input
   --pad         fill up a shorter block with zeros
+";
+
+pub const STORE: &str = "\
+Usage: station store DISC V [--from FILE]
+
+Records a run of any length, from FILE or from standard input: its bytes in
+blocks without a number, one behind the other, and behind them its entry, which
+names them, as number V. Tells how long the run is, and where the entry lies.
+view shows the run again. Refused with 14 if not all of it fits, with 13 or 12
+if V is too high, as for write, and with 15 if one of its blocks would pass for
+a save or for a closing; then nothing is recorded. The run is safe from a power
+cut only after a commit.
+
+  --from FILE   the run's bytes, 1 at least; - is standard input
 ";
 
 pub const RELEASE: &str = "\
@@ -125,11 +141,24 @@ they are those of the save that it shows.
   --to FILE   where to put the bytes, in one step; - is standard output
 ";
 
+pub const VIEW: &str = "\
+Usage: station view DISC V [--offset N] [--length N] [--to FILE]
+
+The bytes of the run whose entry number V names, to FILE or to standard output.
+After a look-back they are those of the save that it shows. Refused with 19 if
+number V is a block of its own, and no run's entry, and with 20 if the offset is
+above the run's length.
+
+  --offset N   leave out the first N bytes
+  --length N   give at most N bytes; without it all, to the run's end
+  --to FILE    where to put the bytes, in one step; - is standard output
+";
+
 pub const LOOK_BACK: &str = "\
 Usage: station look-back DISC K
 
-Shows the save K before the newest; K 0 is the newest. Then read shows that
-save's blocks, and nothing can be recorded until a mount.
+Shows the save K before the newest; K 0 is the newest. Then read and view show
+that save's blocks and runs, and nothing can be recorded until a mount.
 ";
 
 pub const TIME: &str = "\
@@ -177,13 +206,15 @@ disc.
 
 pub const CUT: &str = "\
 Usage: station cut J [--torn] write DISC V [--from FILE] [--pad]
+       station cut J [--torn] store DISC V [--from FILE]
        station cut J [--torn] commit DISC [--at TIME | --now]
        station cut J [--torn] close-session DISC --main LENGTH,LOCATION
                       --reserve LENGTH,LOCATION --start N
 
-What a power cut leaves of this write, commit or closing: the first J of the
-sectors that it would record, and no ledger. Changes the disc file; try it on a
-copy. A command that would be refused is refused, and then nothing is changed.
+What a power cut leaves of this write, store, commit or closing: the first J of
+the sectors that it would record, and no ledger. Changes the disc file; try it
+on a copy. A command that would be refused is refused, and then nothing is
+changed.
 
   --torn   leave the next sector unreadable instead of blank
 ";
@@ -192,7 +223,8 @@ pub const DEMO: &str = "\
 Usage: station demo [--keep FOLDER]
 
 Records a disc of 31 sectors, cuts the power inside a commit, and shows that the
-last finished save is there; each step as an operator types it, with its output.
+last finished save is there; then a run longer than a block on another disc.
+Each step as an operator types it, with its output.
 
   --keep FOLDER   work in FOLDER and leave the files there
 ";

@@ -2,7 +2,6 @@
 //! decks and readers have them.
 
 use std::fs::File;
-use std::io::{self, ErrorKind};
 use std::os::unix::fs::FileExt;
 use std::path::Path;
 
@@ -10,13 +9,12 @@ use station::{MOST_SECTORS, SECTOR};
 
 use crate::arguments::Arguments;
 use crate::failure::{Done, Failure};
-use crate::files::{open, Part};
+use crate::files::{not_whole, open, Part};
 use crate::form::{counted, sector_place};
 use crate::making::{make, make_disc};
 use crate::session::{Lent, Session};
 use crate::surroundings::{say, Surroundings};
 
-const BLANK: u8 = 0;
 const DATA: u8 = 1;
 
 /// Sectors that are copied at a time: a full disc is 737 MB, and is not held in
@@ -32,7 +30,7 @@ pub fn import(given: &Arguments, around: &mut Surroundings) -> Done {
     let data = image.sectors;
     let sectors = wanted.unwrap_or(data);
     if sectors < data {
-        let has = counted(data);
+        let has = counted(data, "sector");
         return Err(given.wrong(format!(
             "--sectors {sectors} is too few: the image has {has} from block {start} on"
         )));
@@ -44,7 +42,7 @@ pub fn import(given: &Arguments, around: &mut Surroundings) -> Done {
     let blank = sectors - data;
     say(
         around,
-        format!("{} imported, {blank} blank\n", counted(data)),
+        format!("{} imported, {blank} blank\n", counted(data, "sector")),
     )
 }
 
@@ -73,7 +71,7 @@ impl Image<'_> {
         }
         let all = bytes / SECTOR;
         if start >= all {
-            let has = counted(all);
+            let has = counted(all, "sector");
             return Err(given.wrong(format!("--start {start} is too high: the image has {has}")));
         }
         let sectors = all - start;
@@ -94,11 +92,7 @@ impl Image<'_> {
     fn read(&self, block: usize, bytes: &mut [u8]) -> Done {
         let place = (self.start + block) * SECTOR;
         let read = self.file.read_exact_at(bytes, place as u64);
-        read.map_err(|error| match error.kind() {
-            ErrorKind::UnexpectedEof => io::Error::other("it became shorter meanwhile"),
-            _ => error,
-        })
-        .map_err(|error| Failure::unreadable(self.name, error))
+        read.map_err(|error| not_whole(self.name, error))
     }
 }
 
@@ -113,8 +107,7 @@ pub fn export(given: &Arguments, around: &mut Surroundings) -> Done {
         return Err(given.wrong("IMAGE names the disc or its ledger".into()));
     }
     let (image, kinds) = session.disc.lent();
-    let last = kinds.iter().rposition(|kind| *kind != BLANK);
-    let sectors = last.map_or(0, |last| last + 1);
+    let sectors = session.disc.used();
     // The image's folder is not locked: its name is taken in one step, and two
     // exports, each into the other's folder, would wait for each other.
     make(path, (sectors * SECTOR) as u64, |part| {
@@ -129,7 +122,10 @@ pub fn export(given: &Arguments, around: &mut Surroundings) -> Done {
         without => format!(", {without} without data, as zeros"),
     };
     drop(session);
-    say(around, format!("{} exported{zeros}\n", counted(sectors)))
+    say(
+        around,
+        format!("{} exported{zeros}\n", counted(sectors, "sector")),
+    )
 }
 
 /// The bytes of the sectors from a block on. "Bytes of a sector whose kind is not

@@ -5,6 +5,15 @@ use std::fs::File;
 use std::io::{self, ErrorKind};
 use std::os::fd::AsRawFd;
 
+/// Gives the lock back before the file is closed.
+pub fn release(file: &File) -> io::Result<()> {
+    // SAFETY: two numbers are given, and the file is open.
+    match unsafe { libc::flock(file.as_raw_fd(), libc::LOCK_UN) } {
+        0 => Ok(()),
+        _ => Err(io::Error::last_os_error()),
+    }
+}
+
 /// Waits until nobody has the lock, and takes it. It is held until the file is
 /// closed, also by the end of a program that is killed.
 pub fn exclusive(file: &File) -> io::Result<()> {

@@ -1,12 +1,13 @@
 //! `station`: a disc kept in a file, and on it the calls of the recording core,
-//! the listing, a simulated power cut, and raw images for other decks.
+//! runs longer than a block, the listing, a simulated power cut, and raw images for
+//! other decks.
 //!
 //! The program keeps no rule of the disc itself: it lends files to the core and
 //! tells what the core answers. Each room uses only those below it:
 //!
 //! - `commands`: the command line;
-//! - `calls`, `cut`, `demo`, `images`, `listing`: what the commands do;
-//! - `writing`, `closing`: the calls that record, whole or to be cut;
+//! - `calls`, `cut`, `demo`, `images`, `listing`, `viewing`: what the commands do;
+//! - `storing`, `writing`, `closing`: the calls that record, whole or to be cut;
 //! - `session`: disc and ledger of one command;
 //! - `keeping`: the order in which they are kept;
 //! - `surroundings`: the streams and the disk that a command is given;
@@ -51,14 +52,16 @@ mod mapping;
 mod nearly;
 mod session;
 mod stamps;
+mod storing;
 mod surroundings;
 mod syntax;
 mod times;
+mod viewing;
 mod writing;
 
 use std::env;
 use std::ffi::OsString;
-use std::io::{self, Write};
+use std::io::{self, IsTerminal, Write};
 use std::process::ExitCode;
 
 use failure::Failure;
@@ -70,6 +73,7 @@ fn main() -> ExitCode {
         input: &mut io::stdin(),
         output: &mut io::stdout(),
         aside: &mut io::stderr(),
+        watched: io::stderr().is_terminal(),
         disk: &|files| Box::new(files),
     };
     let outcome = commands::run(&words, &mut around);

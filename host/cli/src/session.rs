@@ -8,7 +8,7 @@ use station::LEDGER;
 
 use crate::disk::{Disk, Files};
 use crate::failure::{Done, Failure};
-use crate::files::{folder_of, lock, lock_folder, open, read_at_most, Place};
+use crate::files::{folder_of, lock, lock_folder, open, read_at_most, unlock, Place};
 use crate::form::Disc;
 use crate::keeping::{self, Recording};
 use crate::surroundings::Surroundings;
@@ -29,6 +29,8 @@ pub struct Session {
     pub disc: Disc,
     pub ledger: Vec<u8>,
     disk: Box<dyn Disk>,
+    /// The disc file, by which its lock can be given back.
+    file: File,
     _lock: File,
 }
 
@@ -40,6 +42,8 @@ impl Session {
         let file = open(&place.disc, name, Failure::NoDisc)?;
         lock(&file, name)?;
         let disc = Disc::load(&file, name)?;
+        let same = file.try_clone();
+        let same = same.map_err(|error| Failure::unreadable(name, error))?;
         let ledger = match lent {
             Lent::Kept => kept_ledger(&place.ledger)?,
             Lent::New => vec![0; LEDGER],
@@ -50,8 +54,17 @@ impl Session {
             disc,
             ledger,
             disk: (around.disk)(files),
+            file: same,
             _lock: folder,
         })
+    }
+
+    /// Disc and ledger without the files, which are free for the next command. What
+    /// is recorded on the disc stays as it is; the lock would last as long as the
+    /// disc is in memory.
+    pub fn free(self) -> Result<(Disc, Vec<u8>), Failure> {
+        unlock(&self.file, &self.place.disc)?;
+        Ok((self.disc, self.ledger))
     }
 
     /// After a call that records nothing.

@@ -12,6 +12,8 @@ pub struct Surroundings<'a> {
     pub output: &'a mut dyn Write,
     /// For words that are no part of the answer.
     pub aside: &'a mut dyn Write,
+    /// Whether somebody sees these words while the command works.
+    pub watched: bool,
     pub disk: &'a dyn Fn(Files) -> Box<dyn Disk>,
 }
 

@@ -40,6 +40,10 @@ pub static WRITE: Syntax = Syntax {
     options: &[("--from", NAME), ("--pad", None)],
     ..plain("write", &["DISC", "V"], help::WRITE)
 };
+pub static STORE: Syntax = Syntax {
+    options: &[("--from", NAME)],
+    ..plain("store", &["DISC", "V"], help::STORE)
+};
 pub static RELEASE: Syntax = plain("release", &["DISC", "V"], help::RELEASE);
 pub static CLOSE: Syntax = plain("close", &["DISC"], help::CLOSE);
 pub static COMMIT: Syntax = Syntax {
@@ -57,6 +61,10 @@ pub static CLOSE_SESSION: Syntax = Syntax {
 pub static READ: Syntax = Syntax {
     options: &[("--to", NAME)],
     ..plain("read", &["DISC", "V"], help::READ)
+};
+pub static VIEW: Syntax = Syntax {
+    options: &[("--offset", NUMBER), ("--length", NUMBER), ("--to", NAME)],
+    ..plain("view", &["DISC", "V"], help::VIEW)
 };
 pub static LOOK_BACK: Syntax = plain("look-back", &["DISC", "K"], help::LOOK_BACK);
 pub static TIME: Syntax = plain("time", &["DISC", "K"], help::TIME);

@@ -1,6 +1,5 @@
 //! Write and commit, up to what is to be kept of them: all, or what a cut leaves.
 
-use std::ffi::OsStr;
 use std::fs::{self, File};
 use std::path::Path;
 
@@ -29,11 +28,11 @@ impl Writing {
         // Nobody is to type a block for a disc that is not there.
         let disc = given.path(0);
         fs::metadata(disc).map_err(|error| Failure::unreadable(disc, error))?;
-        let mut block = match given.value("--from").filter(|file| !is_stream(file)) {
+        let mut block = match given.file("--from") {
             Some(file) => {
                 let opened = File::open(file);
                 let read = opened.and_then(|mut file| read_at_most(&mut file, SECTOR + 1));
-                read.map_err(|error| Failure::unreadable(Path::new(file), error))?
+                read.map_err(|error| Failure::unreadable(file, error))?
             }
             None => {
                 let read = read_at_most(around.input, SECTOR + 1);
@@ -95,9 +94,4 @@ impl Saving {
         };
         table.map_err(|refusal| Failure::Refused(refusal, advice::of_commit(refusal)))
     }
-}
-
-/// `-` as a file's name means the stream.
-pub fn is_stream(file: &OsStr) -> bool {
-    file == "-"
 }

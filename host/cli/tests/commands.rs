@@ -182,7 +182,7 @@ fn only_what_is_recorded_is_written() {
     let file = || fs::metadata(folder.path("run.disc")).expect("the disc");
     let before = file();
     let lines = "mount run.disc;release run.disc 1;close run.disc;look-back run.disc 1;\
-                 read run.disc 1;time run.disc 0;list run.disc --times;mount run.disc;\
+                 read run.disc 1;view run.disc 1;store run.disc 0;time run.disc 0;list run.disc --times;mount run.disc;\
                  write run.disc 9;begin run.disc";
     for line in lines.split(';') {
         folder.run(line.trim());
@@ -208,6 +208,8 @@ fn the_largest_disc() {
         folder.done(line);
     }
     assert!(folder.done_with("read run.disc 0", b"") == padded("run A"));
+    folder.done_with("store run.disc 0", &[7; 5000]);
+    assert!(folder.done_with("view run.disc 0", b"") == [7; 5000]);
     folder.done("look-back run.disc 0");
     let about = fs::metadata(folder.path("run.disc")).expect("the disc");
     assert_eq!(about.len(), 9 + 360_000 + 1 + 360_000 * SECTOR as u64);

@@ -107,7 +107,7 @@ fn what_cannot_be_cut() {
     assert!(told.contains("with --torn J is below 1"), "{told}");
     let told = folder.fails("cut 0 mount run.disc", 64);
     assert!(
-        told.contains("only write, commit and close-session can be cut, not mount"),
+        told.contains("only write, store, commit and close-session can be cut, not mount"),
         "{told}"
     );
     for line in [

@@ -10,19 +10,22 @@ use common::{disc_file, padded, Folder, CLOSE_SESSION};
 use station::SECTOR;
 
 /// One line for each command that takes a disc.
-const LINES: [&str; 13] = [
+const LINES: [&str; 16] = [
     "begin run.disc",
     "mount run.disc",
     "write run.disc 0 --pad",
+    "store run.disc 0 --from /proc/version",
     "release run.disc 0",
     "close run.disc",
     "commit run.disc",
     CLOSE_SESSION,
     "read run.disc 0",
+    "view run.disc 0",
     "look-back run.disc 0",
     "export run.disc run.img",
     "cut 0 commit run.disc",
     "cut 0 write run.disc 0 --pad",
+    "cut 0 store run.disc 0 --from /proc/version",
     "cut 0 close-session run.disc --main 1,2 --reserve 3,4 --start 5",
 ];
 
@@ -87,8 +90,12 @@ fn files_that_are_missing_or_no_files() {
         assert!(folder.fails(line, 65).contains("it is not a file"));
     }
     let folder = Folder::begun(31);
-    let told = folder.fails("write run.disc 0 --from nothing", 66);
-    assert_eq!(told, "station: there is no file or folder nothing\n");
+    for line in ["write run.disc 0", "store run.disc 0"] {
+        let told = folder.fails(&format!("{line} --from nothing"), 66);
+        assert_eq!(told, "station: there is no file or folder nothing\n");
+    }
+    let told = folder.fails("store run.disc 0 --from .", 66);
+    assert!(told.starts_with("station: . cannot be read: "), "{told}");
     assert_eq!(
         folder
             .fails("read run.disc 0 --to nowhere/shown", 10)
@@ -141,6 +148,7 @@ fn a_protected_disc_is_read_and_not_recorded() {
     for line in [
         "commit run.disc",
         "write run.disc 0 --pad",
+        "store run.disc 0 --from /proc/version",
         "cut 1 commit run.disc",
     ] {
         assert!(folder.fails(line, 73).contains("write-protected"));
@@ -253,6 +261,23 @@ fn commands_at_once() {
         assert!(told.contains(&format!("block {block}\n")), "{told:?}");
     }
     assert_eq!(folder.names(), ["run.disc", "run.disc.ledger"]);
+}
+
+/// The blocks of each store lie together, with its entry behind them.
+#[test]
+fn stores_at_once() {
+    let folder = Folder::begun(200);
+    let store = || folder.done_with("store run.disc 0", &[7; 2 * SECTOR + 1]);
+    let told: Vec<Vec<u8>> = thread::scope(|scope| {
+        let all: Vec<_> = (0..8).map(|_| scope.spawn(store)).collect();
+        let ends = all.into_iter().map(|one| one.join().expect("done"));
+        ends.collect()
+    });
+    for entry in (3..32).step_by(4) {
+        let line = format!("run of 4097 bytes in 3 blocks, entry at block {entry}\n");
+        assert!(told.contains(&line.into_bytes()), "{entry}");
+    }
+    assert_eq!(folder.kinds().matches('1').count(), 32);
 }
 
 /// An answer that nobody can take.

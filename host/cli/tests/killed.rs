@@ -7,8 +7,9 @@ use common::{padded, Folder, CLOSE_SESSION};
 use station::SECTOR;
 
 /// One line for each call that reads the ledger.
-const LINES: [&str; 11] = [
+const LINES: [&str; 14] = [
     "write run.disc 0",
+    "store run.disc 0",
     "release run.disc 0",
     "close run.disc",
     "commit run.disc",
@@ -16,8 +17,10 @@ const LINES: [&str; 11] = [
     "commit run.disc --now",
     CLOSE_SESSION,
     "read run.disc 0",
+    "view run.disc 0",
     "cut 0 commit run.disc",
     "cut 0 write run.disc 0",
+    "cut 0 store run.disc 0",
     "cut 0 close-session run.disc --main 1,2 --reserve 3,4 --start 5",
 ];
 
@@ -55,6 +58,23 @@ fn killed_between_disc_and_ledger() {
     let new = "clean, table at block 21\nsize 2, 2 in use: 0 to 1\n";
     assert_eq!(folder.done("mount run.disc"), new);
     assert!(folder.done_with("read run.disc 0", b"") == padded("run C"));
+}
+
+/// A store is kept as one: there is never a ledger of some of its blocks.
+#[test]
+fn killed_between_disc_and_ledger_of_a_store() {
+    let folder = Folder::begun(60);
+    let [_, ledger, ..] = before_and_after(&folder, "store run.disc 0");
+    folder.done("commit run.disc");
+    folder.put("run.disc.ledger", &ledger);
+    refuses_until_mounted(&folder);
+    folder.done("mount run.disc");
+    assert_eq!(folder.done("view run.disc 0"), "run C");
+    let [_, ledger, ..] = before_and_after(&folder, "store run.disc 1");
+    folder.put("run.disc.ledger", &ledger);
+    refuses_until_mounted(&folder);
+    let old = "dirty, table at block 2\nsize 1, 1 in use: 0\n";
+    assert_eq!(folder.done("mount run.disc"), old);
 }
 
 /// The disc is closed, and its ledger is behind: 4 is tested before 17.

@@ -13,8 +13,8 @@ use station::Refusal;
 const PAGE: &str = include_str!("../../../docs/OPERATORS.md");
 
 /// The number and who causes it, as document 01 groups them; of 16, whose time it
-/// is.
-const REFUSALS: [(Refusal, &str); 18] = [
+/// is, and of 19, whether there never was a run.
+const REFUSALS: [(Refusal, &str); 20] = [
     (Refusal::DiscSize, "the host program"),
     (Refusal::LentLength, "the host program"),
     (Refusal::DiscUnsound, "the disc"),
@@ -33,6 +33,8 @@ const REFUSALS: [(Refusal, &str); 18] = [
     (Refusal::BadTimestamp, "the operator, or the disc"),
     (Refusal::SessionClosed, "the disc"),
     (Refusal::PartitionStart, "the operator"),
+    (Refusal::NotARun, "the operator, or the disc"),
+    (Refusal::BeyondTheRun, "the operator"),
 ];
 
 /// The lines of all fenced blocks marked `console`, in order.
@@ -76,6 +78,7 @@ fn the_table_has_every_refusal() {
         assert!(row.contains(&format!(" | {whose} | ")), "{row}");
         assert!(row.contains(advice::of(refusal)), "{row}");
         assert!(row.contains(advice::of_write(refusal, b"short")), "{row}");
+        assert!(row.contains(advice::of_store(refusal)), "{row}");
         assert!(row.contains(advice::of_commit(refusal)), "{row}");
         assert!(row.contains(advice::of_closing(refusal)), "{row}");
     }

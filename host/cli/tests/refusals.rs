@@ -38,9 +38,16 @@ fn number_2_a_block_or_ledger_of_another_length() {
     let ledger = folder.bytes("run.disc.ledger");
     for length in [0, LEDGER - 1] {
         folder.put("run.disc.ledger", &ledger[..length]);
-        for line in ["release run.disc 0", "commit run.disc", "read run.disc 0"] {
+        for line in [
+            "release run.disc 0",
+            "commit run.disc",
+            "read run.disc 0",
+            "view run.disc 0",
+        ] {
             assert!(refused(&folder, line, 2).contains("Mount the disc"));
         }
+        let advice = refused_with(&folder, "store run.disc 0", b"run", 2);
+        assert!(advice.contains("Mount the disc"), "{advice}");
     }
     folder.put("run.disc.ledger", &[ledger, vec![0; 9]].concat());
     assert!(refused_with(&folder, "write run.disc 0", &BLOCK, 2).contains("Mount the disc"));
@@ -66,10 +73,11 @@ fn number_3_a_recorded_sector_after_a_blank_one() {
         refused(&folder, &format!("{line} run.disc"), 3);
     }
     refused(&folder, CLOSE_SESSION, 3);
-    for line in ["release", "read", "look-back", "time"] {
+    for line in ["release", "read", "view", "look-back", "time"] {
         refused(&folder, &format!("{line} run.disc 0"), 3);
     }
     refused_with(&folder, "write run.disc 0", &BLOCK, 3);
+    refused_with(&folder, "store run.disc 0", b"run", 3);
 }
 
 #[test]
@@ -86,7 +94,9 @@ fn number_4_a_ledger_that_is_missing_or_of_another_disc() {
         refused(&folder, &closing, 4);
         refused(&folder, &format!("release {disc} 1"), 4);
         refused(&folder, &format!("read {disc} 1"), 4);
+        refused(&folder, &format!("view {disc} 1"), 4);
         refused_with(&folder, &format!("write {disc} 0"), &BLOCK, 4);
+        refused_with(&folder, &format!("store {disc} 0"), b"run", 4);
     }
 }
 
@@ -104,6 +114,7 @@ fn number_5_recording_while_looking_only() {
         assert!(refused(&folder, line, 5).contains("Mount the disc"));
     }
     refused_with(&folder, "write run.disc 0", &BLOCK, 5);
+    refused_with(&folder, "store run.disc 500", b"run", 5);
 }
 
 #[test]
@@ -136,6 +147,7 @@ fn number_10_a_number_not_in_use() {
     let folder = Folder::example();
     for v in ["0", "2", "458", "4294967295"] {
         refused(&folder, &format!("read run.disc {v}"), 10);
+        refused(&folder, &format!("view run.disc {v}"), 10);
         refused(&folder, &format!("release run.disc {v}"), 10);
     }
 }
@@ -143,10 +155,11 @@ fn number_10_a_number_not_in_use() {
 #[test]
 fn number_11_an_unreadable_block() {
     let folder = Folder::example();
-    folder.set_kind(2, b'3');
-    refused(&folder, "read run.disc 1", 11);
-    folder.set_kind(2, b'2');
-    refused(&folder, "read run.disc 1", 11);
+    for digit in [b'3', b'2'] {
+        folder.set_kind(2, digit);
+        refused(&folder, "read run.disc 1", 11);
+        refused(&folder, "view run.disc 1", 11);
+    }
 }
 
 #[test]
@@ -154,6 +167,7 @@ fn number_12_a_number_above_the_size() {
     let folder = Folder::example();
     for v in ["3", "4", "457"] {
         refused_with(&folder, &format!("write run.disc {v}"), &BLOCK, 12);
+        refused_with(&folder, &format!("store run.disc {v}"), b"run", 12);
     }
 }
 
@@ -162,8 +176,10 @@ fn number_12_a_number_above_the_size() {
 fn number_13_a_number_above_the_size_and_the_limit() {
     let folder = Folder::example();
     for v in ["458", "500", "4294967295"] {
-        let advice = refused_with(&folder, &format!("write run.disc {v}"), &BLOCK, 13);
-        assert!(advice.starts_with("Numbers end at 457"), "{advice}");
+        for line in ["write", "store"] {
+            let advice = refused_with(&folder, &format!("{line} run.disc {v}"), &BLOCK, 13);
+            assert!(advice.starts_with("Numbers end at 457"), "{advice}");
+        }
     }
 }
 
@@ -296,6 +312,7 @@ fn number_17_a_closed_disc() {
     }
     refused_with(&folder, "write run.disc 0", &BLOCK, 17);
     refused_with(&folder, "write run.disc 500", &BLOCK, 17);
+    refused_with(&folder, "store run.disc 500", b"run", 17);
     folder.done("look-back run.disc 1");
     refused(&folder, "commit run.disc", 5);
     refused(&folder, "begin run.disc", 6);
@@ -314,4 +331,42 @@ fn number_18_a_partition_that_starts_too_high() {
     }
     let highest = "close-session run.disc --main 1,2 --reserve 3,4 --start 400000";
     assert_eq!(folder.run(highest).status, 0);
+}
+
+/// "19, the numbered block is not such an entry, tested after 11": a block of its
+/// own, or the entry of a run that cannot be read any more.
+#[test]
+fn number_19_a_number_that_is_no_run() {
+    let folder = Folder::begun(31);
+    folder.done_with("write run.disc 0", &BLOCK);
+    let advice = refused(&folder, "view run.disc 0", 19);
+    assert!(advice.starts_with("Read the number as a block"), "{advice}");
+    // Before 20.
+    refused(&folder, "view run.disc 0 --offset 9999", 19);
+    folder.done_with("store run.disc 1", &[9; 3 * SECTOR]);
+    folder.done("view run.disc 1");
+    for block in 1..4 {
+        folder.set_kind(block, b'3');
+        refused(&folder, "view run.disc 1", 19);
+        refused(&folder, "view run.disc 1 --offset 6143", 19);
+        folder.set_kind(block, b'1');
+    }
+    // An entry is one only at its own block.
+    let entry = folder.sector(4);
+    folder.done_with("write run.disc 2", &entry);
+    refused(&folder, "view run.disc 2", 19);
+}
+
+/// "20, the offset exceeds the run's length, tested after 19."
+#[test]
+fn number_20_an_offset_beyond_the_run() {
+    let folder = Folder::begun(31);
+    folder.done_with("store run.disc 0", &[9; SECTOR + 1]);
+    for offset in ["2050", "4096", "4294967296", "18446744073709551615"] {
+        let line = format!("view run.disc 0 --offset {offset}");
+        let advice = refused(&folder, &line, 20);
+        assert!(advice.starts_with("Give a lower --offset"), "{advice}");
+        refused(&folder, &format!("{line} --length 0"), 20);
+    }
+    assert_eq!(folder.done("view run.disc 0 --offset 2049"), "");
 }

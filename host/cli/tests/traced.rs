@@ -282,9 +282,27 @@ fn the_order_of_a_closing() {
     assert_eq!(calls_of(&folder, CLOSE_SESSION), whole.concat());
 }
 
+/// 200 blocks and the entry in one go, as if one call had recorded them. Their digits
+/// lie across two pieces of the file.
+#[test]
+fn the_order_of_a_store() {
+    let folder = recorded(800, 400);
+    folder.put("run", &RUN);
+    let bytes = [["pwrite64"; 201].as_slice(), &["fdatasync"]].concat();
+    let digits = ["pwrite64", "fdatasync"].repeat(2);
+    let whole = [&LEDGER_MADE[..], &bytes, &digits, &LEDGER_NAMED, &TOLD];
+    assert_eq!(calls_of(&folder, STORE), whole.concat());
+    assert_eq!(calls_of(&folder, "view run.disc 0 --length 9"), TOLD);
+}
+
+/// A run of 200 blocks, and the line that stores it.
+static RUN: [u8; 200 * SECTOR - 9] = [0xB4; 200 * SECTOR - 9];
+const STORE: &str = "store run.disc 0 --from run";
+
 /// The command lines, each on the example with its packet closed.
-const LINES: [(&str, usize); 9] = [
+const LINES: [(&str, usize); 10] = [
     ("write run.disc 0", 9),
+    ("store run.disc 0", 10),
     ("commit run.disc", 9),
     ("commit run.disc --at 2026-11-15T14:05+01:00", 9),
     ("mount run.disc", 5),
@@ -359,21 +377,84 @@ fn killed_between_the_digits() {
     }
 }
 
-/// At the pointer, at sectors of zeros, at the table, and at the digits of both
-/// pieces; at each other call that writes.
-#[test]
-fn stopped_within_a_closing() {
-    let folder = recorded(800, 400);
-    let trial = Trial::of(&folder, CLOSE_SESSION);
+/// Stopped at some of the writes into the disc file, the last of which is the one
+/// before `end`, and at each other call that writes.
+fn stopped_within(trial: &Trial, writes: &[usize], end: usize) {
     for fate in [KILLED, DISK_FULL] {
-        for nth in [1, 2, 129, 256, 257, 258, 259] {
+        for &nth in writes {
             assert!(trial.stops("pwrite64", nth, fate), "{nth}");
         }
-        assert!(!trial.stops("pwrite64", 260, fate));
+        assert!(!trial.stops("pwrite64", end, fate));
         let others = WRITING.into_iter().filter(|call| *call != "pwrite64");
         let stopped: usize = others.map(|call| trial.stops_at_each(call, fate)).sum();
         assert!(stopped >= 8, "{fate}: {stopped} times");
     }
+}
+
+/// At the pointer, at sectors of zeros, at the table, and at the digits of both
+/// pieces.
+#[test]
+fn stopped_within_a_closing() {
+    let folder = recorded(800, 400);
+    let trial = Trial::of(&folder, CLOSE_SESSION);
+    stopped_within(&trial, &[1, 2, 129, 256, 257, 258, 259], 260);
+}
+
+/// At blocks of the run, at its entry, and at the digits of both pieces.
+#[test]
+fn stopped_within_a_store() {
+    let folder = recorded(800, 400);
+    folder.put("run", &RUN);
+    let trial = Trial::of(&folder, STORE);
+    stopped_within(&trial, &[1, 2, 100, 200, 201, 202, 203], 204);
+}
+
+/// A run that becomes shorter while it is read, or whose disk fails, is told of by
+/// its own name, and nothing is recorded.
+#[test]
+fn a_run_that_cannot_be_read_to_its_end() {
+    let folder = recorded(800, 400);
+    folder.put("run", &RUN);
+    let start = folder.files();
+    let run = fs::canonicalize(folder.path("run")).expect("the run");
+    let run = run.to_str().expect("text");
+    for (fate, when) in [("retval=0", 2), ("error=EIO", 1), ("error=EIO", 9)] {
+        let fate = format!("inject=read:{fate}:when={when}");
+        let options = ["-P", run, "-e", "trace=read", "-e", &fate];
+        let (end, traced) = run_strace(&folder, STORE, &options);
+        assert_eq!(end, End::Status(66), "{traced}");
+        assert!(folder.files() == start, "{fate}");
+    }
+}
+
+/// A view puts its bytes into a file in one step: the old one or the new one is
+/// there, whole.
+#[test]
+fn a_file_that_is_viewed_is_whole() {
+    let folder = recorded(800, 400);
+    folder.put("run", &RUN);
+    folder.done(STORE);
+    folder.put("shown", b"old");
+    let start = folder.files();
+    let mut stopped = 0;
+    for (call, fate) in WRITING
+        .map(|call| [(call, KILLED), (call, DISK_FULL)])
+        .concat()
+    {
+        for nth in 1.. {
+            restore(&folder, &start);
+            let end = run_traced(&folder, "view run.disc 0 --to shown", call, nth, fate);
+            let shown = folder.bytes("shown");
+            assert!(shown == b"old" || shown == RUN, "{call} {nth}");
+            match end {
+                End::Status(0) => break,
+                End::Status(status) => assert_eq!((status, folder.names().len()), (73, 4)),
+                End::Killed => {}
+            }
+            stopped += 1;
+        }
+    }
+    assert!(stopped >= 20, "{stopped} times");
 }
 
 /// The commands that make a file, on the example with a deck's image beside it.

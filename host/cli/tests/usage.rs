@@ -8,16 +8,18 @@ use std::process::Command;
 
 use common::{Folder, STATION};
 
-const COMMANDS: [&str; 16] = [
+const COMMANDS: [&str; 18] = [
     "new",
     "begin",
     "mount",
     "write",
+    "store",
     "release",
     "close",
     "commit",
     "close-session",
     "read",
+    "view",
     "look-back",
     "time",
     "list",
@@ -39,7 +41,7 @@ fn help_of_the_program_and_of_each_command() {
         assert_eq!(folder.done(&format!("{command} -h")), help);
         assert!(help.lines().all(|line| line.len() <= 80), "{command}");
     }
-    for command in ["write", "commit", "close-session"] {
+    for command in ["write", "store", "commit", "close-session"] {
         let help = folder.done(&format!("{command} --help"));
         assert_eq!(folder.done(&format!("cut 3 {command} --help")), help);
     }
@@ -66,6 +68,8 @@ tiem run.disc 0 | there is no command tiem: did you mean time? |
 times run.disc 0 | there is no command times: did you mean time? |
 now run.disc | there is no command now: did you mean new? |
 eject run.disc | there is no command eject |
+stroe run.disc 0 | there is no command stroe: did you mean store? |
+veiw run.disc 0 | there is no command veiw: did you mean view? |
 --quiet mount run.disc | there is no option --quiet |
 mount --quick run.disc | mount has no option --quick | mount
 commit run.disc -f | commit has no option -f | commit
@@ -78,6 +82,17 @@ write run.disc 0 --pad --pad | --pad is given twice | write
 --help mount | --help stands alone |
 mount | mount needs DISC | mount
 write run.disc | write needs V | write
+store run.disc | store needs V | store
+store run.disc 0 --pad | store has no option --pad | store
+store run.disc 0 --to x | store has no option --to | store
+view run.disc | view needs V | view
+view run.disc 0 --offset | --offset needs a number behind it | view
+view run.disc 0 --offset 1 --offset 2 | --offset is given twice | view
+view run.disc 0 --offset x | --offset is a number from 0 to 18446744073709551615, not 'x' | view
+view run.disc 0 --offset +1 | --offset is a number from 0 to 18446744073709551615, not '+1' | view
+view run.disc 0 --length 18446744073709551616 | --length is a number from 0 to 18446744073709551615, not '18446744073709551616' | view
+view run.disc 0 --from x | view has no option --from | view
+view run.disc 4294967296 | V is a number from 0 to 4294967295, not '4294967296' | view
 look-back run.disc | look-back needs K | look-back
 time run.disc | time needs K | time
 time run.disc 0 --utc | time has no option --utc | time

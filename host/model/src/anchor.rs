@@ -4,6 +4,7 @@
 //! [`pointer_sector`] is the sector that a closing records; [`has_pointer_tag`]
 //! says whether a block has "such a tag".
 
+use crate::extent::Extent;
 use crate::fields::{put, u16_at, u32_at};
 use crate::table::{has_tag_sum, seal, SECTOR};
 
@@ -17,13 +18,6 @@ const POINTER: u16 = 2;
 /// "the extents at bytes 16 and 24 (length, location, 32 bits each)"
 const MAIN: usize = 16;
 const RESERVE: usize = 24;
-
-/// "the extents [...] (length, location, 32 bits each)"
-#[derive(Clone, Copy, Debug, PartialEq, Eq)]
-pub struct Extent {
-    pub length: u32,
-    pub location: u32,
-}
 
 /// "The host gives the two extents and the partition's start as 32-bit numbers."
 #[derive(Clone, Copy, Debug, PartialEq, Eq)]
@@ -42,10 +36,8 @@ pub fn pointer_sector(b: u32, anchor: &Anchor) -> [u8; SECTOR] {
     put(&mut sector, 0, &POINTER.to_le_bytes());
     put(&mut sector, 2, &2u16.to_le_bytes());
     put(&mut sector, 10, &496u16.to_le_bytes());
-    for (at, extent) in [(MAIN, anchor.main), (RESERVE, anchor.reserve)] {
-        put(&mut sector, at, &extent.length.to_le_bytes());
-        put(&mut sector, at + 4, &extent.location.to_le_bytes());
-    }
+    anchor.main.put(&mut sector, MAIN);
+    anchor.reserve.put(&mut sector, RESERVE);
     seal(&mut sector, anchor.partition_start + b);
     sector
 }

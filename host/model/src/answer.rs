@@ -6,7 +6,8 @@ pub enum Refusal {
     /// "no sectors, more than 360,000, or image length is not 2048 × kinds length"
     DiscSize = 1,
     /// "a lent block is not 2048 bytes, or a lent ledger is not 1,848"; "A lent
-    /// timestamp or answer of another length gives 2" (document 02)
+    /// timestamp or answer of another length gives 2", and a view's "lent buffer
+    /// (at most 65,536 bytes, else 2)" (document 02)
     LentLength = 2,
     /// "a kind above 3, or a recorded sector after a blank one"
     DiscUnsound = 3,
@@ -44,6 +45,10 @@ pub enum Refusal {
     SessionClosed = 17,
     /// "the partition start exceeds 400,000" (document 02)
     PartitionStart = 18,
+    /// "the numbered block is not such an entry" (document 02)
+    NotARun = 19,
+    /// "the offset exceeds the run's length" (document 02)
+    BeyondTheRun = 20,
 }
 
 /// The two numbers.

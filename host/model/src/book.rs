@@ -180,8 +180,10 @@ impl History {
             (Call::Commit | Call::CommitAt | Call::CloseSession(_), _) => self.save(fed),
             (Call::Write(_) | Call::Release(_), None) => {}
             (Call::Read(_) | Call::ClosePacket, _) => {}
+            // "writes in all but the entry" (document 02), and a draft has entries alone
+            (Call::WriteUnnumbered, _) => {}
             // "counts as a refused one" (document 02)
-            (Call::TimeOf(_), _) => {}
+            (Call::TimeOf(_) | Call::View { .. }, _) => {}
         }
     }
 

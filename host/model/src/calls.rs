@@ -1,14 +1,14 @@
-//! The eleven calls on lent bytes.
+//! The thirteen calls on lent bytes.
 //!
-//! A call is a refusal or an [`Effect`]: its second number, the sectors that
-//! it records, the ledger and the lent buffer afterwards. [`effect`] alters
-//! nothing; the calls carry it out, and a cut keeps the first of its sectors
-//! ([`fail_power`](crate::disc::fail_power)).
+//! A call is a refusal or an [`Effect`]. [`effect`] alters nothing; [`perform`]
+//! carries it out.
 
 use crate::anchor::{has_pointer_tag, pointer_sector, Anchor, MOST_START};
 use crate::answer::{refuse, Answer, Refusal};
-use crate::disc::{record, Disc, Sector, BEFORE_TABLE};
-use crate::ledger::{Volume, IDLE, LEDGER, PACKET_OPEN, READ_ONLY};
+use crate::disc::{Disc, Sector, BEFORE_TABLE};
+use crate::effect::Effect;
+use crate::ledger::{Volume, IDLE, LEDGER, READ_ONLY};
+use crate::run::MOST_VIEWED;
 use crate::table::{recognise, stamped_vat_sector, LIMIT, NONE, SECTOR};
 use crate::time::{Moment, Stamp, NO_STAMP, STAMP, TIME};
 
@@ -20,12 +20,14 @@ const SHORT_RESERVE: u32 = 8;
 const LONG_RESERVE: u32 = 264;
 const LONG_DISC: u32 = 1000;
 
-/// A call with its v or k.
+/// A call with its v or k, and with the other numbers that it is given.
 #[derive(Clone, Copy, Debug, PartialEq, Eq)]
 pub enum Call {
     Begin,
     Mount,
     Write(u32),
+    /// "Blocks may be recorded without a number" (document 02).
+    WriteUnnumbered,
     Release(u32),
     ClosePacket,
     Commit,
@@ -37,18 +39,35 @@ pub enum Call {
     TimeOf(u32),
     /// "Closing a session" (document 02).
     CloseSession(Anchor),
+    /// "From a 64-bit offset it fills the lent buffer" (document 02): the viewer of
+    /// runs.
+    View {
+        v: u32,
+        offset: u64,
+    },
 }
 
 impl Call {
     /// How long the buffer is that some calls are lent beside the three: "write
     /// and read are lent a block too"; and by document 02 "a 12-byte ECMA-167
-    /// timestamp", and an answer that "is 8 lent bytes".
+    /// timestamp", an answer that "is 8 lent bytes", and for a view "at most 65,536
+    /// bytes".
     pub fn lent_length(self) -> Option<usize> {
         match self {
-            Call::Write(_) | Call::Read(_) => Some(SECTOR),
+            Call::Write(_) | Call::WriteUnnumbered | Call::Read(_) => Some(SECTOR),
             Call::CommitAt => Some(STAMP),
             Call::TimeOf(_) => Some(TIME),
+            Call::View { .. } => Some(MOST_VIEWED),
             _ => None,
+        }
+    }
+
+    /// Whether such a buffer may have so many bytes: a view's may have fewer.
+    fn may_be_lent(self, length: usize) -> bool {
+        match (self, self.lent_length()) {
+            (_, None) => true,
+            (Call::View { .. }, Some(most)) => length <= most,
+            (_, Some(right)) => length == right,
         }
     }
 
@@ -61,67 +80,19 @@ impl Call {
     /// "In the cut rule this and any later call that only tells counts as a
     /// refused one" (document 02).
     pub fn only_tells(self) -> bool {
-        matches!(self, Call::TimeOf(_))
+        matches!(self, Call::TimeOf(_) | Call::View { .. })
     }
 }
 
 /// "Every call is lent image, kinds and ledger", and some a fourth buffer: a
-/// block, a timestamp or an answer. The others do not look at it.
+/// block, a timestamp, an answer, or one for a part of a run. The others do not
+/// look at it.
 #[derive(Clone, Copy)]
 pub struct Lent<'a> {
     pub image: &'a [u8],
     pub kinds: &'a [u8],
     pub ledger: &'a [u8],
     pub buffer: &'a [u8],
-}
-
-/// What a call does that is not refused.
-#[derive(Clone, Debug, PartialEq, Eq)]
-pub struct Effect {
-    pub second: u32,
-    pub sectors: Vec<Sector>,
-    /// The ledger; none where it stays as it is, whatever that is.
-    pub volume: Option<Volume>,
-    /// What is put into the lent buffer: a read's block, or the time asked for.
-    pub shown: Option<Vec<u8>>,
-}
-
-impl Effect {
-    /// The effect of a call that records nothing.
-    fn unrecorded(second: u32, volume: Volume) -> Effect {
-        Effect {
-            second,
-            sectors: Vec::new(),
-            volume: Some(volume),
-            shown: None,
-        }
-    }
-
-    /// The effect of a call that only tells.
-    fn told(answer: &[u8]) -> Effect {
-        Effect {
-            second: 0,
-            sectors: Vec::new(),
-            volume: None,
-            shown: Some(answer.to_vec()),
-        }
-    }
-
-    /// A write, commit or closing: links, then data sectors, the last of which is
-    /// told. "After each call that is done, the ledger's recorded equals the
-    /// disc's."
-    fn recorded(mut volume: Volume, data: Vec<Sector>) -> Effect {
-        let mut sectors = vec![Sector::Link; volume.links() as usize];
-        sectors.extend(data);
-        volume.recorded += sectors.len() as u32;
-        volume.mode = PACKET_OPEN;
-        Effect {
-            second: volume.recorded - 1,
-            sectors,
-            volume: Some(volume),
-            shown: None,
-        }
-    }
 }
 
 /// The first block that a write, commit or closing takes: behind its links.
@@ -138,7 +109,8 @@ pub fn effect(lent: &Lent, call: Call) -> Result<Effect, Refusal> {
         Call::Mount => mount_effect(&disc),
         Call::LookBack(k) => look_back_effect(&disc, k),
         Call::Read(v) => read_effect(&disc, fitting_volume(lent, &disc)?, v),
-        Call::Write(v) => write_effect(lent, &disc, writable_volume(lent, &disc)?, v),
+        Call::Write(v) => write_effect(lent, &disc, writable_volume(lent, &disc)?, Some(v)),
+        Call::WriteUnnumbered => write_effect(lent, &disc, writable_volume(lent, &disc)?, None),
         Call::Release(v) => release_effect(writable_volume(lent, &disc)?, v),
         Call::ClosePacket => close_packet_effect(writable_volume(lent, &disc)?),
         Call::Commit => commit_effect(&disc, writable_volume(lent, &disc)?, &NO_STAMP),
@@ -147,16 +119,18 @@ pub fn effect(lent: &Lent, call: Call) -> Result<Effect, Refusal> {
         Call::CloseSession(anchor) => {
             close_session_effect(&disc, writable_volume(lent, &disc)?, &anchor)
         }
+        Call::View { v, offset } => {
+            view_effect(lent, &disc, &fitting_volume(lent, &disc)?, v, offset)
+        }
     }
 }
 
 /// Refusals 1, 2 and 3, which every call has.
 fn sound_disc<'a>(lent: &Lent<'a>, call: Call) -> Result<Disc<'a>, Refusal> {
     let disc = Disc::lent(lent.image, lent.kinds)?;
-    let right = call.lent_length();
-    let wrong_buffer = right.is_some_and(|length| lent.buffer.len() != length);
+    let right_buffer = call.may_be_lent(lent.buffer.len());
     refuse(
-        wrong_buffer || lent.ledger.len() != LEDGER,
+        !right_buffer || lent.ledger.len() != LEDGER,
         Refusal::LentLength,
     )?;
     refuse(!disc.is_sound(), Refusal::DiscUnsound)?;
@@ -203,20 +177,24 @@ fn look_back_effect(disc: &Disc, k: u32) -> Result<Effect, Refusal> {
     Ok(Effect::unrecorded(found.block, volume))
 }
 
-/// "records one data sector with the lent block and sets entry v to it. If v
-/// equals size, size grows by one." Document 02: "a number at or above the limit
-/// gives 13, even above size"; "13 comes directly before 12".
-fn write_effect(lent: &Lent, disc: &Disc, mut volume: Volume, v: u32) -> Result<Effect, Refusal> {
+/// "records one data sector with the lent block and sets entry v to it". Document
+/// 02: "a number at or above the limit gives 13, even above size"; "13 comes
+/// directly before 12"; and "Unnumbered writes are writes in all but the entry".
+fn write_effect(
+    lent: &Lent,
+    disc: &Disc,
+    mut volume: Volume,
+    v: Option<u32>,
+) -> Result<Effect, Refusal> {
     let data: [u8; SECTOR] = lent.buffer.try_into().map_err(|_| Refusal::LentLength)?;
     let needed = volume.links() + 1 + reserve(disc);
     let block = next_data_block(&volume);
-    refuse(v as usize >= LIMIT, Refusal::AboveLimit)?;
-    refuse(v > volume.size, Refusal::AboveSize)?;
+    refuse(v.is_some_and(|v| v as usize >= LIMIT), Refusal::AboveLimit)?;
+    refuse(v.is_some_and(|v| v > volume.size), Refusal::AboveSize)?;
     refuse(disc.blank() < needed, Refusal::NoRoom)?;
     refuse(would_pass(&data, block), Refusal::WouldBeVat)?;
-    volume.map[v as usize] = block;
-    if v == volume.size {
-        volume.size += 1;
+    if let Some(v) = v {
+        volume.set(v, block);
     }
     Ok(Effect::recorded(volume, vec![Sector::data(data)]))
 }
@@ -298,19 +276,47 @@ fn close_session_effect(disc: &Disc, volume: Volume, anchor: &Anchor) -> Result<
 fn time_effect(disc: &Disc, k: u32) -> Result<Effect, Refusal> {
     let found = disc.walk_back(k)?;
     let moment = Moment::told_by(&found.vat.modified).ok_or(Refusal::BadTimestamp)?;
-    Ok(Effect::told(&moment.to_bytes()))
+    Ok(Effect::told(0, moment.to_bytes().to_vec()))
 }
 
 /// "copies the 2048 bytes to the lent block; allowed with mode 2"
 fn read_effect(disc: &Disc, volume: Volume, v: u32) -> Result<Effect, Refusal> {
-    let block = volume.block_of(v).ok_or(Refusal::NotInUse)?;
-    let data = disc.data(block).ok_or(Refusal::Unreadable)?;
+    let (_, data) = numbered_block(disc, &volume, v)?;
     let mut effect = Effect::unrecorded(0, volume);
     effect.shown = Some(data.to_vec());
     Ok(effect)
 }
 
-/// Any of the eleven, with the fourth buffer that some are lent.
+/// Refusals 10 and 11, of a read and of a view: the block of number v, and its bytes.
+fn numbered_block<'a>(
+    disc: &Disc<'a>,
+    volume: &Volume,
+    v: u32,
+) -> Result<(u32, &'a [u8; SECTOR]), Refusal> {
+    let block = volume.block_of(v).ok_or(Refusal::NotInUse)?;
+    let data = disc.data(block).ok_or(Refusal::Unreadable)?;
+    Ok((block, data))
+}
+
+/// "From a 64-bit offset it fills the lent buffer [...] as far as the run goes; the
+/// second number counts the bytes"; 19 is "tested after 11" and 20 "tested after 19"
+/// (document 02).
+fn view_effect(
+    lent: &Lent,
+    disc: &Disc,
+    volume: &Volume,
+    v: u32,
+    offset: u64,
+) -> Result<Effect, Refusal> {
+    let (block, _) = numbered_block(disc, volume, v)?;
+    let run = disc.run_at(block).ok_or(Refusal::NotARun)?;
+    refuse(offset > run.length(), Refusal::BeyondTheRun)?;
+    let shown = run.bytes_from(offset, lent.buffer.len());
+    Ok(Effect::told(shown.len() as u32, shown))
+}
+
+/// Any of the thirteen, with the fourth buffer that some are lent. A refusal "alters no
+/// lent byte".
 pub fn perform(
     image: &mut [u8],
     kinds: &mut [u8],
@@ -324,28 +330,10 @@ pub fn perform(
         ledger,
         buffer,
     };
-    let effect = effect(&lent, call);
-    if let Some(shown) = effect.as_ref().ok().and_then(|done| done.shown.as_ref()) {
-        buffer.copy_from_slice(shown);
-    }
-    carry_out(image, kinds, ledger, effect)
-}
-
-/// A refusal "alters no lent byte"; otherwise "Only the sectors that a call
-/// records change."
-fn carry_out(
-    image: &mut [u8],
-    kinds: &mut [u8],
-    ledger: &mut [u8],
-    effect: Result<Effect, Refusal>,
-) -> Answer {
-    match effect {
+    match effect(&lent, call) {
         Err(refusal) => Answer::refused(refusal),
         Ok(effect) => {
-            record(image, kinds, &effect.sectors);
-            if let Some(volume) = effect.volume {
-                ledger.copy_from_slice(&volume.to_bytes());
-            }
+            effect.carry_out(image, kinds, ledger, buffer);
             Answer::done(effect.second)
         }
     }

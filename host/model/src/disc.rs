@@ -6,6 +6,8 @@
 
 use crate::anchor::has_pointer_tag;
 use crate::answer::Refusal;
+use crate::extent::Extent;
+use crate::run::{self, Run};
 use crate::table::{recognise, Vat, NONE, SECTOR};
 
 /// "0 blank, 1 data, 2 link, 3 unreadable"
@@ -90,6 +92,24 @@ impl<'a> Disc<'a> {
     /// What the block holds if it is a table sector.
     pub fn vat_at(&self, block: u32) -> Option<Vat> {
         recognise(self.data(block)?, block)
+    }
+
+    /// What the block shows if it holds a run's entry.
+    pub fn run_at(&self, block: u32) -> Option<Run<'a>> {
+        let named = run::recognise(self.data(block)?, block)?;
+        let extents = named.iter().map(|extent| self.data_below(block, extent));
+        let extents = extents.collect::<Option<_>>()?;
+        Some(Run { extents })
+    }
+
+    /// The bytes of an extent that is "recorded data below the entry's block"
+    /// (document 02): each of its sectors has kind 1.
+    fn data_below(&self, block: u32, extent: &Extent) -> Option<&'a [u8]> {
+        let first = extent.location as usize;
+        let below = self.kinds.get(..block as usize)?;
+        let kinds = below.get(first..first + extent.sectors())?;
+        let is_data = kinds.iter().all(|kind| *kind == DATA);
+        is_data.then(|| &self.image[first * SECTOR..][..extent.bytes()])
     }
 
     /// "starts at the last recorded sector and goes towards block 0. The first

@@ -119,6 +119,14 @@ impl Volume {
         }
     }
 
+    /// Write: "sets entry v to it. If v equals size, size grows by one."
+    pub fn set(&mut self, v: u32, block: u32) {
+        self.map[v as usize] = block;
+        if v == self.size {
+            self.size += 1;
+        }
+    }
+
     /// The entries below size.
     pub fn entries(&self) -> &[u32] {
         &self.map[..self.map.len().min(self.size as usize)]

@@ -1,4 +1,4 @@
-//! An independent model of document 01: the disc, the ledger, the eleven calls
+//! An independent model of document 01: the disc, the ledger, the thirteen calls
 //! and the book that the cut rule speaks of. It is written from the text of
 //! documents 01 and 02 alone and shares nothing with the recording core, so that
 //! the two can be held against each other.
@@ -10,15 +10,16 @@
 //!
 //! Bottom to top:
 //!
-//! - [`fields`]: little-endian fields;
+//! - [`fields`]: little-endian fields; [`extent`]: extents as descriptors name them;
 //! - [`answer`]: the two numbers that each call answers, and the refusals;
 //! - [`time`]: timestamps, their limits, and the minutes that they tell;
 //! - [`table`]: the table sector at block b;
 //! - [`anchor`]: the pointer that a closing records, and its tag;
-//! - [`disc`]: image and kinds, the newest table, the walk back, whether it is
+//! - [`run`]: the entry of a run longer than a block, and what it shows;
+//! - [`disc`]: image and kinds, the newest table, the walk back, runs, whether it is
 //!   closed, recording;
 //! - [`ledger`]: the volume's working state and when it fits the disc;
-//! - [`calls`]: the eleven calls;
+//! - [`effect`]: what a call does; [`calls`]: the thirteen calls;
 //! - [`book`]: pages and draft, what the cut rule promises.
 //!
 //! [`Volume`]: ledger::Volume
@@ -32,7 +33,10 @@ pub mod answer;
 pub mod book;
 pub mod calls;
 pub mod disc;
+pub mod effect;
+pub mod extent;
 pub mod fields;
 pub mod ledger;
+pub mod run;
 pub mod table;
 pub mod time;

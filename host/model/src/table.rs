@@ -25,7 +25,7 @@ const MODIFIED: usize = 84;
 const ATTRIBUTED: usize = 96;
 
 /// Byte 176: where the extended attributes start, and behind them the table.
-const ATTRIBUTES: usize = 176;
+pub const BEHIND_HEAD: usize = 176;
 
 /// "Regid bytes 1 to 23 hold the text `*UDF Virtual Alloc Tbl` and one zero."
 const VAT_NAME: [u8; 23] = *b"*UDF Virtual Alloc Tbl\0";
@@ -66,17 +66,38 @@ fn crc_bit(crc: u16) -> u16 {
 }
 
 /// "A sector of kind 1 is a table sector exactly if all of this holds"; the
-/// answer is what the table holds. The CRC is the dearest test and comes last.
+/// answer is what the table holds.
 pub fn recognise(sector: &[u8; SECTOR], b: u32) -> Option<Vat> {
-    if !has_tag(sector, b) || !is_embedded_file(sector) {
+    if !is_embedded_file(sector) {
         return None;
     }
-    let layout = Layout::named_in(sector)?;
+    let layout = Layout::named_in(sector, tagged_lengths(sector, b)?)?;
     if !names_vat(sector, layout) {
         return None;
     }
     let vat = held(sector, layout);
-    (vat.points_below(b) && has_crc(sector, layout)).then_some(vat)
+    vat.points_below(b).then_some(vat)
+}
+
+/// The lengths that a file entry names for what stands behind its head.
+#[derive(Clone, Copy)]
+pub struct Lengths {
+    /// Bytes of extended attributes.
+    pub attributes: u64,
+    /// Bytes of the table, or of allocation descriptors.
+    pub descriptors: u64,
+}
+
+/// The lengths of bytes 168 and 172, if the tag, both sums and the location hold:
+/// of a table sector, and of a run's entry, of which "Its tag, sums and location
+/// hold as a table sector's do" (document 02). The CRC is the dearest test and
+/// comes last.
+pub fn tagged_lengths(sector: &[u8; SECTOR], b: u32) -> Option<Lengths> {
+    let lengths = Lengths {
+        attributes: u64::from(u32_at(sector, 168)),
+        descriptors: u64::from(u32_at(sector, 172)),
+    };
+    (has_tag(sector, b) && has_crc(sector, lengths)).then_some(lengths)
 }
 
 /// Bytes 0 to 5 and 12 to 15: "tag identifier 261; descriptor version 2",
@@ -92,6 +113,16 @@ fn has_tag(sector: &[u8; SECTOR], b: u32) -> bool {
 /// Whether a tag, of whatever descriptor, has its right checksum in byte 4.
 pub fn has_tag_sum(sector: &[u8; SECTOR]) -> bool {
     sector[4] == tag_sum(sector)
+}
+
+/// Bytes 8 and 10: "CRC; CRC length = 160 + attribute length + descriptor length",
+/// and the CRC is "over CRC-length bytes from byte 16". The sums of lengths have 64
+/// bits and the lengths 32, so none wraps.
+fn has_crc(sector: &[u8; SECTOR], lengths: Lengths) -> bool {
+    let crc_length = u16_at(sector, 10);
+    let summed = sector.get(BODY..BODY + usize::from(crc_length));
+    u64::from(crc_length) == 160 + lengths.attributes + lengths.descriptors
+        && summed.is_some_and(|bytes| u16_at(sector, 8) == crc(bytes))
 }
 
 /// "sum of bytes 0 to 3 and 5 to 15, modulo 256"
@@ -120,19 +151,19 @@ struct Layout {
 }
 
 impl Layout {
-    /// The layout on which the four lengths of bytes 10, 56, 168 and 172 agree:
-    /// "N = (length − 36) / 4", the attribute length "a multiple of 4", and "the
-    /// whole must stay below one sector" (document 02). The sums have 64 bits and
-    /// the lengths 32, so none wraps.
-    fn named_in(sector: &[u8; SECTOR]) -> Option<Layout> {
-        let attributes = u64::from(u32_at(sector, 168));
-        let descriptors = u64::from(u32_at(sector, 172));
+    /// The layout on which the lengths of bytes 56, 168 and 172 agree: "N = (length
+    /// − 36) / 4", the attribute length "a multiple of 4", and "the whole must stay
+    /// below one sector" (document 02).
+    fn named_in(sector: &[u8; SECTOR], lengths: Lengths) -> Option<Layout> {
+        let Lengths {
+            attributes,
+            descriptors,
+        } = lengths;
         let entries = descriptors.checked_sub(36)? / 4;
         let agree = attributes % 4 == 0
             && 4 * entries + 36 == descriptors
             && 176 + attributes + 4 * entries + 36 < 2048
-            && u64_at(sector, 56) == descriptors
-            && u64::from(u16_at(sector, 10)) == 160 + attributes + descriptors;
+            && u64_at(sector, 56) == descriptors;
         agree.then_some(Layout {
             attributes: attributes as usize,
             entries: entries as usize,
@@ -141,7 +172,7 @@ impl Layout {
 
     /// The table, its entries first, stands behind the attributes.
     fn table(self) -> usize {
-        ATTRIBUTES + self.attributes
+        BEHIND_HEAD + self.attributes
     }
 
     /// The table's regid stands behind its entries.
@@ -152,11 +183,6 @@ impl Layout {
     /// The previous table's block stands behind the 32-byte regid.
     fn previous(self) -> usize {
         self.regid() + 32
-    }
-
-    /// Where the table ends.
-    fn end(self) -> usize {
-        self.table() + table_length(self.entries)
     }
 }
 
@@ -184,12 +210,6 @@ impl Vat {
     }
 }
 
-/// "over CRC-length bytes from byte 16": 160 + attribute length + descriptor
-/// length of them, which end with the table.
-fn has_crc(sector: &[u8; SECTOR], layout: Layout) -> bool {
-    u16_at(sector, 8) == crc(&sector[BODY..layout.end()])
-}
-
 /// "What commit records" at block b, for at most 458 entries; of attributes
 /// "Our commit [...] records none" (document 02).
 pub fn vat_sector(b: u32, map: &[u32], previous: u32) -> [u8; SECTOR] {
@@ -199,8 +219,9 @@ pub fn vat_sector(b: u32, map: &[u32], previous: u32) -> [u8; SECTOR] {
 /// "A second form of commit takes a 12-byte ECMA-167 timestamp and records it as
 /// access, modification and attribute time" (document 02).
 pub fn stamped_vat_sector(b: u32, map: &[u32], previous: u32, stamp: &Stamp) -> [u8; SECTOR] {
-    let mut sector = [0; SECTOR];
-    put_file_entry(&mut sector, table_length(map.len()));
+    let length = table_length(map.len());
+    let mut sector = file_entry(length, length as u64);
+    put(&mut sector, 34, &3u16.to_le_bytes());
     for time in [ACCESSED, MODIFIED, ATTRIBUTED] {
         put(&mut sector, time, stamp);
     }
@@ -209,21 +230,24 @@ pub fn stamped_vat_sector(b: u32, map: &[u32], previous: u32, stamp: &Stamp) -> 
     sector
 }
 
-/// "the fields above [...] maximum entries (byte 24, 16 bits) 1; user and
-/// group (36 and 40, 32 bits) FFFFFFFF; checkpoint (108, 32 bits) 1".
-fn put_file_entry(sector: &mut [u8; SECTOR], length: usize) {
-    put(sector, 0, &261u16.to_le_bytes());
-    put(sector, 2, &2u16.to_le_bytes());
-    put(sector, 10, &(160 + length as u16).to_le_bytes());
-    put(sector, 20, &4u16.to_le_bytes());
-    put(sector, 24, &1u16.to_le_bytes());
-    put(sector, 34, &3u16.to_le_bytes());
-    put(sector, 36, &NONE.to_le_bytes());
-    put(sector, 40, &NONE.to_le_bytes());
-    put(sector, 56, &(length as u64).to_le_bytes());
-    put(sector, 108, &1u32.to_le_bytes());
-    put(sector, 129, &IMPLEMENTATION_NAME);
-    put(sector, 172, &(length as u32).to_le_bytes());
+/// A file entry's head, for a table or for a run, with so many bytes behind it and
+/// this information length: "the fields above [...] maximum entries (byte 24, 16
+/// bits) 1; user and group (36 and 40, 32 bits) FFFFFFFF; checkpoint (108, 32 bits)
+/// 1".
+pub fn file_entry(descriptors: usize, information: u64) -> [u8; SECTOR] {
+    let mut sector = [0; SECTOR];
+    put(&mut sector, 0, &261u16.to_le_bytes());
+    put(&mut sector, 2, &2u16.to_le_bytes());
+    put(&mut sector, 10, &(160 + descriptors as u16).to_le_bytes());
+    put(&mut sector, 20, &4u16.to_le_bytes());
+    put(&mut sector, 24, &1u16.to_le_bytes());
+    put(&mut sector, 36, &NONE.to_le_bytes());
+    put(&mut sector, 40, &NONE.to_le_bytes());
+    put(&mut sector, 56, &information.to_le_bytes());
+    put(&mut sector, 108, &1u32.to_le_bytes());
+    put(&mut sector, 129, &IMPLEMENTATION_NAME);
+    put(&mut sector, 172, &(descriptors as u32).to_le_bytes());
+    sector
 }
 
 /// "table regid flags 0, suffix hex 50 01 and six zeros"

@@ -1,8 +1,9 @@
 /*
  * Records on a small disc through the C header: begin, writes, commits, a
- * closed packet, and then what mount, read, look back and time of show of it; and
- * closes the session of a larger one. Exits 0 if every answer is right, and names
- * the first that is not.
+ * closed packet, and then what mount, read, look back and time of show of it;
+ * records a run longer than a block on another one and views it; and closes the
+ * session of a larger one. Exits 0 if every answer is right, and names the first
+ * that is not.
  */
 #include <stdio.h>
 #include <stdlib.h>
@@ -30,6 +31,19 @@ static uint8_t burned_image[SECTORS * STATION_SECTOR];
 static uint8_t burned_kinds[SECTORS];
 static size_t burned;
 
+/* A disc with room for a run, its entry and a save. */
+#define RUN_SECTORS 12
+
+static uint8_t run_image[RUN_SECTORS * STATION_SECTOR];
+static uint8_t run_kinds[RUN_SECTORS];
+
+/* The run, which fills one block and 2,000 bytes of the next, and what is viewed
+ * of it. */
+#define RUN_LENGTH (STATION_SECTOR + 2000)
+
+static uint8_t run[2 * STATION_SECTOR];
+static uint8_t viewed[STATION_MOST_VIEWED + 1];
+
 /* A disc with room for links and a closing behind its first block. */
 #define CLOSED_SECTORS 265
 
@@ -38,6 +52,7 @@ static uint8_t closed_kinds[CLOSED_SECTORS];
 
 #define DISC image, sizeof image, kinds, sizeof kinds
 #define LENT DISC, ledger, sizeof ledger
+#define RUN_LENT run_image, sizeof run_image, run_kinds, sizeof run_kinds, ledger, sizeof ledger
 #define CLOSED_DISC closed_image, sizeof closed_image, closed_kinds, sizeof closed_kinds
 #define CLOSED_LENT CLOSED_DISC, ledger, sizeof ledger
 
@@ -187,6 +202,86 @@ static void lend_wrongly(void)
     kinds[30] = 0;
 }
 
+static void put(uint8_t *bytes, uint32_t value, size_t count)
+{
+    for (; count > 0; count--, value >>= 8)
+        *bytes++ = (uint8_t)value;
+}
+
+/* Polynomial hex 1021, start 0, high bit first. */
+static uint32_t crc(const uint8_t *bytes, size_t count)
+{
+    uint32_t sum = 0;
+
+    for (size_t at = 0; at < 8 * count; at++) {
+        uint32_t bit = (uint32_t)bytes[at / 8] >> (7 - at % 8) & 1;
+        sum = (sum << 1 & 0xFFFF) ^ ((sum >> 15 ^ bit) * 0x1021);
+    }
+    return sum;
+}
+
+/* The entry, at a block, of a run in one extent. */
+static void make_entry(uint8_t *entry, uint32_t at, uint32_t length, uint32_t first)
+{
+    memset(entry, 0, STATION_SECTOR);
+    put(entry, 261, 2);
+    put(entry + 2, 2, 2);
+    put(entry + 10, 160 + 8, 2);
+    put(entry + 12, at, 4);
+    put(entry + 20, 4, 2);
+    put(entry + 27, 5, 1);
+    put(entry + 56, length, 4);
+    put(entry + 172, 8, 4);
+    put(entry + 176, length, 4);
+    put(entry + 180, first, 4);
+    put(entry + 8, crc(entry + 16, 160 + 8), 2);
+    for (size_t place = 0; place < 16; place++)
+        entry[4] = (uint8_t)(entry[4] + (place == 4 ? 0 : entry[place]));
+}
+
+static uint64_t view(uint32_t v, uint64_t offset, size_t length)
+{
+    memset(viewed, 0xC7, sizeof viewed);
+    return station_view(RUN_LENT, v, offset, viewed, length);
+}
+
+/* Two blocks without a number, the entry as number 0, and a plain block as 1. */
+static void record_a_run(void)
+{
+    for (size_t place = 0; place < RUN_LENGTH; place++)
+        run[place] = (uint8_t)(place % 251);
+    expect("begin", station_begin(RUN_LENT), STATION_DONE, 0);
+    expect("write unnumbered", station_write_unnumbered(RUN_LENT, run, STATION_SECTOR),
+           STATION_DONE, 0);
+    expect("write unnumbered again",
+           station_write_unnumbered(RUN_LENT, run + STATION_SECTOR, STATION_SECTOR),
+           STATION_DONE, 1);
+    hold("no number", entry(STATION_LIMIT) == 0);
+    make_entry(block, 2, RUN_LENGTH, 0);
+    expect("write the entry", station_write(RUN_LENT, 0, block, sizeof block), STATION_DONE, 2);
+    expect("write 1", station_write(RUN_LENT, 1, run, STATION_SECTOR), STATION_DONE, 3);
+    expect("no room for more", station_write_unnumbered(RUN_LENT, run, STATION_SECTOR),
+           STATION_NO_ROOM, 0);
+    expect("commit", station_commit(RUN_LENT), STATION_DONE, 4);
+}
+
+static void view_the_run(void)
+{
+    memset(ledger, 0xA5, sizeof ledger);
+    expect("mount", station_mount(RUN_LENT), STATION_DONE, 1);
+    expect("view all", view(0, 0, STATION_MOST_VIEWED), STATION_DONE, RUN_LENGTH);
+    hold("the whole run", memcmp(viewed, run, RUN_LENGTH) == 0);
+    hold("bytes behind it stay", viewed[RUN_LENGTH] == 0xC7);
+    expect("view a part", view(0, STATION_SECTOR - 1, 2), STATION_DONE, 2);
+    hold("over the border", memcmp(viewed, run + STATION_SECTOR - 1, 2) == 0);
+    expect("view at the end", view(0, RUN_LENGTH, 1), STATION_DONE, 0);
+    expect("view beyond the end", view(0, RUN_LENGTH + 1, 1), STATION_BEYOND_THE_RUN, 0);
+    expect("view far beyond it", view(0, (uint64_t)1 << 32, 1), STATION_BEYOND_THE_RUN, 0);
+    expect("view a plain block", view(1, 0, 1), STATION_NOT_A_RUN, 0);
+    expect("view what is not there", view(2, 0, 1), STATION_NOT_IN_USE, 0);
+    expect("a buffer too long", view(0, 0, sizeof viewed), STATION_LENT_LENGTH, 0);
+}
+
 /* The start exceeds 400,000, then not; the pointer's tag and extents. */
 static void close_the_session(void)
 {
@@ -215,9 +310,11 @@ int main(void)
     mount_and_read();
     look_back();
     tell_the_times();
+    record_a_run();
+    view_the_run();
     lend_wrongly();
     mount_and_read();
     close_the_session();
-    puts("recorded, mounted, read, looked back, told the times and closed");
+    puts("recorded, mounted, read, looked back, told the times, viewed a run and closed");
     return 0;
 }

@@ -1,9 +1,9 @@
 //! Document 01's claim after a list: what mount, look back and read then show
 //! is what the book has; and, by document 02, the time of each save is the one
-//! that it was made with.
+//! that it was made with, and a view shows the run whose entry the book has.
 
 use station_model::answer::Answer;
-use station_model::book::{Content, History, Snapshot};
+use station_model::book::{Content, History, InUse, Snapshot};
 use station_model::calls::Call;
 use station_model::ledger::{Volume, LEDGER};
 use station_model::table::{LIMIT, NONE, SECTOR};
@@ -11,6 +11,7 @@ use station_model::time::{Moment, Stamp, TIME};
 
 use super::core::Core;
 use super::random::Random;
+use super::runs;
 use super::station::refused;
 
 /// Compares what the core shows of a disc with the book, on a copy, or says
@@ -92,6 +93,10 @@ fn shows(copy: &mut Core, call: Call, page: &Snapshot, random: &mut Random) -> R
     })?;
     for v in (0..page.size() + 3).chain([LIMIT as u32, NONE]) {
         reads(copy, v, page).map_err(|found| format!("after {call:?}, {found}"))?;
+        let block = page.in_use(v).map_or(NONE, |entry| entry.block);
+        if runs::is_likely(&copy.disc(), block) || random.one_in(16) {
+            views(copy, v, page, random).map_err(|found| format!("after {call:?}, {found}"))?;
+        }
     }
     Ok(())
 }
@@ -117,6 +122,35 @@ fn reads(copy: &mut Core, v: u32, page: &Snapshot) -> Result<(), String> {
         format!("read {v} answers {answer:?}, the page has {expected:?}")
     })?;
     check(block == *bytes, || format!("read {v} gives other bytes"))
+}
+
+/// Shows of the run what the disc has in its extents, if the page has an entry for v.
+fn views(copy: &mut Core, v: u32, page: &Snapshot, random: &mut Random) -> Result<(), String> {
+    let before = vec![v as u8 ^ 0x3C; random.below(2 * SECTOR)];
+    let offset = runs::offset(random);
+    let mut expected = before.clone();
+    let run = match page.in_use(v) {
+        None => Err(10),
+        Some(InUse {
+            content: Content::Unreadable,
+            ..
+        }) => Err(11),
+        Some(InUse { block, .. }) => copy.disc().run_at(*block).ok_or(19),
+    };
+    let told = match run {
+        Err(refusal) => refused(refusal),
+        Ok(run) if offset > run.length() => refused(20),
+        Ok(run) => {
+            let shown = run.bytes_from(offset, before.len());
+            expected[..shown.len()].copy_from_slice(&shown);
+            Answer::done(shown.len() as u32)
+        }
+    };
+    let mut buffer = before;
+    let answer = copy.call_lent(Call::View { v, offset }, &mut buffer);
+    check(answer == told && buffer == expected, || {
+        format!("view {v} from {offset} answers {answer:?}, to be shown {told:?}")
+    })
 }
 
 fn check(holds: bool, difference: impl FnOnce() -> String) -> Result<(), String> {

@@ -9,10 +9,11 @@ use station_model::table::{vat_sector, LIMIT, NONE, SECTOR};
 use station_model::time::NO_STAMP;
 
 use super::closing::{pointer, starting, ANCHOR};
-use super::forge::vat_behind;
 use super::pair::Pair;
+use super::runs::VIEWED;
 use super::stamps::{ANSWER, HALF_PAST};
 use super::station::{done, Station};
+use super::tables::vat_behind;
 
 pub const BLOCK: [u8; SECTOR] = [0x5A; SECTOR];
 
@@ -37,6 +38,7 @@ pub fn fourth(call: Call) -> &'static [u8] {
     match call {
         Call::CommitAt => &HALF_PAST,
         Call::TimeOf(_) => &ANSWER,
+        Call::View { .. } => &VIEWED,
         _ => &BLOCK,
     }
 }
@@ -46,12 +48,14 @@ pub fn every_call(station: &Station) {
     let mut pair = Pair::shifted(station, station.image.len() / SECTOR);
     let blocks = blocks(station);
     let stamps = [HALF_PAST.to_vec(), NO_STAMP.to_vec()];
+    let views = [VIEWED[..3000].to_vec()];
     for call in calls(station) {
         let lent = match call {
-            Call::Write(_) => &blocks[..],
+            Call::Write(_) | Call::WriteUnnumbered => &blocks[..],
             Call::Read(_) => &blocks[..1],
             Call::CommitAt => &stamps[..],
             Call::TimeOf(_) => &[ANSWER.to_vec()],
+            Call::View { .. } => &views[..],
             _ => &[Vec::new()],
         };
         for buffer in lent {
@@ -78,6 +82,8 @@ fn calls(station: &Station) -> Vec<Call> {
     calls.extend(numbers.iter().map(|v| Call::Release(*v)));
     calls.extend(numbers.iter().map(|v| Call::Read(*v)));
     calls.extend(numbers.iter().map(|v| Call::Write(*v)));
+    calls.push(Call::WriteUnnumbered);
+    calls.extend(numbers.iter().map(|v| Call::View { v: *v, offset: 0 }));
     calls.extend(steps.clone().map(Call::LookBack));
     calls.extend(steps.map(Call::TimeOf));
     calls

@@ -1,15 +1,16 @@
 //! Closings, closed discs, and discs that are nearly closed.
 
-use station_model::anchor::{has_pointer_tag, pointer_sector, Anchor, Extent, MOST_START};
+use station_model::anchor::{has_pointer_tag, pointer_sector, Anchor, MOST_START};
 use station_model::calls::Call;
 use station_model::disc::{Disc, BEFORE_TABLE, BLANK, DATA, LINK, UNREADABLE};
+use station_model::extent::Extent;
 use station_model::fields::put;
 use station_model::ledger::Volume;
 use station_model::table::{vat_sector, NONE, SECTOR};
 
-use super::forge::put_sum;
 use super::random::Random;
 use super::station::Station;
+use super::tables::put_sum;
 
 /// "Closing needs links + 257 blank sectors": the pointer, 255 zero sectors and the
 /// table.

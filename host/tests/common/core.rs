@@ -35,7 +35,7 @@ impl Core {
         }
     }
 
-    /// Any of the eleven, with the fourth buffer that some are lent.
+    /// Any of the thirteen, with the fourth buffer that some are lent.
     pub fn perform(&mut self, call: Call, buffer: &mut [u8]) -> u64 {
         self.perform_short(call, buffer, Short::default())
     }
@@ -49,6 +49,7 @@ impl Core {
             Call::Begin => raw::begin(image, kinds, ledger),
             Call::Mount => raw::mount(image, kinds, ledger),
             Call::Write(v) => raw::write(image, kinds, ledger, v, buffer),
+            Call::WriteUnnumbered => raw::write_unnumbered(image, kinds, ledger, buffer),
             Call::Release(v) => raw::release(image, kinds, ledger, v),
             Call::ClosePacket => raw::close_packet(image, kinds, ledger),
             Call::Commit => raw::commit(image, kinds, ledger),
@@ -70,6 +71,7 @@ impl Core {
                 reserve.location,
                 partition_start,
             ),
+            Call::View { v, offset } => raw::view(image, kinds, ledger, v, offset, buffer),
         }
     }
 

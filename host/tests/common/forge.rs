@@ -1,18 +1,17 @@
 //! Random discs, blocks, table sectors and ledgers, also such as look right.
 
 use station_model::calls::Call;
-use station_model::disc::{Disc, DATA, UNREADABLE};
+use station_model::disc::{Disc, BLANK, DATA, UNREADABLE};
 use station_model::fields::{put, u16_at, u32_at};
 use station_model::ledger::{Volume, LEDGER, READ_ONLY};
-use station_model::table::{crc, seal, table_length, vat_sector, LIMIT, NONE, SECTOR};
+use station_model::table::{seal, LIMIT, NONE, SECTOR};
 
 use super::closing::{anchor, any_pointer};
 use super::random::Random;
+use super::runs;
 use super::stamps::{put_modified, stamp};
 use super::station::Station;
-
-/// Byte 176, where extended attributes start, and behind them the table.
-const ATTRIBUTES: usize = 176;
+use super::tables::{most_attributes, put_lengths, vat_behind, ATTRIBUTES};
 
 /// A disc of 1 to 60 sectors without a table sector: blank, or used.
 pub fn disc_without_vat(random: &mut Random) -> Station {
@@ -96,53 +95,6 @@ pub fn disc_of_chains(random: &mut Random, sectors: usize) -> Station {
         station.put_sector(block, kind, &sector);
     }
     station
-}
-
-/// A table sector as commit records it, but behind these extended attributes:
-/// "The table [...] starts at 176 + attribute length" (document 02). What would
-/// reach beyond the sector is cut off.
-pub fn vat_behind(attributes: &[u8], block: u32, map: &[u32], previous: u32) -> [u8; SECTOR] {
-    let mut sector = vat_sector(block, map, previous);
-    let table = ATTRIBUTES + attributes.len();
-    sector.copy_within(ATTRIBUTES..SECTOR - attributes.len(), table);
-    put(&mut sector, ATTRIBUTES, attributes);
-    let descriptors = table_length(map.len()) as u32;
-    put_lengths(&mut sector, attributes.len() as u32, descriptors);
-    seal(&mut sector, block);
-    sector
-}
-
-/// Puts attribute length and descriptor length, and CRC length and information
-/// length that agree with them, modulo 2 to the 16 where they are larger.
-pub fn put_lengths(sector: &mut [u8; SECTOR], attributes: u32, descriptors: u32) {
-    let crc_length = 160u32.wrapping_add(attributes).wrapping_add(descriptors);
-    put(sector, 10, &(crc_length as u16).to_le_bytes());
-    put(sector, 56, &u64::from(descriptors).to_le_bytes());
-    put(sector, 168, &attributes.to_le_bytes());
-    put(sector, 172, &descriptors.to_le_bytes());
-}
-
-/// Seals the sector for the block with a CRC over so many bytes, whatever its
-/// CRC length says.
-pub fn seal_over(sector: &mut [u8; SECTOR], block: u32, length: usize) {
-    let sum = crc(&sector[16..16 + length]);
-    put(sector, 8, &sum.to_le_bytes());
-    put(sector, 12, &block.to_le_bytes());
-    put_sum(sector);
-}
-
-/// Puts the right checksum of a tag: "sum of bytes 0 to 3 and 5 to 15, modulo 256".
-pub fn put_sum(sector: &mut [u8; SECTOR]) {
-    sector[4] = 0;
-    let all = sector[..16].iter().map(|byte| u32::from(*byte));
-    sector[4] = all.sum::<u32>() as u8;
-}
-
-/// The most bytes of attributes before a table of so many entries: "the whole
-/// must stay below one sector" (document 02), and all its lengths are multiples
-/// of 4.
-pub fn most_attributes(size: usize) -> usize {
-    SECTOR - 4 - ATTRIBUTES - table_length(size)
 }
 
 /// A table sector for the block, with right sums, that need not be one that
@@ -283,12 +235,14 @@ fn entry(random: &mut Random, below: u32) -> u32 {
     }
 }
 
-/// A block to write: random, a copy of some sector, or a table sector or a
-/// closing's pointer, or nearly one, for a block that the write may or may not take.
-pub fn block(random: &mut Random, image: &[u8], recorded: u32) -> Vec<u8> {
+/// A block to write: random, a copy of some sector, or a table sector, a closing's
+/// pointer or a run's entry, or nearly one, for a block that the write may or may
+/// not take.
+pub fn block(random: &mut Random, image: &[u8], kinds: &[u8]) -> Vec<u8> {
     let sectors = image.len() / SECTOR;
+    let recorded = kinds.iter().take_while(|kind| **kind != BLANK).count() as u32;
     let next = recorded + random.pick(&[0, 7]);
-    match random.below(11) {
+    match random.below(14) {
         0 => image[random.below(sectors) * SECTOR..][..SECTOR].to_vec(),
         1 => valid_vat(random, recorded).to_vec(),
         2 => valid_vat(random, recorded + 7).to_vec(),
@@ -298,16 +252,18 @@ pub fn block(random: &mut Random, image: &[u8], recorded: u32) -> Vec<u8> {
         }
         4 => near_vat(random, next).to_vec(),
         5 => any_pointer(random, next).to_vec(),
+        6..=8 => runs::any_entry(random, kinds, next).to_vec(),
         _ => random.bytes(SECTOR),
     }
 }
 
 /// What a call needs beside the three buffers: a block to write or to read into,
-/// a timestamp, or an answer to fill.
-pub fn buffer(random: &mut Random, call: Call, image: &[u8], recorded: u32) -> Vec<u8> {
+/// a timestamp, or an answer or a view to fill.
+pub fn buffer(random: &mut Random, call: Call, image: &[u8], kinds: &[u8]) -> Vec<u8> {
     match call {
-        Call::Write(_) => block(random, image, recorded),
+        Call::Write(_) | Call::WriteUnnumbered => block(random, image, kinds),
         Call::CommitAt => stamp(random).to_vec(),
+        Call::View { .. } => vec![random.next() as u8; runs::most_viewed(random)],
         _ => vec![random.next() as u8; call.lent_length().unwrap_or(0)],
     }
 }
@@ -382,7 +338,7 @@ pub fn number(random: &mut Random, bound: usize) -> u32 {
 
 /// Any call, with numbers near those that mean something.
 pub fn call(random: &mut Random, size: usize, tables: usize) -> Call {
-    match random.below(25) {
+    match random.below(31) {
         0 => Call::Begin,
         1 => Call::Mount,
         2..=7 => Call::Write(number(random, size)),
@@ -393,6 +349,11 @@ pub fn call(random: &mut Random, size: usize, tables: usize) -> Call {
         15..=17 => Call::Read(number(random, size)),
         18..=20 => Call::LookBack(number(random, tables)),
         21..=23 => Call::TimeOf(number(random, tables)),
-        _ => Call::CloseSession(anchor(random)),
+        24 => Call::CloseSession(anchor(random)),
+        25..=26 => Call::WriteUnnumbered,
+        _ => Call::View {
+            v: number(random, size),
+            offset: runs::offset(random),
+        },
     }
 }

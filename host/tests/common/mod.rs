@@ -15,6 +15,8 @@ pub mod guarded;
 pub mod pair;
 pub mod random;
 pub mod recogniser;
+pub mod runs;
 pub mod stamps;
 pub mod station;
+pub mod tables;
 pub mod tally;

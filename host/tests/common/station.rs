@@ -2,8 +2,9 @@
 //! and on the model, and all that they leave is compared.
 
 use station_model::answer::Answer;
-use station_model::calls::{effect, Call, Effect, Lent};
+use station_model::calls::{effect, Call, Lent};
 use station_model::disc::{fail_power, Disc};
+use station_model::effect::Effect;
 use station_model::fields::u32_at;
 use station_model::ledger::{Volume, LEDGER};
 use station_model::table::SECTOR;
@@ -76,6 +77,10 @@ impl Station {
         self.call_lent(Call::Write(v), &mut block.to_vec())
     }
 
+    pub fn write_unnumbered(&mut self, block: &[u8]) -> Answer {
+        self.call_lent(Call::WriteUnnumbered, &mut block.to_vec())
+    }
+
     pub fn commit_at(&mut self, stamp: &[u8]) -> Answer {
         self.call_lent(Call::CommitAt, &mut stamp.to_vec())
     }
@@ -97,6 +102,19 @@ impl Station {
         let mut block = [before; SECTOR];
         let answer = self.call_lent(Call::Read(v), &mut block);
         (answer, block)
+    }
+
+    /// What a view of so many bytes shows. A refusal leaves the lent buffer as it
+    /// was, and what is shown the bytes behind it.
+    pub fn view(&mut self, v: u32, offset: u64, most: usize) -> Result<Vec<u8>, u32> {
+        let mut buffer = vec![0xC7; most];
+        let answer = self.call_lent(Call::View { v, offset }, &mut buffer);
+        let behind = buffer.split_off(answer.second as usize);
+        assert!(behind.iter().all(|byte| *byte == 0xC7), "{answer:?}");
+        match answer.outcome {
+            0 => Ok(buffer),
+            refusal => Err(refusal),
+        }
     }
 
     /// What the call would do, if it is not refused.

@@ -9,10 +9,11 @@ use station_model::calls::Call;
 use super::closing::CLOSING;
 
 /// The calls, in the order of their columns.
-const NAMES: [&str; 11] = [
+const NAMES: [&str; 13] = [
     "begin",
     "mount",
     "write",
+    "unnumbered",
     "release",
     "close",
     "commit",
@@ -21,11 +22,12 @@ const NAMES: [&str; 11] = [
     "look",
     "time of",
     "closing",
+    "view",
 ];
 const CALLS: usize = NAMES.len();
 
-/// Done, and refusals 1 to 18.
-const OUTCOMES: usize = 19;
+/// Done, and refusals 1 to 20.
+const OUTCOMES: usize = 21;
 
 #[derive(Default)]
 pub struct Tally {
@@ -101,7 +103,7 @@ impl fmt::Display for Tally {
         writeln!(out, "{} calls may not follow a cut", self.skipped)?;
         writeln!(out, "{}", NAMES.join(", "))?;
         writeln!(out, "  done {:?}, cut {:?}", self.done, self.cut)?;
-        writeln!(out, "refusals 1 to 18: {:?}", &self.refused[1..])?;
+        writeln!(out, "refusals 1 to 20: {:?}", &self.refused[1..])?;
         writeln!(out, "cut after 0 to 8 sectors: {:?}", self.cut_after)?;
         let places = "before the pointer, behind it, before the table, behind it";
         write!(out, "closings cut {places}: {:?}", self.closing_cut)
@@ -113,14 +115,16 @@ fn column(call: Call) -> usize {
         Call::Begin => 0,
         Call::Mount => 1,
         Call::Write(_) => 2,
-        Call::Release(_) => 3,
-        Call::ClosePacket => 4,
-        Call::Commit => 5,
-        Call::CommitAt => 6,
-        Call::Read(_) => 7,
-        Call::LookBack(_) => 8,
-        Call::TimeOf(_) => 9,
-        Call::CloseSession(_) => 10,
+        Call::WriteUnnumbered => 3,
+        Call::Release(_) => 4,
+        Call::ClosePacket => 5,
+        Call::Commit => 6,
+        Call::CommitAt => 7,
+        Call::Read(_) => 8,
+        Call::LookBack(_) => 9,
+        Call::TimeOf(_) => 10,
+        Call::CloseSession(_) => 11,
+        Call::View { .. } => 12,
     }
 }
 
@@ -133,6 +137,7 @@ const POSSIBLE: [&[usize]; CALLS] = [
     &[0, 1, 2, 3, 6],
     &[0, 1, 2, 3, 7],
     &[0, 1, 2, 3, 4, 5, 12, 13, 14, 15, 17],
+    &[0, 1, 2, 3, 4, 5, 14, 15, 17],
     &[0, 1, 2, 3, 4, 5, 10, 17],
     &[0, 1, 2, 3, 4, 5, 17],
     &[0, 1, 2, 3, 4, 5, 14, 17],
@@ -141,6 +146,7 @@ const POSSIBLE: [&[usize]; CALLS] = [
     &[0, 1, 2, 3, 7, 8, 9],
     &[0, 1, 2, 3, 7, 8, 9, 16],
     &[0, 1, 2, 3, 4, 5, 14, 17, 18],
+    &[0, 1, 2, 3, 4, 10, 11, 19, 20],
 ];
 
 impl Outcomes {
@@ -175,9 +181,9 @@ impl Outcomes {
 
 impl fmt::Display for Outcomes {
     fn fmt(&self, out: &mut fmt::Formatter) -> fmt::Result {
-        writeln!(out, "{} calls compared; outcomes 0 to 18:", self.calls())?;
+        writeln!(out, "{} calls compared; outcomes 0 to 20:", self.calls())?;
         for (name, row) in NAMES.iter().zip(&self.0) {
-            writeln!(out, "{name:>9} {row:?}")?;
+            writeln!(out, "{name:>10} {row:?}")?;
         }
         Ok(())
     }

@@ -146,6 +146,29 @@ pub fn vat_icbs(image: &[u8]) -> Vec<usize> {
     found.map(|(block, _)| block).collect()
 }
 
+/// The block that holds a directory's file entry, tagged for it: the root's alone.
+pub fn root_entry(image: &[u8]) -> usize {
+    let sectors = image.chunks_exact(SECTOR).enumerate();
+    let found: Vec<usize> = sectors
+        .filter(|(block, sector)| is_tagged(sector, &[FILE_ENTRY], *block) && sector[27] == 4)
+        .map(|(block, _)| block)
+        .collect();
+    assert_eq!(found.len(), 1, "one directory");
+    found[0]
+}
+
+/// A file entry's short allocation descriptors (ECMA-167 4/14.14.1), behind its
+/// attributes; the type is in the length's high bits.
+pub fn extents(sector: &[u8]) -> Vec<Extent> {
+    let descriptors = table(sector).chunks_exact(8);
+    descriptors
+        .map(|descriptor| Extent {
+            length: u32_at(descriptor, 0),
+            location: u32_at(descriptor, 4),
+        })
+        .collect()
+}
+
 /// A file entry's extended attributes. Like its table, they are empty where
 /// their lengths leave the sector.
 pub fn attributes(sector: &[u8]) -> &[u8] {
@@ -192,6 +215,41 @@ pub fn rows_not_kept(sector: &[u8], block: usize) -> Vec<&'static str> {
     rows.extend(table_rows(sector, block));
     let not_kept = rows.into_iter().filter(|(_, kept)| !kept);
     not_kept.map(|(row, _)| row).collect()
+}
+
+/// Document 02's rows of a run's entry that a file entry at this block does not keep,
+/// by name, on a disc that is all data.
+pub fn run_rows_not_kept(sector: &[u8], block: usize) -> Vec<&'static str> {
+    let mut rows = Vec::from(tag_rows(sector, block));
+    rows.extend(run_rows(sector, block));
+    let not_kept = rows.into_iter().filter(|(_, kept)| !kept);
+    not_kept.map(|(row, _)| row).collect()
+}
+
+/// Bytes 20 to 175 and the allocation descriptors: "file type 5, [...] strategy 4, no
+/// attributes, allocation type 0"; "1 to 100 short allocation descriptors of extent
+/// type 0"; "below the entry's block, whole sectors but the last, none empty".
+fn run_rows(sector: &[u8], block: usize) -> [Row; 7] {
+    let extents = extents(sector);
+    let (count, length) = (extents.len(), u32_at(sector, 172) as usize);
+    let total: u64 = extents.iter().map(|extent| u64::from(extent.length)).sum();
+    let below = |extent: &Extent| {
+        extent.location as usize + (extent.length as usize).div_ceil(SECTOR) <= block
+    };
+    let held = |(m, extent): (usize, &Extent)| {
+        let whole = extent.length as usize % SECTOR == 0 || m + 1 == count;
+        whole && (1..1 << 30).contains(&extent.length)
+    };
+    let suit = (1..=100).contains(&count) && 8 * count == length;
+    [
+        ("strategy", u16_at(sector, 20) == 4),
+        ("file type", sector[27] == 5),
+        ("allocation type", sector[34] % 8 == 0),
+        ("extents", suit && extents.iter().enumerate().all(held)),
+        ("extents below the entry", extents.iter().all(below)),
+        ("information length", u64_at(sector, 56) == total),
+        ("attribute length", u32_at(sector, 168) == 0),
+    ]
 }
 
 type Row = (&'static str, bool);

@@ -4,7 +4,7 @@
 
 use station::{Extent, Refusal, SaveTime, Timestamp, LEDGER, SECTOR};
 
-use super::descriptors::{partition, u32_at, NONE};
+use super::descriptors::{partition, put, u32_at, NONE};
 
 const BLANK: u8 = 0;
 const DATA: u8 = 1;
@@ -111,6 +111,33 @@ impl Disc {
         let mut block = vec![0; SECTOR];
         station::read(&self.image, &self.kinds, &self.ledger, v, &mut block)?;
         Ok(block)
+    }
+
+    /// What a view shows, of at most so many bytes.
+    pub fn view(&self, v: u32, offset: u64, most: usize) -> Result<Vec<u8>, Refusal> {
+        let mut shown = vec![0xC7; most];
+        let filled = station::view(
+            &self.image,
+            &self.kinds,
+            &self.ledger,
+            v,
+            offset,
+            &mut shown,
+        )?;
+        let behind = shown.split_off(filled as usize);
+        assert!(behind.iter().all(|byte| *byte == 0xC7), "bytes behind");
+        Ok(shown)
+    }
+
+    /// Lets the ledger have this recorded block as number v, which is its size.
+    pub fn name(&mut self, v: u32, block: usize) {
+        assert_eq!(u32_at(&self.ledger, 1832), v, "the size");
+        put(
+            &mut self.ledger,
+            4 * v as usize,
+            &(block as u32).to_le_bytes(),
+        );
+        put(&mut self.ledger, 1832, &(v + 1).to_le_bytes());
     }
 
     /// Records a block as number v; the block's place.

@@ -22,10 +22,10 @@ start-of c = c .before .before .before .before .before
 abbrev tested : tie.After-slice-known2 → tie.After-open-disc
 tested c = c .before .before
 
-abbrev test-of : tie.After-station-mount → tie.Else1
+abbrev test-of : tie.After-mount → tie.Else1
 test-of c = c .before .before
 
-abbrev last-call : tie.After-slice-known3 → tie.After-station-mount
+abbrev last-call : tie.After-slice-known3 → tie.After-mount
 last-call c = c .before .before
 
 -- the first part of the day
@@ -49,8 +49,8 @@ returns c =
       λ a. absurd (not-done (X s) (first-part s) [] (begun o) (c .if1 .taken) a),
     )
 
-station-mount-requires : tie.Need-station-mount-requires
-station-mount-requires c κs = search needs
+mount-requires : tie.Need-mount-requires
+mount-requires c κs = search needs
 
 same-length-2 : tie.Need-same-length-2
 same-length-2 c = search needs
@@ -61,7 +61,7 @@ returns-2 c =
     let e = test-of l in
     let o = tested (e .before) in
     let s = start-of o in
-    let both = one (s .args .image .now) (s .args .kinds .now) (o .open-disc .last .1 .1 .0) (mount) (l .station-mount .ensures) ∙ goes-on (X s) (first-part s) [] (begun o) (mount) (e .if1 .left) in (
+    let both = one (s .args .image .now) (s .args .kinds .now) (o .open-disc .last .1 .1 .0) (mount) (l .mount .ensures) ∙ goes-on (X s) (first-part s) [] (begun o) (mount) (e .if1 .left) in (
       both,
       λ a. ap (λ (y : Day). y .answer) both ∙ nothing-mounts (X s) (omega arith) a,
     )
@@ -73,6 +73,6 @@ begin-and-mount-spec =
     open-disc-requires
     same-length
     returns
-    station-mount-requires
+    mount-requires
     same-length-2
     returns-2)

@@ -2,7 +2,7 @@
 -- Assumes nothing.
 use mathlib.Core.Path.{_≡_, _∙_}
 use mathlib.Core.List.{List, [], _∷_}
-use Rattle.anchor.specs.Anchor.{extent}
+use mathlib.Core.Option.{some}
 use Rattle.recorder.specs.Calls.{Call, write, closeSession}
 use Rattle.client.specs.Day.{Day, ended, morning, day, opening}
 use Rattle.client.proofs.Days.{one, stops, goes-on}
@@ -21,19 +21,19 @@ start-of c = c .before .before .before .before .before .before .before .before
 abbrev tested : tie.After-slice-known6 → tie.After-write-first
 tested c = c .before .before .before .before .before .before
 
-abbrev test-of : tie.After-station-close-session → tie.Else1
+abbrev test-of : tie.After-close-session → tie.Else1
 test-of c = c .before .before .before .before
 
-abbrev last-call : tie.After-slice-known9 → tie.After-station-close-session
+abbrev last-call : tie.After-slice-known9 → tie.After-close-session
 last-call c = c .before .before .before .before .before .before
 
 -- the first part of the day
 abbrev first-part : tie.Start → List Call
-first-part s = opening (s .args .fresh) ∷ write (s .args .v) (s .args .block .now) ∷ []
+first-part s = opening (s .args .fresh) ∷ write (some (s .args .v)) (s .args .block .now) ∷ []
 
 -- and the closing
 abbrev closing : tie.Start → Call
-closing s = let a = s .args in closeSession (extent (a .main-length) (a .main-location)) (extent (a .reserve-length) (a .reserve-location)) (a .start)
+closing s = let a = s .args in closeSession (a .main) (a .reserve) (a .start)
 
 begun : (c : tie.After-write-first) → ended (c .write-first .result) (c .write-first .last .0) (c .write-first .last .1 .0) (c .write-first .last .1 .1 .0) ≡ day (X (start-of c)) (first-part (start-of c))
 begun c = c .write-first .ensures
@@ -56,8 +56,8 @@ returns c =
     let s = start-of o in
     stops (X s) (first-part s) (closing s ∷ []) (begun o) (c .if1 .taken)
 
-station-close-session-requires : tie.Need-station-close-session-requires
-station-close-session-requires c κs = search needs
+close-session-requires : tie.Need-close-session-requires
+close-session-requires c κs = search needs
 
 same-length-4 : tie.Need-same-length-4
 same-length-4 c = search needs
@@ -74,7 +74,7 @@ returns-2 c =
     let e = test-of l in
     let o = tested (e .before) in
     let s = start-of o in
-    one (o .write-first .last .0) (o .write-first .last .1 .0) (o .write-first .last .1 .1 .0) (closing s) (l .station-close-session .ensures) ∙ goes-on (X s) (first-part s) [] (begun o) (closing s) (e .if1 .left)
+    one (o .write-first .last .0) (o .write-first .last .1 .0) (o .write-first .last .1 .1 .0) (closing s) (l .close-session .ensures) ∙ goes-on (X s) (first-part s) [] (begun o) (closing s) (e .if1 .left)
 
 pub close-spec : {M : Type 1} → statement M
 close-spec =
@@ -85,7 +85,7 @@ close-spec =
     same-length-2
     same-length-3
     returns
-    station-close-session-requires
+    close-session-requires
     same-length-4
     same-length-5
     same-length-6

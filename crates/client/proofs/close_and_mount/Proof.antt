@@ -2,8 +2,8 @@
 -- Assumes nothing.
 use mathlib.Core.Path.{_≡_, refl, _∙_}
 use mathlib.Core.List.{List, [], _∷_}
+use mathlib.Core.Option.{some}
 use native.Mathlib.Omega.{arith}
-use Rattle.anchor.specs.Anchor.{extent}
 use Rattle.recorder.specs.Calls.{Call, mount, write, closeSession}
 use Rattle.client.specs.Day.{Day, ended, morning, day, opening}
 use Rattle.client.proofs.Days.{one, stops, goes-on, not-done}
@@ -23,19 +23,19 @@ start-of c = c .before .before .before .before .before .before .before .before
 abbrev tested : tie.After-slice-known6 → tie.After-close
 tested c = c .before .before .before .before .before .before
 
-abbrev test-of : tie.After-station-mount → tie.Else1
+abbrev test-of : tie.After-mount → tie.Else1
 test-of c = c .before .before .before .before
 
-abbrev last-call : tie.After-slice-known7 → tie.After-station-mount
+abbrev last-call : tie.After-slice-known7 → tie.After-mount
 last-call c = c .before .before
 
 -- the closing
 abbrev closing : tie.Start → Call
-closing s = let a = s .args in closeSession (extent (a .main-length) (a .main-location)) (extent (a .reserve-length) (a .reserve-location)) (a .start)
+closing s = let a = s .args in closeSession (a .main) (a .reserve) (a .start)
 
 -- the first part of the day
 abbrev first-part : tie.Start → List Call
-first-part s = opening (s .args .fresh) ∷ write (s .args .v) (s .args .block .now) ∷ closing s ∷ []
+first-part s = opening (s .args .fresh) ∷ write (some (s .args .v)) (s .args .block .now) ∷ closing s ∷ []
 
 begun : (c : tie.After-close) → ended (c .close .result) (c .close .last .0) (c .close .last .1 .0) (c .close .last .1 .1 .0) ≡ day (X (start-of c)) (first-part (start-of c))
 begun c = c .close .ensures
@@ -60,8 +60,8 @@ returns c =
       λ a. absurd (not-done (X s) (first-part s) [] (begun o) (c .if1 .taken) a),
     )
 
-station-mount-requires : tie.Need-station-mount-requires
-station-mount-requires c κs = search needs
+mount-requires : tie.Need-mount-requires
+mount-requires c κs = search needs
 
 same-length-4 : tie.Need-same-length-4
 same-length-4 c = search needs
@@ -78,7 +78,7 @@ returns-2 c =
     let e = test-of l in
     let o = tested (e .before) in
     let s = start-of o in
-    let both = one (o .close .last .0) (o .close .last .1 .0) (o .close .last .1 .1 .0) (mount) (l .station-mount .ensures) ∙ goes-on (X s) (first-part s) [] (begun o) (mount) (e .if1 .left) in (
+    let both = one (o .close .last .0) (o .close .last .1 .0) (o .close .last .1 .1 .0) (mount) (l .mount .ensures) ∙ goes-on (X s) (first-part s) [] (begun o) (mount) (e .if1 .left) in (
       both,
       λ a. mounted-shows (X s) (s .args .fresh) (omega arith) (s .args .v) (s .args .block .now) (closing s) refl a both,
     )
@@ -92,7 +92,7 @@ close-and-mount-spec =
     same-length-2
     same-length-3
     returns
-    station-mount-requires
+    mount-requires
     same-length-4
     same-length-5
     same-length-6

@@ -21,19 +21,19 @@ start-of c = c .before .before .before .before .before .before .before
 abbrev first-call : tie.After-slice-known4 → tie.After-open-disc
 first-call c = c .before .before
 
-abbrev first-test : tie.After-station-release → tie.Else1
+abbrev first-test : tie.After-release → tie.Else1
 first-test c = c .before .before .before .before
 
-abbrev second-call : tie.After-slice-known5 → tie.After-station-release
+abbrev second-call : tie.After-slice-known5 → tie.After-release
 second-call c = c .before .before
 
-abbrev second-test : tie.After-station-commit → tie.Else2
+abbrev second-test : tie.After-commit → tie.Else2
 second-test c = c .before .before .before .before
 
-abbrev last-call : tie.After-slice-known8 → tie.After-station-commit
+abbrev last-call : tie.After-slice-known8 → tie.After-commit
 last-call c = c .before .before .before .before .before .before
 
-abbrev start-back : tie.After-station-release → tie.Start
+abbrev start-back : tie.After-release → tie.Start
 start-back c = start-of (first-call (first-test c .before))
 
 -- the day up to the first call, and up to the second
@@ -46,11 +46,11 @@ second-part s = mount ∷ release (s .args .v) ∷ []
 begun : (c : tie.After-open-disc) → ended (c .open-disc .result) (start-of c .args .image .now) (start-of c .args .kinds .now) (c .open-disc .last .1 .1 .0) ≡ day (X (start-of c)) (first-part (start-of c))
 begun c = c .open-disc .ensures
 
-followed : (c : tie.After-station-release) → let o = first-call (first-test c .before) in ended (c .station-release .result) (start-of o .args .image .now) (start-of o .args .kinds .now) (c .station-release .last .1 .1 .0) ≡ day (X (start-back c)) (second-part (start-back c))
+followed : (c : tie.After-release) → let o = first-call (first-test c .before) in ended (c .release .result) (start-of o .args .image .now) (start-of o .args .kinds .now) (c .release .last .1 .1 .0) ≡ day (X (start-back c)) (second-part (start-back c))
 followed c =
     let o = first-call (first-test c .before) in
     let s = start-of o in
-    one (start-of o .args .image .now) (start-of o .args .kinds .now) (o .open-disc .last .1 .1 .0) (release (s .args .v)) (c .station-release .ensures) ∙ goes-on (X s) (first-part s) [] (begun o) (release (s .args .v)) (first-test c .if1 .left)
+    one (start-of o .args .image .now) (start-of o .args .kinds .now) (o .open-disc .last .1 .1 .0) (release (s .args .v)) (c .release .ensures) ∙ goes-on (X s) (first-part s) [] (begun o) (release (s .args .v)) (first-test c .if1 .left)
 
 open-disc-requires : tie.Need-open-disc-requires
 open-disc-requires c κs = search needs
@@ -70,8 +70,8 @@ returns c =
     let s = start-of o in
     stops (X s) (first-part s) (release (s .args .v) ∷ commit none ∷ []) (begun o) (c .if1 .taken)
 
-station-release-requires : tie.Need-station-release-requires
-station-release-requires c κs = search needs
+release-requires : tie.Need-release-requires
+release-requires c κs = search needs
 
 same-length-4 : tie.Need-same-length-4
 same-length-4 c = search needs
@@ -88,8 +88,8 @@ returns-2 c =
     let s = start-back b in
     stops (X s) (second-part s) (commit none ∷ []) (followed b) (c .if2 .taken)
 
-station-commit-requires : tie.Need-station-commit-requires
-station-commit-requires c κs = search needs
+commit-requires : tie.Need-commit-requires
+commit-requires c κs = search needs
 
 same-length-7 : tie.Need-same-length-7
 same-length-7 c = search needs
@@ -107,7 +107,7 @@ returns-3 c =
     let b = second-call (e .before) in
     let o = first-call (first-test b .before) in
     let s = start-of o in
-    one (start-of o .args .image .now) (start-of o .args .kinds .now) (b .station-release .last .1 .1 .0) (commit none) (l .station-commit .ensures) ∙ goes-on (X s) (second-part s) [] (followed b) (commit none) (e .if2 .left)
+    one (start-of o .args .image .now) (start-of o .args .kinds .now) (b .release .last .1 .1 .0) (commit none) (l .commit .ensures) ∙ goes-on (X s) (second-part s) [] (followed b) (commit none) (e .if2 .left)
 
 pub forget-spec : {M : Type 1} → statement M
 forget-spec =
@@ -118,12 +118,12 @@ forget-spec =
     same-length-2
     same-length-3
     returns
-    station-release-requires
+    release-requires
     same-length-4
     same-length-5
     same-length-6
     returns-2
-    station-commit-requires
+    commit-requires
     same-length-7
     same-length-8
     same-length-9

@@ -20,8 +20,8 @@ fresh-start c = c .before .before .before .before
 abbrev later-start : tie.Else1 → tie.Start
 later-start c = c .before .before .before .before
 
-station-begin-requires : tie.Need-station-begin-requires
-station-begin-requires c κs = search needs
+begin-requires : tie.Need-begin-requires
+begin-requires c κs = search needs
 
 same-length : tie.Need-same-length
 same-length c = search needs
@@ -31,10 +31,10 @@ returns c =
     let b = c .before .before in
     let t = b .before .before in
     let s = fresh-start t in
-    one (s .args .image .now) (s .args .kinds .now) (s .args .ledger .now) begin (b .station-begin .ensures) ∙ ap (λ (t : Bool). day (X s) (opening t ∷ [])) (sym (t .if1 .taken))
+    one (s .args .image .now) (s .args .kinds .now) (s .args .ledger .now) begin (b .begin .ensures) ∙ ap (λ (t : Bool). day (X s) (opening t ∷ [])) (sym (t .if1 .taken))
 
-station-mount-requires : tie.Need-station-mount-requires
-station-mount-requires c κs = search needs
+mount-requires : tie.Need-mount-requires
+mount-requires c κs = search needs
 
 same-length-2 : tie.Need-same-length-2
 same-length-2 c = search needs
@@ -44,15 +44,15 @@ returns-2 c =
     let m = c .before .before in
     let e = m .before .before in
     let s = later-start e in
-    one (s .args .image .now) (s .args .kinds .now) (s .args .ledger .now) mount (m .station-mount .ensures) ∙ ap (λ (t : Bool). day (X s) (opening t ∷ [])) (sym (e .if1 .left))
+    one (s .args .image .now) (s .args .kinds .now) (s .args .ledger .now) mount (m .mount .ensures) ∙ ap (λ (t : Bool). day (X s) (opening t ∷ [])) (sym (e .if1 .left))
 
 pub open-disc-spec : {M : Type 1} → statement M
 open-disc-spec =
     tie.close
     (tie.spec
-    station-begin-requires
+    begin-requires
     same-length
     returns
-    station-mount-requires
+    mount-requires
     same-length-2
     returns-2)

@@ -1,7 +1,7 @@
 -- `client::save_and_look_back` meets its contract: a save, then a look back.
 -- Assumes nothing.
 use mathlib.Core.Path.{_≡_, refl, _∙_}
-use mathlib.Core.Option.{none}
+use mathlib.Core.Option.{none, some}
 use mathlib.Core.List.{List, [], _∷_}
 use native.Mathlib.Omega.{arith}
 use Rattle.recorder.specs.Calls.{Call, write, commit, lookBack}
@@ -23,15 +23,15 @@ start-of c = c .before .before .before .before .before .before .before .before
 abbrev tested : tie.After-slice-known6 → tie.After-save
 tested c = c .before .before .before .before .before .before
 
-abbrev test-of : tie.After-station-look-back → tie.Else1
+abbrev test-of : tie.After-look-back → tie.Else1
 test-of c = c .before .before .before .before
 
-abbrev last-call : tie.After-slice-known7 → tie.After-station-look-back
+abbrev last-call : tie.After-slice-known7 → tie.After-look-back
 last-call c = c .before .before
 
 -- the first part of the day
 abbrev first-part : tie.Start → List Call
-first-part s = opening (s .args .fresh) ∷ write (s .args .v) (s .args .block .now) ∷ commit none ∷ []
+first-part s = opening (s .args .fresh) ∷ write (some (s .args .v)) (s .args .block .now) ∷ commit none ∷ []
 
 begun : (c : tie.After-save) → ended (c .save .result) (c .save .last .0) (c .save .last .1 .0) (c .save .last .1 .1 .0) ≡ day (X (start-of c)) (first-part (start-of c))
 begun c = c .save .ensures
@@ -56,8 +56,8 @@ returns c =
       λ a. absurd (not-done (X s) (first-part s) [] (begun o) (c .if1 .taken) a),
     )
 
-station-look-back-requires : tie.Need-station-look-back-requires
-station-look-back-requires c κs = search needs
+look-back-requires : tie.Need-look-back-requires
+look-back-requires c κs = search needs
 
 same-length-4 : tie.Need-same-length-4
 same-length-4 c = search needs
@@ -74,7 +74,7 @@ returns-2 c =
     let e = test-of l in
     let o = tested (e .before) in
     let s = start-of o in
-    let both = one (o .save .last .0) (o .save .last .1 .0) (o .save .last .1 .1 .0) (lookBack 1) (l .station-look-back .ensures) ∙ goes-on (X s) (first-part s) [] (begun o) (lookBack 1) (e .if1 .left) in (
+    let both = one (o .save .last .0) (o .save .last .1 .0) (o .save .last .1 .1 .0) (lookBack 1) (l .look-back .ensures) ∙ goes-on (X s) (first-part s) [] (begun o) (lookBack 1) (e .if1 .left) in (
       both,
       λ a. saved-back (X s) (s .args .fresh) (omega arith) (s .args .v) (s .args .block .now) (commit none) refl a both,
     )
@@ -88,7 +88,7 @@ save-and-look-back-spec =
     same-length-2
     same-length-3
     returns
-    station-look-back-requires
+    look-back-requires
     same-length-4
     same-length-5
     same-length-6

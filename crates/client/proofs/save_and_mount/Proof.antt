@@ -1,7 +1,7 @@
 -- `client::save_and_mount` meets its contract: a save, then a mount.
 -- Assumes nothing.
 use mathlib.Core.Path.{_≡_, refl, _∙_}
-use mathlib.Core.Option.{none}
+use mathlib.Core.Option.{none, some}
 use mathlib.Core.List.{List, [], _∷_}
 use native.Mathlib.Omega.{arith}
 use Rattle.recorder.specs.Calls.{Call, mount, write, commit}
@@ -23,15 +23,15 @@ start-of c = c .before .before .before .before .before .before .before .before
 abbrev tested : tie.After-slice-known6 → tie.After-save
 tested c = c .before .before .before .before .before .before
 
-abbrev test-of : tie.After-station-mount → tie.Else1
+abbrev test-of : tie.After-mount → tie.Else1
 test-of c = c .before .before .before .before
 
-abbrev last-call : tie.After-slice-known7 → tie.After-station-mount
+abbrev last-call : tie.After-slice-known7 → tie.After-mount
 last-call c = c .before .before
 
 -- the first part of the day
 abbrev first-part : tie.Start → List Call
-first-part s = opening (s .args .fresh) ∷ write (s .args .v) (s .args .block .now) ∷ commit none ∷ []
+first-part s = opening (s .args .fresh) ∷ write (some (s .args .v)) (s .args .block .now) ∷ commit none ∷ []
 
 begun : (c : tie.After-save) → ended (c .save .result) (c .save .last .0) (c .save .last .1 .0) (c .save .last .1 .1 .0) ≡ day (X (start-of c)) (first-part (start-of c))
 begun c = c .save .ensures
@@ -56,8 +56,8 @@ returns c =
       λ a. absurd (not-done (X s) (first-part s) [] (begun o) (c .if1 .taken) a),
     )
 
-station-mount-requires : tie.Need-station-mount-requires
-station-mount-requires c κs = search needs
+mount-requires : tie.Need-mount-requires
+mount-requires c κs = search needs
 
 same-length-4 : tie.Need-same-length-4
 same-length-4 c = search needs
@@ -74,7 +74,7 @@ returns-2 c =
     let e = test-of l in
     let o = tested (e .before) in
     let s = start-of o in
-    let both = one (o .save .last .0) (o .save .last .1 .0) (o .save .last .1 .1 .0) (mount) (l .station-mount .ensures) ∙ goes-on (X s) (first-part s) [] (begun o) (mount) (e .if1 .left) in (
+    let both = one (o .save .last .0) (o .save .last .1 .0) (o .save .last .1 .1 .0) (mount) (l .mount .ensures) ∙ goes-on (X s) (first-part s) [] (begun o) (mount) (e .if1 .left) in (
       both,
       λ a. mounted-shows (X s) (s .args .fresh) (omega arith) (s .args .v) (s .args .block .now) (commit none) refl a both,
     )
@@ -88,7 +88,7 @@ save-and-mount-spec =
     same-length-2
     same-length-3
     returns
-    station-mount-requires
+    mount-requires
     same-length-4
     same-length-5
     same-length-6

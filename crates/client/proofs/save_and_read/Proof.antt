@@ -1,7 +1,7 @@
 -- `client::save_and_read` meets its contract: a save and a mount, then a read.
 -- Assumes nothing.
 use mathlib.Core.Path.{_≡_, refl, ap, _∙_}
-use mathlib.Core.Option.{none}
+use mathlib.Core.Option.{none, some}
 use mathlib.Core.List.{List, [], _∷_}
 use native.Mathlib.Omega.{arith}
 use Rattle.recorder.specs.Calls.{Call, mount, write, commit, read}
@@ -19,7 +19,7 @@ abbrev X : tie.Start → Day
 X s = morning (s .args .image .now) (s .args .kinds .now) (s .args .ledger .now)
 
 abbrev saved : tie.Start → List Call
-saved s = opening (s .args .fresh) ∷ write (s .args .v) (s .args .block .now) ∷ commit none ∷ []
+saved s = opening (s .args .fresh) ∷ write (some (s .args .v)) (s .args .block .now) ∷ commit none ∷ []
 
 -- the places: the call that the test is about, the test, the last call
 abbrev start-of : tie.After-save-and-mount → tie.Start
@@ -28,15 +28,15 @@ start-of c = c .before .before .before .before .before .before .before .before .
 abbrev tested : tie.After-slice-known7 → tie.After-save-and-mount
 tested c = c .before .before .before .before .before .before
 
-abbrev test-of : tie.After-station-read → tie.Else1
+abbrev test-of : tie.After-read → tie.Else1
 test-of c = c .before .before .before .before .before
 
-abbrev last-call : tie.After-slice-known8 → tie.After-station-read
+abbrev last-call : tie.After-slice-known8 → tie.After-read
 last-call c = c .before .before
 
 -- the first part of the day
 abbrev first-part : tie.Start → List Call
-first-part s = opening (s .args .fresh) ∷ write (s .args .v) (s .args .block .now) ∷ commit none ∷ mount ∷ []
+first-part s = opening (s .args .fresh) ∷ write (some (s .args .v)) (s .args .block .now) ∷ commit none ∷ mount ∷ []
 
 begun : (c : tie.After-save-and-mount) → ended (c .save-and-mount .result) (c .save-and-mount .last .0) (c .save-and-mount .last .1 .0) (c .save-and-mount .last .1 .1 .0) ≡ day (X (start-of c)) (first-part (start-of c))
 begun c = c .save-and-mount .ensures .0
@@ -61,8 +61,8 @@ returns c =
       λ a long. absurd (let told = o .save-and-mount .ensures .1 a .clean in omega (arith, told, c .if1 .taken)),
     )
 
-station-read-requires : tie.Need-station-read-requires
-station-read-requires c κs = search needs
+read-requires : tie.Need-read-requires
+read-requires c κs = search needs
 
 same-length-4 : tie.Need-same-length-4
 same-length-4 c = search needs
@@ -82,9 +82,9 @@ returns-2 c =
     let e = test-of l in
     let o = tested (e .before) in
     let s = start-of o in
-    let both = one (o .save-and-mount .last .0) (o .save-and-mount .last .1 .0) (o .save-and-mount .last .1 .1 .0) (read (s .args .v) (s .args .out .now)) (l .station-read .ensures) ∙ goes-on (X s) (first-part s) [] (begun o) (read (s .args .v) (s .args .out .now)) (e .if1 .left) in (
+    let both = one (o .save-and-mount .last .0) (o .save-and-mount .last .1 .0) (o .save-and-mount .last .1 .1 .0) (read (s .args .v) (s .args .out .now)) (l .read .ensures) ∙ goes-on (X s) (first-part s) [] (begun o) (read (s .args .v) (s .args .out .now)) (e .if1 .left) in (
       both,
-      λ a long. given-behind (X s) (saved s) (saved-reads (X s) (s .args .fresh) (omega arith) (s .args .v) (s .args .block .now) (commit none) refl a (s .args .out .now) long) both (begun o) (ap (λ (y : After). y .buffer) (l .station-read .ensures)),
+      λ a long. given-behind (X s) (saved s) (saved-reads (X s) (s .args .fresh) (omega arith) (s .args .v) (s .args .block .now) (commit none) refl a (s .args .out .now) long) both (begun o) (ap (λ (y : After). y .buffer) (l .read .ensures)),
     )
 
 pub save-and-read-spec : {M : Type 1} → statement M
@@ -96,7 +96,7 @@ save-and-read-spec =
     same-length-2
     same-length-3
     returns
-    station-read-requires
+    read-requires
     same-length-4
     same-length-5
     same-length-6

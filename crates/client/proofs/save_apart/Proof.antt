@@ -1,7 +1,7 @@
 -- `client::save_apart` meets its contract: a write, a packet closed, and a commit.
 -- Assumes nothing.
 use mathlib.Core.Path.{_≡_, _∙_}
-use mathlib.Core.Option.{none}
+use mathlib.Core.Option.{none, some}
 use mathlib.Core.List.{List, [], _∷_}
 use Rattle.recorder.specs.Calls.{Call, write, closePacket, commit}
 use Rattle.client.specs.Day.{Day, ended, morning, day}
@@ -15,45 +15,45 @@ abbrev X : tie.Start → Day
 X s = morning (s .args .image .now) (s .args .kinds .now) (s .args .ledger .now)
 
 -- the places: the first call, the second and the last, and the tests between them
-abbrev start-of : tie.After-station-write → tie.Start
+abbrev start-of : tie.After-write → tie.Start
 start-of c = c .before .before .before .before .before .before .before .before
 
-abbrev first-call : tie.After-slice-known6 → tie.After-station-write
+abbrev first-call : tie.After-slice-known6 → tie.After-write
 first-call c = c .before .before .before .before .before .before
 
-abbrev first-test : tie.After-station-close-packet → tie.Else1
+abbrev first-test : tie.After-close-packet → tie.Else1
 first-test c = c .before .before .before .before
 
-abbrev second-call : tie.After-slice-known7 → tie.After-station-close-packet
+abbrev second-call : tie.After-slice-known7 → tie.After-close-packet
 second-call c = c .before .before
 
-abbrev second-test : tie.After-station-commit → tie.Else2
+abbrev second-test : tie.After-commit → tie.Else2
 second-test c = c .before .before .before .before
 
-abbrev last-call : tie.After-slice-known10 → tie.After-station-commit
+abbrev last-call : tie.After-slice-known10 → tie.After-commit
 last-call c = c .before .before .before .before .before .before
 
-abbrev start-back : tie.After-station-close-packet → tie.Start
+abbrev start-back : tie.After-close-packet → tie.Start
 start-back c = start-of (first-call (first-test c .before))
 
 -- the day up to the first call, and up to the second
 abbrev first-part : tie.Start → List Call
-first-part s = write (s .args .v) (s .args .block .now) ∷ []
+first-part s = write (some (s .args .v)) (s .args .block .now) ∷ []
 
 abbrev second-part : tie.Start → List Call
-second-part s = write (s .args .v) (s .args .block .now) ∷ closePacket ∷ []
+second-part s = write (some (s .args .v)) (s .args .block .now) ∷ closePacket ∷ []
 
-begun : (c : tie.After-station-write) → ended (c .station-write .result) (c .station-write .last .0) (c .station-write .last .1 .0) (c .station-write .last .1 .1 .0) ≡ day (X (start-of c)) (first-part (start-of c))
-begun c = let s = start-of c in one (s .args .image .now) (s .args .kinds .now) (s .args .ledger .now) (write (s .args .v) (s .args .block .now)) (c .station-write .ensures)
+begun : (c : tie.After-write) → ended (c .write .result) (c .write .last .0) (c .write .last .1 .0) (c .write .last .1 .1 .0) ≡ day (X (start-of c)) (first-part (start-of c))
+begun c = let s = start-of c in one (s .args .image .now) (s .args .kinds .now) (s .args .ledger .now) (write (some (s .args .v)) (s .args .block .now)) (c .write .ensures)
 
-followed : (c : tie.After-station-close-packet) → let o = first-call (first-test c .before) in ended (c .station-close-packet .result) (o .station-write .last .0) (o .station-write .last .1 .0) (c .station-close-packet .last .1 .1 .0) ≡ day (X (start-back c)) (second-part (start-back c))
+followed : (c : tie.After-close-packet) → let o = first-call (first-test c .before) in ended (c .close-packet .result) (o .write .last .0) (o .write .last .1 .0) (c .close-packet .last .1 .1 .0) ≡ day (X (start-back c)) (second-part (start-back c))
 followed c =
     let o = first-call (first-test c .before) in
     let s = start-of o in
-    one (o .station-write .last .0) (o .station-write .last .1 .0) (o .station-write .last .1 .1 .0) (closePacket) (c .station-close-packet .ensures) ∙ goes-on (X s) (first-part s) [] (begun o) (closePacket) (first-test c .if1 .left)
+    one (o .write .last .0) (o .write .last .1 .0) (o .write .last .1 .1 .0) (closePacket) (c .close-packet .ensures) ∙ goes-on (X s) (first-part s) [] (begun o) (closePacket) (first-test c .if1 .left)
 
-station-write-requires : tie.Need-station-write-requires
-station-write-requires c κs = search needs
+write-requires : tie.Need-write-requires
+write-requires c κs = search needs
 
 same-length : tie.Need-same-length
 same-length c = search needs
@@ -70,8 +70,8 @@ returns c =
     let s = start-of o in
     stops (X s) (first-part s) (closePacket ∷ commit none ∷ []) (begun o) (c .if1 .taken)
 
-station-close-packet-requires : tie.Need-station-close-packet-requires
-station-close-packet-requires c κs = search needs
+close-packet-requires : tie.Need-close-packet-requires
+close-packet-requires c κs = search needs
 
 same-length-4 : tie.Need-same-length-4
 same-length-4 c = search needs
@@ -88,8 +88,8 @@ returns-2 c =
     let s = start-back b in
     stops (X s) (second-part s) (commit none ∷ []) (followed b) (c .if2 .taken)
 
-station-commit-requires : tie.Need-station-commit-requires
-station-commit-requires c κs = search needs
+commit-requires : tie.Need-commit-requires
+commit-requires c κs = search needs
 
 same-length-7 : tie.Need-same-length-7
 same-length-7 c = search needs
@@ -107,23 +107,23 @@ returns-3 c =
     let b = second-call (e .before) in
     let o = first-call (first-test b .before) in
     let s = start-of o in
-    one (o .station-write .last .0) (o .station-write .last .1 .0) (b .station-close-packet .last .1 .1 .0) (commit none) (l .station-commit .ensures) ∙ goes-on (X s) (second-part s) [] (followed b) (commit none) (e .if2 .left)
+    one (o .write .last .0) (o .write .last .1 .0) (b .close-packet .last .1 .1 .0) (commit none) (l .commit .ensures) ∙ goes-on (X s) (second-part s) [] (followed b) (commit none) (e .if2 .left)
 
 pub save-apart-spec : {M : Type 1} → statement M
 save-apart-spec =
     tie.close
     (tie.spec
-    station-write-requires
+    write-requires
     same-length
     same-length-2
     same-length-3
     returns
-    station-close-packet-requires
+    close-packet-requires
     same-length-4
     same-length-5
     same-length-6
     returns-2
-    station-commit-requires
+    commit-requires
     same-length-7
     same-length-8
     same-length-9

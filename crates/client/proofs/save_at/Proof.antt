@@ -21,15 +21,15 @@ start-of c = c .before .before .before .before .before .before .before .before .
 abbrev tested : tie.After-slice-known6 → tie.After-write-first
 tested c = c .before .before .before .before .before .before
 
-abbrev test-of : tie.After-station-commit-at → tie.Else1
+abbrev test-of : tie.After-commit-at → tie.Else1
 test-of c = c .before .before .before .before
 
-abbrev last-call : tie.After-slice-known9 → tie.After-station-commit-at
+abbrev last-call : tie.After-slice-known9 → tie.After-commit-at
 last-call c = c .before .before .before .before .before .before
 
 -- the first part of the day
 abbrev first-part : tie.Start → List Call
-first-part s = opening (s .args .fresh) ∷ write (s .args .v) (s .args .block .now) ∷ []
+first-part s = opening (s .args .fresh) ∷ write (some (s .args .v)) (s .args .block .now) ∷ []
 
 begun : (c : tie.After-write-first) → ended (c .write-first .result) (c .write-first .last .0) (c .write-first .last .1 .0) (c .write-first .last .1 .1 .0) ≡ day (X (start-of c)) (first-part (start-of c))
 begun c = c .write-first .ensures
@@ -52,8 +52,8 @@ returns c =
     let s = start-of o in
     stops (X s) (first-part s) (commit (some (s .args .stamp .now)) ∷ []) (begun o) (c .if1 .taken)
 
-station-commit-at-requires : tie.Need-station-commit-at-requires
-station-commit-at-requires c κs = search needs
+commit-at-requires : tie.Need-commit-at-requires
+commit-at-requires c κs = search needs
 
 same-length-4 : tie.Need-same-length-4
 same-length-4 c = search needs
@@ -70,7 +70,7 @@ returns-2 c =
     let e = test-of l in
     let o = tested (e .before) in
     let s = start-of o in
-    one (o .write-first .last .0) (o .write-first .last .1 .0) (o .write-first .last .1 .1 .0) (commit (some (s .args .stamp .now))) (l .station-commit-at .ensures) ∙ goes-on (X s) (first-part s) [] (begun o) (commit (some (s .args .stamp .now))) (e .if1 .left)
+    one (o .write-first .last .0) (o .write-first .last .1 .0) (o .write-first .last .1 .1 .0) (commit (some (s .args .stamp .now))) (l .commit-at .ensures) ∙ goes-on (X s) (first-part s) [] (begun o) (commit (some (s .args .stamp .now))) (e .if1 .left)
 
 pub save-at-spec : {M : Type 1} → statement M
 save-at-spec =
@@ -81,7 +81,7 @@ save-at-spec =
     same-length-2
     same-length-3
     returns
-    station-commit-at-requires
+    commit-at-requires
     same-length-4
     same-length-5
     same-length-6

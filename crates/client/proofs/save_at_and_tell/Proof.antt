@@ -10,6 +10,7 @@ use Rattle.history.specs.Times.{TellsTime}
 use Rattle.recorder.specs.Calls.{Call, write, commit, timeOf}
 use Rattle.client.specs.Day.{Day, ended, morning, day, opening}
 use Rattle.client.proofs.Days.{one, stops, goes-on, not-done, first-long}
+use Rattle.client.proofs.Since.{saved-there}
 use Rattle.client.proofs.Times.{told-since, right-stamp, time-given}
 use borrow.Author.Needs.{needs}
 use Rattle.client.proofs.save_at_and_tell.Statement.{statement}
@@ -26,15 +27,15 @@ start-of c = c .before .before .before .before .before .before .before .before .
 abbrev tested : tie.After-slice-known7 → tie.After-save-at
 tested c = c .before .before .before .before .before .before
 
-abbrev test-of : tie.After-station-time-of → tie.Else1
+abbrev test-of : tie.After-time-of → tie.Else1
 test-of c = c .before .before .before .before .before
 
-abbrev last-call : tie.After-slice-known8 → tie.After-station-time-of
+abbrev last-call : tie.After-slice-known8 → tie.After-time-of
 last-call c = c .before .before
 
 -- the first part of the day
 abbrev first-part : tie.Start → List Call
-first-part s = opening (s .args .fresh) ∷ write (s .args .v) (s .args .block .now) ∷ commit (some (s .args .stamp .now)) ∷ []
+first-part s = opening (s .args .fresh) ∷ write (some (s .args .v)) (s .args .block .now) ∷ commit (some (s .args .stamp .now)) ∷ []
 
 begun : (c : tie.After-save-at) → ended (c .save-at .result) (c .save-at .last .0) (c .save-at .last .1 .0) (c .save-at .last .1 .1 .0) ≡ day (X (start-of c)) (first-part (start-of c))
 begun c = c .save-at .ensures
@@ -59,8 +60,8 @@ returns c =
       λ a whole. absurd (not-done (X s) (first-part s) [] (begun o) (c .if1 .taken) a),
     )
 
-station-time-of-requires : tie.Need-station-time-of-requires
-station-time-of-requires c κs = search needs
+time-of-requires : tie.Need-time-of-requires
+time-of-requires c κs = search needs
 
 same-length-4 : tie.Need-same-length-4
 same-length-4 c = search needs
@@ -80,15 +81,16 @@ returns-2 c =
     let e = test-of l in
     let o = tested (e .before) in
     let s = start-of o in
-    let both = one (o .save-at .last .0) (o .save-at .last .1 .0) (o .save-at .last .1 .1 .0) (timeOf 0 (s .args .answer .now)) (l .station-time-of .ensures) ∙ goes-on (X s) (first-part s) [] (begun o) (timeOf 0 (s .args .answer .now)) (e .if1 .left) in (
+    let both = one (o .save-at .last .0) (o .save-at .last .1 .0) (o .save-at .last .1 .1 .0) (timeOf 0 (s .args .answer .now)) (l .time-of .ensures) ∙ goes-on (X s) (first-part s) [] (begun o) (timeOf 0 (s .args .answer .now)) (e .if1 .left) in (
       both,
       λ a whole.
-          let written : List Call = write (s .args .v) (s .args .block .now) ∷ [] in
+          let written : List Call = write (some (s .args .v)) (s .args .block .now) ∷ [] in
           let stamp : List ℕ = s .args .stamp .now in
+          let there = saved-there (X s) (s .args .fresh) (omega arith) written [] (commit (some stamp)) refl a in
           let long = o .save-at .kept .1 .1 .0 ∙ first-long (X s) (opening (s .args .fresh)) (written ++ (commit (some stamp) ∷ [])) (omega arith) a in
-          time-given (o .save-at .last .0) (o .save-at .last .1 .0) (o .save-at .last .1 .1 .0) 0 (s .args .answer .now) long whole (l .station-time-of .ensures) stamp
-          (subst (λ (d : Disc). TellsTime d 0 stamp) (ap (λ (y : Day). y .disc) (sym (begun o))) (told-since (X s) (s .args .fresh) (omega arith) written [] (commit (some stamp)) refl a))
-          (right-stamp (X s) (s .args .fresh) (omega arith) written [] stamp a),
+          time-given (o .save-at .last .0) (o .save-at .last .1 .0) (o .save-at .last .1 .1 .0) 0 (s .args .answer .now) long whole (l .time-of .ensures) stamp
+          (subst (λ (d : Disc). TellsTime d 0 stamp) (ap (λ (y : Day). y .disc) (sym (begun o))) (told-since (X s) (s .args .fresh) written [] (commit (some stamp)) there))
+          (right-stamp (X s) (s .args .fresh) written [] stamp there),
     )
 
 pub save-at-and-tell-spec : {M : Type 1} → statement M
@@ -100,7 +102,7 @@ save-at-and-tell-spec =
     same-length-2
     same-length-3
     returns
-    station-time-of-requires
+    time-of-requires
     same-length-4
     same-length-5
     same-length-6

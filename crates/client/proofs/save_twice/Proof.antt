@@ -2,7 +2,7 @@
 -- Assumes nothing.
 use Prim.Native.Nat.{ℕ}
 use mathlib.Core.Path.{_≡_, refl, sym, ap, _∙_}
-use mathlib.Core.Option.{none}
+use mathlib.Core.Option.{none, some}
 use mathlib.Core.List.{List, [], _∷_, _++_}
 use native.Mathlib.Omega.{arith}
 use lib.ListN.{length}
@@ -53,10 +53,10 @@ second-of c = second-save (second-test c .before)
 
 -- the day up to each of them
 abbrev once : tie.Start → List Call
-once s = opening (s .args .fresh) ∷ write (s .args .v) (s .args .x .now) ∷ commit none ∷ []
+once s = opening (s .args .fresh) ∷ write (some (s .args .v)) (s .args .x .now) ∷ commit none ∷ []
 
 abbrev again : tie.Start → List Call
-again s = write (s .args .v) (s .args .y .now) ∷ closePacket ∷ commit none ∷ []
+again s = write (some (s .args .v)) (s .args .y .now) ∷ closePacket ∷ commit none ∷ []
 
 abbrev twice : tie.Start → List Call
 twice s = once s ++ again s
@@ -72,7 +72,7 @@ saved-again : (c : tie.After-save-apart)
 saved-again c =
     let o = first-of c in
     let s = start-of o in
-    c .save-apart .ensures ∙ goes-on (X s) (once s) (closePacket ∷ commit none ∷ []) (saved o) (write (s .args .v) (s .args .y .now)) (first-test c .if1 .left)
+    c .save-apart .ensures ∙ goes-on (X s) (once s) (closePacket ∷ commit none ∷ []) (saved o) (write (some (s .args .v)) (s .args .y .now)) (first-test c .if1 .left)
 
 looked : (c : tie.After-show-back)
     → ended (c .show-back .result) (second-of c .save-apart .last .0) (second-of c .save-apart .last .1 .0) (c .show-back .last .1 .1 .0) ≡ day (X (start-of (first-of (second-of c)))) (twice (start-of (first-of (second-of c))) ++ showing-old (start-of (first-of (second-of c))))
@@ -90,7 +90,7 @@ later c m out a same long =
     record {
       ok = omega arith;
       there = ap (λ (d : Day). d .disc) (sym (saved-again c));
-      ledger-long = same ∙ c .save-apart .kept .1 .1 .0 ∙ o .save .kept .1 .1 .0 ∙ first-long (X s) (opening (s .args .fresh)) (write (s .args .v) (s .args .x .now) ∷ commit none ∷ again s) (omega arith) a;
+      ledger-long = same ∙ c .save-apart .kept .1 .1 .0 ∙ o .save .kept .1 .1 .0 ∙ first-long (X s) (opening (s .args .fresh)) (write (some (s .args .v)) (s .args .x .now) ∷ commit none ∷ again s) (omega arith) a;
       block-long = long;
     }
 

@@ -15,27 +15,27 @@ abbrev X : tie.Start → Day
 X s = morning (s .args .image .now) (s .args .kinds .now) (s .args .ledger .now)
 
 -- the places: the call that the test is about, the test, the last call
-abbrev start-of : tie.After-station-mount → tie.Start
+abbrev start-of : tie.After-mount → tie.Start
 start-of c = c .before .before .before .before .before .before
 
-abbrev tested : tie.After-slice-known3 → tie.After-station-mount
+abbrev tested : tie.After-slice-known3 → tie.After-mount
 tested c = c .before .before
 
-abbrev test-of : tie.After-station-read → tie.Else1
+abbrev test-of : tie.After-read → tie.Else1
 test-of c = c .before .before .before
 
-abbrev last-call : tie.After-slice-known4 → tie.After-station-read
+abbrev last-call : tie.After-slice-known4 → tie.After-read
 last-call c = c .before .before
 
 -- the first part of the day
 abbrev first-part : tie.Start → List Call
 first-part s = mount ∷ []
 
-begun : (c : tie.After-station-mount) → ended (c .station-mount .result) (start-of c .args .image .now) (start-of c .args .kinds .now) (c .station-mount .last .1 .1 .0) ≡ day (X (start-of c)) (first-part (start-of c))
-begun c = let s = start-of c in one (s .args .image .now) (s .args .kinds .now) (s .args .ledger .now) (mount) (c .station-mount .ensures)
+begun : (c : tie.After-mount) → ended (c .mount .result) (start-of c .args .image .now) (start-of c .args .kinds .now) (c .mount .last .1 .1 .0) ≡ day (X (start-of c)) (first-part (start-of c))
+begun c = let s = start-of c in one (s .args .image .now) (s .args .kinds .now) (s .args .ledger .now) (mount) (c .mount .ensures)
 
-station-mount-requires : tie.Need-station-mount-requires
-station-mount-requires c κs = search needs
+mount-requires : tie.Need-mount-requires
+mount-requires c κs = search needs
 
 same-length : tie.Need-same-length
 same-length c = search needs
@@ -48,8 +48,8 @@ returns c =
       λ a. absurd (not-done (X s) (first-part s) [] (begun o) (c .if1 .taken) a),
     )
 
-station-read-requires : tie.Need-station-read-requires
-station-read-requires c κs = search needs
+read-requires : tie.Need-read-requires
+read-requires c κs = search needs
 
 same-length-2 : tie.Need-same-length-2
 same-length-2 c = search needs
@@ -63,19 +63,19 @@ returns-2 c =
     let e = test-of l in
     let o = tested (e .before) in
     let s = start-of o in
-    let both = one (s .args .image .now) (s .args .kinds .now) (o .station-mount .last .1 .1 .0) (read (s .args .v) (s .args .out .now)) (l .station-read .ensures) ∙ goes-on (X s) (first-part s) [] (begun o) (read (s .args .v) (s .args .out .now)) (e .if1 .left) in (
+    let both = one (s .args .image .now) (s .args .kinds .now) (o .mount .last .1 .1 .0) (read (s .args .v) (s .args .out .now)) (l .read .ensures) ∙ goes-on (X s) (first-part s) [] (begun o) (read (s .args .v) (s .args .out .now)) (e .if1 .left) in (
       both,
-      λ a. ap (λ (y : After). y .buffer) (l .station-read .ensures) ∙ ap (λ (y : Day). readAt y (s .args .v) (s .args .out .now)) (begun o),
+      λ a. ap (λ (y : After). y .buffer) (l .read .ensures) ∙ ap (λ (y : Day). readAt y (s .args .v) (s .args .out .now)) (begun o),
     )
 
 pub show-spec : {M : Type 1} → statement M
 show-spec =
     tie.close
     (tie.spec
-    station-mount-requires
+    mount-requires
     same-length
     returns
-    station-read-requires
+    read-requires
     same-length-2
     same-length-3
     returns-2)

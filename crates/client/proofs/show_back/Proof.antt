@@ -15,27 +15,27 @@ abbrev X : tie.Start → Day
 X s = morning (s .args .image .now) (s .args .kinds .now) (s .args .ledger .now)
 
 -- the places: the call that the test is about, the test, the last call
-abbrev start-of : tie.After-station-look-back → tie.Start
+abbrev start-of : tie.After-look-back → tie.Start
 start-of c = c .before .before .before .before .before .before
 
-abbrev tested : tie.After-slice-known3 → tie.After-station-look-back
+abbrev tested : tie.After-slice-known3 → tie.After-look-back
 tested c = c .before .before
 
-abbrev test-of : tie.After-station-read → tie.Else1
+abbrev test-of : tie.After-read → tie.Else1
 test-of c = c .before .before .before
 
-abbrev last-call : tie.After-slice-known4 → tie.After-station-read
+abbrev last-call : tie.After-slice-known4 → tie.After-read
 last-call c = c .before .before
 
 -- the first part of the day
 abbrev first-part : tie.Start → List Call
 first-part s = lookBack (s .args .k) ∷ []
 
-begun : (c : tie.After-station-look-back) → ended (c .station-look-back .result) (start-of c .args .image .now) (start-of c .args .kinds .now) (c .station-look-back .last .1 .1 .0) ≡ day (X (start-of c)) (first-part (start-of c))
-begun c = let s = start-of c in one (s .args .image .now) (s .args .kinds .now) (s .args .ledger .now) (lookBack (s .args .k)) (c .station-look-back .ensures)
+begun : (c : tie.After-look-back) → ended (c .look-back .result) (start-of c .args .image .now) (start-of c .args .kinds .now) (c .look-back .last .1 .1 .0) ≡ day (X (start-of c)) (first-part (start-of c))
+begun c = let s = start-of c in one (s .args .image .now) (s .args .kinds .now) (s .args .ledger .now) (lookBack (s .args .k)) (c .look-back .ensures)
 
-station-look-back-requires : tie.Need-station-look-back-requires
-station-look-back-requires c κs = search needs
+look-back-requires : tie.Need-look-back-requires
+look-back-requires c κs = search needs
 
 same-length : tie.Need-same-length
 same-length c = search needs
@@ -48,8 +48,8 @@ returns c =
       λ a. absurd (not-done (X s) (first-part s) [] (begun o) (c .if1 .taken) a),
     )
 
-station-read-requires : tie.Need-station-read-requires
-station-read-requires c κs = search needs
+read-requires : tie.Need-read-requires
+read-requires c κs = search needs
 
 same-length-2 : tie.Need-same-length-2
 same-length-2 c = search needs
@@ -63,19 +63,19 @@ returns-2 c =
     let e = test-of l in
     let o = tested (e .before) in
     let s = start-of o in
-    let both = one (s .args .image .now) (s .args .kinds .now) (o .station-look-back .last .1 .1 .0) (read (s .args .v) (s .args .out .now)) (l .station-read .ensures) ∙ goes-on (X s) (first-part s) [] (begun o) (read (s .args .v) (s .args .out .now)) (e .if1 .left) in (
+    let both = one (s .args .image .now) (s .args .kinds .now) (o .look-back .last .1 .1 .0) (read (s .args .v) (s .args .out .now)) (l .read .ensures) ∙ goes-on (X s) (first-part s) [] (begun o) (read (s .args .v) (s .args .out .now)) (e .if1 .left) in (
       both,
-      λ a. ap (λ (y : After). y .buffer) (l .station-read .ensures) ∙ ap (λ (y : Day). readAt y (s .args .v) (s .args .out .now)) (begun o),
+      λ a. ap (λ (y : After). y .buffer) (l .read .ensures) ∙ ap (λ (y : Day). readAt y (s .args .v) (s .args .out .now)) (begun o),
     )
 
 pub show-back-spec : {M : Type 1} → statement M
 show-back-spec =
     tie.close
     (tie.spec
-    station-look-back-requires
+    look-back-requires
     same-length
     returns
-    station-read-requires
+    read-requires
     same-length-2
     same-length-3
     returns-2)

@@ -2,6 +2,7 @@
 -- Assumes nothing.
 use mathlib.Core.Path.{_≡_, _∙_}
 use mathlib.Core.List.{List, [], _∷_}
+use mathlib.Core.Option.{some}
 use Rattle.recorder.specs.Calls.{Call, write}
 use Rattle.client.specs.Day.{Day, ended, morning, day, opening}
 use Rattle.client.proofs.Days.{one, stops, goes-on}
@@ -20,10 +21,10 @@ start-of c = c .before .before .before .before .before .before .before .before
 abbrev tested : tie.After-slice-known4 → tie.After-open-disc
 tested c = c .before .before
 
-abbrev test-of : tie.After-station-write → tie.Else1
+abbrev test-of : tie.After-write → tie.Else1
 test-of c = c .before .before .before .before
 
-abbrev last-call : tie.After-slice-known7 → tie.After-station-write
+abbrev last-call : tie.After-slice-known7 → tie.After-write
 last-call c = c .before .before .before .before .before .before
 
 -- the first part of the day
@@ -49,10 +50,10 @@ returns : tie.Need-returns
 returns c =
     let o = tested (c .before) in
     let s = start-of o in
-    stops (X s) (first-part s) (write (s .args .v) (s .args .block .now) ∷ []) (begun o) (c .if1 .taken)
+    stops (X s) (first-part s) (write (some (s .args .v)) (s .args .block .now) ∷ []) (begun o) (c .if1 .taken)
 
-station-write-requires : tie.Need-station-write-requires
-station-write-requires c κs = search needs
+write-requires : tie.Need-write-requires
+write-requires c κs = search needs
 
 same-length-4 : tie.Need-same-length-4
 same-length-4 c = search needs
@@ -69,7 +70,7 @@ returns-2 c =
     let e = test-of l in
     let o = tested (e .before) in
     let s = start-of o in
-    one (s .args .image .now) (s .args .kinds .now) (o .open-disc .last .1 .1 .0) (write (s .args .v) (s .args .block .now)) (l .station-write .ensures) ∙ goes-on (X s) (first-part s) [] (begun o) (write (s .args .v) (s .args .block .now)) (e .if1 .left)
+    one (s .args .image .now) (s .args .kinds .now) (o .open-disc .last .1 .1 .0) (write (some (s .args .v)) (s .args .block .now)) (l .write .ensures) ∙ goes-on (X s) (first-part s) [] (begun o) (write (some (s .args .v)) (s .args .block .now)) (e .if1 .left)
 
 pub write-first-spec : {M : Type 1} → statement M
 write-first-spec =
@@ -80,7 +81,7 @@ write-first-spec =
     same-length-2
     same-length-3
     returns
-    station-write-requires
+    write-requires
     same-length-4
     same-length-5
     same-length-6

@@ -7,11 +7,11 @@ use borrow.Author.Needs.{needs}
 use Rattle.client.proofs.write_on_closed.Statement.{statement}
 use Rattle.client.proofs.write_on_closed.Tie as tie
 
-abbrev start-of : tie.After-station-write → tie.Start
+abbrev start-of : tie.After-write → tie.Start
 start-of c = c .before .before .before .before .before .before .before .before
 
-station-write-requires : tie.Need-station-write-requires
-station-write-requires c κs = search needs
+write-requires : tie.Need-write-requires
+write-requires c κs = search needs
 
 same-length : tie.Need-same-length
 same-length c = search needs
@@ -27,8 +27,8 @@ returns c =
     let w = c .before .before .before .before .before .before in
     let a = start-of w .args in
     λ x fresh before main reserve n ok all there.
-    write-is-refused (a .image .now) (a .kinds .now) (a .ledger .now) (a .block .now) (a .v) (w .station-write .ensures)
+    write-is-refused (a .image .now) (a .kinds .now) (a .ledger .now) (a .block .now) (a .v) (w .write .ensures)
     (ap sessionClosed there ∙ left-closed x fresh ok before main reserve n all .2 .is-closed)
 
 pub write-on-closed-spec : {M : Type 1} → statement M
-write-on-closed-spec = tie.close (tie.spec station-write-requires same-length same-length-2 same-length-3 returns)
+write-on-closed-spec = tie.close (tie.spec write-requires same-length same-length-2 same-length-3 returns)

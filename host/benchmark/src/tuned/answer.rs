@@ -24,6 +24,8 @@ pub enum Refusal {
     BadTimestamp = 16,
     SessionClosed = 17,
     PartitionStart = 18,
+    NotARun = 19,
+    BeyondTheRun = 20,
 }
 
 /// "the pair is one 64-bit number: outcome × 4,294,967,296 + second number";

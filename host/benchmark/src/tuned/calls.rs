@@ -1,4 +1,4 @@
-//! The eleven calls, each with its refusals in the order of its tests.
+//! The thirteen calls, each with its refusals in the order of its tests.
 
 use std::ops::Range;
 
@@ -8,6 +8,7 @@ use super::disc::{Disc, BEFORE_TABLE, DATA, LINK};
 use super::fields::u32_at;
 use super::ledger::{self, put_u32, Ledger, LEDGER};
 use super::ledger::{IDLE, LAST_VAT, MODE, PACKET_OPEN, READ_ONLY, RECORDED, SIZE};
+use super::run::{self, MOST_VIEWED};
 use super::table::{put_vat, recognise, Sector, LIMIT, NONE, SECTOR};
 use super::time::{told, Stamp, NO_STAMP, TIME};
 
@@ -60,12 +61,14 @@ pub fn look_back(image: &[u8], kinds: &[u8], ledger: &mut [u8], k: u32) -> Answe
 }
 
 /// "records one data sector with the lent block and sets entry v to it. If v
-/// equals size, size grows by one."
+/// equals size, size grows by one." Without a number it is a write "in all but the
+/// entry" (document 02).
+#[inline(always)]
 pub fn write(
     image: &mut [u8],
     kinds: &mut [u8],
     ledger: &mut [u8],
-    v: u32,
+    v: Option<u32>,
     block: &[u8],
 ) -> Answer {
     let disc = Disc::lent(image, kinds)?;
@@ -75,8 +78,10 @@ pub fn write(
     let size = u32_at(ledger, SIZE);
     let links = ledger::links(ledger, recorded);
     let place = recorded + links;
-    refuse(v as usize >= LIMIT, Refusal::AboveLimit)?;
-    refuse(v > size, Refusal::AboveSize)?;
+    if let Some(v) = v {
+        refuse(v as usize >= LIMIT, Refusal::AboveLimit)?;
+        refuse(v > size, Refusal::AboveSize)?;
+    }
     refuse(
         kinds.len() - recorded < links + 1 + reserve(kinds.len()),
         Refusal::NoRoom,
@@ -86,8 +91,10 @@ pub fn write(
         Refusal::WouldBeVat,
     )?;
     *record(image, kinds, recorded..place, place) = *data;
-    put_u32(ledger, 4 * v as usize, place as u32);
-    put_u32(ledger, SIZE, size + u32::from(v == size));
+    if let Some(v) = v {
+        put_u32(ledger, 4 * v as usize, place as u32);
+        put_u32(ledger, SIZE, size + u32::from(v == size));
+    }
     open_packet(ledger, place);
     Ok(place as u32)
 }
@@ -189,6 +196,27 @@ pub fn read(image: &[u8], kinds: &[u8], ledger: &[u8], v: u32, block: &mut [u8])
     let place = ledger::block_of(ledger, v).ok_or(Refusal::NotInUse)?;
     *block = *disc.data(place).ok_or(Refusal::Unreadable)?;
     Ok(0)
+}
+
+/// "From a 64-bit offset it fills the lent buffer [...] as far as the run goes; the
+/// second number counts the bytes" (document 02).
+pub fn view(
+    image: &[u8],
+    kinds: &[u8],
+    ledger: &[u8],
+    v: u32,
+    offset: u64,
+    buffer: &mut [u8],
+) -> Answer {
+    let disc = Disc::lent(image, kinds)?;
+    let ledger: &Ledger = ledger.try_into().map_err(|_| Refusal::LentLength)?;
+    refuse(buffer.len() > MOST_VIEWED, Refusal::LentLength)?;
+    ledger::fitting(ledger, &disc)?;
+    let place = ledger::block_of(ledger, v).ok_or(Refusal::NotInUse)?;
+    let sector = disc.data(place).ok_or(Refusal::Unreadable)?;
+    let run = run::recognise(sector, place, &disc).ok_or(Refusal::NotARun)?;
+    refuse(offset > run.length, Refusal::BeyondTheRun)?;
+    Ok(run.fill(image, offset, buffer) as u32)
 }
 
 /// "tells, for k saves back, the modification time" (document 02). The ledger's

@@ -75,6 +75,13 @@ impl<'a> Disc<'a> {
         (self.kinds.get(block as usize) == Some(&DATA)).then_some(sector)
     }
 
+    /// Whether all of these recorded blocks have kind 1, without an exit.
+    #[inline(always)]
+    pub fn is_data(&self, blocks: Range<usize>) -> bool {
+        let kinds = self.kinds[blocks].iter();
+        kinds.fold(0, |other, kind| other | (kind ^ DATA)) == 0
+    }
+
     /// What the block holds if it is a table sector.
     #[inline(always)]
     pub fn vat_at(&self, block: u32) -> Option<Found<'a>> {
@@ -144,8 +151,7 @@ impl<'a> Disc<'a> {
     #[inline(never)]
     fn ends_a_session(&self, pointer: usize) -> bool {
         let table = pointer + BEFORE_TABLE;
-        self.kinds[pointer..table].iter().all(|kind| *kind == DATA)
-            && self.vat_at(table as u32).is_some()
+        self.is_data(pointer..table) && self.vat_at(table as u32).is_some()
     }
 }
 

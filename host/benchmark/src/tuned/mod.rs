@@ -1,4 +1,4 @@
-//! A tuned version of the documents' eleven calls, for the comparison alone.
+//! A tuned version of the documents' thirteen calls, for the comparison alone.
 //!
 //! Written to be fast in safe Rust for plain x86-64, with the same contract as
 //! the recording core: the 64-bit answer and every lent byte. No call allocates.
@@ -10,8 +10,9 @@
 //! - [`anchor`]: the pointer that a closing records, and its tag;
 //! - [`disc`]: one pass over the kinds, the newest table, the walk back, whether it
 //!   is closed;
+//! - [`run`]: the entry of a run longer than a block, and what it shows;
 //! - [`ledger`]: the volume's working state, and when it fits the disc;
-//! - [`calls`]: the eleven calls; [`answer`]: their two numbers.
+//! - [`calls`]: the thirteen calls; [`answer`]: their two numbers.
 
 #![forbid(unsafe_code)]
 
@@ -22,6 +23,7 @@ mod crc;
 mod disc;
 mod fields;
 mod ledger;
+mod run;
 mod table;
 mod time;
 
@@ -30,6 +32,7 @@ use answer::packed;
 
 pub use crc::crc;
 pub use ledger::LEDGER;
+pub use run::MOST_VIEWED;
 pub use table::{put_vat, Sector, LIMIT, NONE, SECTOR};
 pub use time::{Stamp, TIME};
 
@@ -42,7 +45,16 @@ pub fn mount(image: &[u8], kinds: &[u8], ledger: &mut [u8]) -> u64 {
 }
 
 pub fn write(image: &mut [u8], kinds: &mut [u8], ledger: &mut [u8], v: u32, block: &[u8]) -> u64 {
-    packed(calls::write(image, kinds, ledger, v, block))
+    packed(calls::write(image, kinds, ledger, Some(v), block))
+}
+
+pub fn write_unnumbered(
+    image: &mut [u8],
+    kinds: &mut [u8],
+    ledger: &mut [u8],
+    block: &[u8],
+) -> u64 {
+    packed(calls::write(image, kinds, ledger, None, block))
 }
 
 pub fn release(image: &[u8], kinds: &[u8], ledger: &mut [u8], v: u32) -> u64 {
@@ -67,6 +79,17 @@ pub fn read(image: &[u8], kinds: &[u8], ledger: &[u8], v: u32, block: &mut [u8])
 
 pub fn look_back(image: &[u8], kinds: &[u8], ledger: &mut [u8], k: u32) -> u64 {
     packed(calls::look_back(image, kinds, ledger, k))
+}
+
+pub fn view(
+    image: &[u8],
+    kinds: &[u8],
+    ledger: &[u8],
+    v: u32,
+    offset: u64,
+    buffer: &mut [u8],
+) -> u64 {
+    packed(calls::view(image, kinds, ledger, v, offset, buffer))
 }
 
 pub fn time_of(image: &[u8], kinds: &[u8], ledger: &[u8], k: u32, answer: &mut [u8]) -> u64 {

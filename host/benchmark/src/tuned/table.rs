@@ -27,7 +27,7 @@ const TIMES: [usize; 3] = [72, MODIFIED, 96];
 const MODIFIED: usize = 84;
 
 /// Bytes 0 to 175: the head. Behind it the attributes, if any, and the table.
-const HEAD: usize = 176;
+pub const HEAD: usize = 176;
 
 /// Behind the entries: "a 32-byte regid, the previous table's block (32 bits)".
 const TAIL: usize = 36;
@@ -81,7 +81,7 @@ fn recognise_tagged(sector: &Sector, b: u32) -> Option<Vat<'_>> {
     let holds = tail[1..24] == VAT_NAME
         && is_none_or_below(previous, b)
         && all_none_or_below(entries, b)
-        && u16_at(sector, 8) == crc(&sector[BODY..table.end]);
+        && is_summed(sector, table.end);
     holds.then_some(Vat {
         entries,
         previous,
@@ -91,8 +91,14 @@ fn recognise_tagged(sector: &Sector, b: u32) -> Option<Vat<'_>> {
 
 /// Bytes 4, 5 and 12: "sum of bytes 0 to 3 and 5 to 15, modulo 256; zero",
 /// "tag location = b".
-fn has_tag(sector: &Sector, b: u32) -> bool {
+pub fn has_tag(sector: &Sector, b: u32) -> bool {
     u32_at(sector, 12) == b && sector[5] == 0 && sector[4] == tag_sum(sector)
+}
+
+/// Byte 8: the CRC "from byte 16" to where the described bytes end.
+#[inline(always)]
+pub fn is_summed(sector: &Sector, end: usize) -> bool {
+    u16_at(sector, 8) == crc(&sector[BODY..end])
 }
 
 pub fn tag_sum(sector: &Sector) -> u8 {

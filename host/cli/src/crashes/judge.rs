@@ -8,6 +8,7 @@ use station::{Refusal, LEDGER, SECTOR};
 use station_model::book::{Content, History, Snapshot};
 
 use super::noted::State;
+use super::RUN;
 use crate::form::Disc;
 use crate::listing::listing;
 use crate::map::Map;
@@ -83,6 +84,17 @@ fn shows(disc: &Disc, ledger: &[u8], page: &Snapshot) {
             Some(Content::Unreadable) => assert_eq!(read, Err(Refusal::Unreadable)),
             Some(Content::Bytes(bytes)) => assert!(read.is_ok() && block == **bytes),
         }
+        shows_whole_run(disc, ledger, v);
+    }
+}
+
+/// A number that is a run's entry shows the whole run.
+fn shows_whole_run(disc: &Disc, ledger: &[u8], v: u32) {
+    let (image, kinds) = disc.lent();
+    let mut viewed = [0; RUN.len() + 1];
+    match station::view(image, kinds, ledger, v, 0, &mut viewed) {
+        Ok(filled) => assert!(viewed[..filled as usize] == RUN),
+        Err(refusal) => assert!([Refusal::NotInUse, Refusal::NotARun].contains(&refusal)),
     }
 }
 

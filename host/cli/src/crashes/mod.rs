@@ -13,7 +13,7 @@ use std::process;
 use std::rc::Rc;
 use std::sync::atomic::{AtomicUsize, Ordering};
 
-use station::{LEDGER, SECTOR};
+use station::{Extent, LEDGER, SECTOR};
 use station_model::answer::Answer;
 use station_model::book::{Ending, Fed, History};
 use station_model::calls::Call;
@@ -77,7 +77,8 @@ impl Desk {
                     (Call::Write(0), made)
                 }
             };
-            desk.feed(call, Ending::Answered(Answer::done(made.expect("done"))));
+            let ending = Ending::Answered(Answer::done(made.expect("done")));
+            feed(&mut desk.book, call, &BLOCK, ending);
         }
         let digits: String = kinds.iter().map(u8::to_string).collect();
         let mut file = format!("{sectors:8}\n{digits}\n").into_bytes();
@@ -89,10 +90,6 @@ impl Desk {
 
     fn path(&self, name: &str) -> PathBuf {
         self.folder.join(name)
-    }
-
-    fn feed(&mut self, call: Call, ending: Ending) {
-        feed(&mut self.book, call, ending);
     }
 
     fn state(&self) -> State {
@@ -111,10 +108,12 @@ impl Desk {
         let words: Vec<OsString> = line.split_whitespace().map(in_folder).collect();
         let steps: Steps = Rc::new(RefCell::new(Vec::new()));
         let noted = steps.clone();
+        let input = if stores(line) { &RUN[..] } else { &BLOCK };
         let mut around = Surroundings {
-            input: &mut &BLOCK[..],
+            input: &mut &*input,
             output: &mut Vec::new(),
             aside: &mut Vec::new(),
+            watched: false,
             disk: &move |files| {
                 let steps = noted.clone();
                 Box::new(Noted { files, steps })
@@ -138,7 +137,8 @@ impl Desk {
             true => Ending::Cut { vat_kept: false },
             false => Ending::Answered(Answer::done(recorded.saturating_sub(1))),
         };
-        feed(&mut whole, event.call, ending);
+        let written = written(event, recorded);
+        feed(&mut whole, event.call, &written, ending);
         let left = states(&before, &steps);
         assert!(left.contains(&after), "the last state is the command's");
         for state in &left {
@@ -147,7 +147,7 @@ impl Desk {
             judge::ledger_is_safe((state, &disc), (&before, &old), (&after, &new));
             let vat_kept = !event.cut && judge::recorded(&disc) == recorded as usize;
             let mut book = self.book.clone();
-            feed(&mut book, event.call, Ending::Cut { vat_kept });
+            feed(&mut book, event.call, &written, Ending::Cut { vat_kept });
             judge::shows_the_book(&disc, &book);
             judge::lists_as_proved(state, &disc);
         }
@@ -175,8 +175,29 @@ impl Drop for Desk {
 
 const BLOCK: [u8; SECTOR] = [0xC3; SECTOR];
 
-fn feed(book: &mut History, call: Call, ending: Ending) {
-    let written = matches!(call, Call::Write(_)).then_some(&BLOCK[..]);
+/// A run of three blocks, which a store is given.
+const RUN: [u8; 2 * SECTOR + 9] = [0xB4; 2 * SECTOR + 9];
+
+fn stores(line: &str) -> bool {
+    line.contains("store ")
+}
+
+/// The numbered block that an event has recorded last, if it writes: of a store the
+/// entry, since its other blocks have no number. Of a write that was cut the book
+/// takes nothing.
+fn written(event: &Event, recorded: u32) -> [u8; SECTOR] {
+    if event.cut || !stores(event.line) {
+        return BLOCK;
+    }
+    let extent = Extent {
+        length: RUN.len() as u32,
+        location: recorded - 4,
+    };
+    station::file_entry(&[extent], recorded - 1)
+}
+
+fn feed(book: &mut History, call: Call, written: &[u8; SECTOR], ending: Ending) {
+    let written = matches!(call, Call::Write(_)).then_some(&written[..]);
     book.feed(&Fed {
         call,
         written,
@@ -217,12 +238,40 @@ fn every_state_of_every_command() {
     assert_eq!(desk.book.pages.len(), 4);
 }
 
-/// The digits of a call's eight sectors lie across two pieces of 512 bytes: the
-/// digit of block 503 is the first of the second piece.
+/// A crash leaves the first sectors of a store, and the number as it was, until a
+/// commit; so the run is viewed whole or not at all.
+#[test]
+fn every_state_of_a_store() {
+    let mut desk = Desk::new(60, 0);
+    let events = [
+        event("store run.disc 0", Call::Write(0)),
+        event("commit run.disc", Call::Commit),
+        event("view run.disc 0", Call::Read(0)),
+        event("close run.disc", Call::ClosePacket),
+        event("store run.disc 1", Call::Write(1)),
+        event("commit run.disc", Call::Commit),
+        event("store run.disc 0", Call::Write(0)),
+        event("look-back run.disc 1", Call::LookBack(1)),
+        event("view run.disc 0 --offset 7", Call::Read(0)),
+        event("mount run.disc", Call::Mount),
+        cut("cut 9 --torn store run.disc 0", Call::Write(0)),
+        event("mount run.disc", Call::Mount),
+        event("commit run.disc", Call::Commit),
+    ];
+    for event in &events {
+        desk.take(event);
+    }
+    println!("{} states judged", desk.judged);
+    assert!(desk.judged > 60, "{}", desk.judged);
+    assert_eq!(desk.book.pages.len(), 3);
+}
+
+/// The digits of a command's eight or eleven sectors lie across two pieces of 512
+/// bytes: the digit of block 503 is the first of the second piece.
 #[test]
 fn digits_across_two_pieces() {
     for recorded in 494..505 {
-        for line in ["commit run.disc", "write run.disc 0"] {
+        for line in ["commit run.disc", "write run.disc 0", "store run.disc 0"] {
             let mut desk = Desk::new(540, recorded);
             desk.take(&event("close run.disc", Call::ClosePacket));
             let call = if line.starts_with('c') {

@@ -17,18 +17,18 @@ use Rattle.listing.proofs.list.put_listed.Statement.{statement}
 use Rattle.listing.proofs.list.put_listed.Tie as tie
 
 -- the entry of the function
-abbrev start-of : tie.After-station-mount → tie.Start
+abbrev start-of : tie.After-mount → tie.Start
 start-of c = c .before .before .before .before .before
 
-answered : (c : tie.After-station-mount) → let s = start-of c in c .station-mount .result ≡ after (lent (s .args .image .now) (s .args .kinds .now)) spare mount .answer
+answered : (c : tie.After-mount) → let s = start-of c in c .mount .result ≡ after (lent (s .args .image .now) (s .args .kinds .now)) spare mount .answer
 unfolding spare
-answered c = ap {A = After} (λ x. x .answer) (c .station-mount .ensures)
+answered c = ap {A = After} (λ x. x .answer) (c .mount .ensures)
 
-slice-aggregate-station-mount : tie.Need-slice-aggregate-station-mount
-slice-aggregate-station-mount c = search needs
+slice-aggregate-mount : tie.Need-slice-aggregate-mount
+slice-aggregate-mount c = search needs
 
-station-mount-requires : tie.Need-station-mount-requires
-station-mount-requires c κs = search needs
+mount-requires : tie.Need-mount-requires
+mount-requires c κs = search needs
 
 cast-put-refused : tie.Need-cast-put-refused
 cast-put-refused c = search needs
@@ -43,7 +43,7 @@ returns : tie.Need-returns
 returns c =
     let p = c .before .before in let t = p .before .before in let m = t .before .before in let a = start-of m .args in
     let d : Disc = lent (a .image .now) (a .kinds .now) in
-    let line : refusedLine (m .station-mount .result / 4294967296) ≡ listed d =
+    let line : refusedLine (m .mount .result / 4294967296) ≡ listed d =
     ap (λ (x : ℕ). refusedLine (outcomeIn x)) (answered m) ∙ listed-refused d (λ e. t .if1 .taken (ap outcomeIn (answered m) ∙ e)) in
     (p .put-refused .ensures .0 ∙ ap (sets (a .out .now) 0) line, p .put-refused .ensures .1 ∙ ap length line)
 
@@ -66,7 +66,7 @@ returns-2 c =
     let a = start-of m .args in
     let d : Disc = lent (a .image .now) (a .kinds .now) in
     let out : List ℕ = a .out .now in
-    let rows : List ℕ = rowsFrom d (eqb (m .station-mount .result % 4294967296) 1) (mostListed + 1) 0 in
+    let rows : List ℕ = rowsFrom d (eqb (m .mount .result % 4294967296) 1) (mostListed + 1) 0 in
     let all : heading ++ rows ≡ listed d =
     ap (λ (x : ℕ). heading ++ rowsFrom d (eqb (secondIn x) 1) (mostListed + 1) 0) (answered m) ∙ listed-rows d (ap outcomeIn (sym (answered m)) ∙ e .if1 .left) in
     let titled : h .put-text .last .0 ≡ sets out 0 heading = h .put-text .ensures in (
@@ -78,8 +78,8 @@ pub put-listed-spec : {M : Type 1} → statement M
 put-listed-spec =
     tie.close
     (tie.spec
-    slice-aggregate-station-mount
-    station-mount-requires
+    slice-aggregate-mount
+    mount-requires
     cast-put-refused
     put-refused-requires
     same-length

@@ -31,25 +31,25 @@ abbrev μ-loop : tie.MeasureT-loop
 abbrev start-of : tie.At-loop Inv-loop μ-loop → tie.Start Inv-loop μ-loop
 start-of c = c .before .before .before .before
 
-abbrev turn : tie.After-station-look-back Inv-loop μ-loop → tie.At-loop Inv-loop μ-loop
+abbrev turn : tie.After-look-back Inv-loop μ-loop → tie.At-loop Inv-loop μ-loop
 turn c = c .before .before .before
 
-abbrev after-look-back : tie.Else1 Inv-loop μ-loop → tie.After-station-look-back Inv-loop μ-loop
+abbrev after-look-back : tie.Else1 Inv-loop μ-loop → tie.After-look-back Inv-loop μ-loop
 after-look-back c = c .before .before
 
 abbrev found : tie.After-put-row-arg Inv-loop μ-loop → tie.Else1 Inv-loop μ-loop
 found c = c .before .before .before .before .before
 
 -- what the call answered and left
-answered : (c : tie.After-station-look-back Inv-loop μ-loop)
-    → let p = turn c in let s = start-of p in c .station-look-back .result ≡ after (lent (s .args .image .now) (s .args .kinds .now)) spare (lookBack (p .loop .k)) .answer
+answered : (c : tie.After-look-back Inv-loop μ-loop)
+    → let p = turn c in let s = start-of p in c .look-back .result ≡ after (lent (s .args .image .now) (s .args .kinds .now)) spare (lookBack (p .loop .k)) .answer
 unfolding spare
-answered c = ap {A = After} (λ x. x .answer) (c .station-look-back .ensures)
+answered c = ap {A = After} (λ x. x .answer) (c .look-back .ensures)
 
-shown : (c : tie.After-station-look-back Inv-loop μ-loop)
-    → let p = turn c in let s = start-of p in c .station-look-back .last .1 .1 .0 ≡ after (lent (s .args .image .now) (s .args .kinds .now)) spare (lookBack (p .loop .k)) .ledger
+shown : (c : tie.After-look-back Inv-loop μ-loop)
+    → let p = turn c in let s = start-of p in c .look-back .last .1 .1 .0 ≡ after (lent (s .args .image .now) (s .args .kinds .now)) spare (lookBack (p .loop .k)) .ledger
 unfolding spare
-shown c = ap {A = After} (λ x. x .ledger) (c .station-look-back .ensures)
+shown c = ap {A = After} (λ x. x .ledger) (c .look-back .ensures)
 
 same-row : (k : ℕ) {x x′ y y′ z z′ : ℕ} → x ≡ x′ → y ≡ y′ → z ≡ z′ → rowLine k x y z ≡ rowLine k x′ y′ z′
 same-row k p q r = cc
@@ -57,11 +57,11 @@ same-row k p q r = cc
 loop-holds : tie.Need-loop-holds Inv-loop μ-loop
 loop-holds c = (omega arith, omega arith, refl, refl, refl)
 
-slice-aggregate-station-look-back : tie.Need-slice-aggregate-station-look-back Inv-loop μ-loop
-slice-aggregate-station-look-back c = refl
+slice-aggregate-look-back : tie.Need-slice-aggregate-look-back Inv-loop μ-loop
+slice-aggregate-look-back c = refl
 
-station-look-back-requires : tie.Need-station-look-back-requires Inv-loop μ-loop
-station-look-back-requires c κs = tt
+look-back-requires : tie.Need-look-back-requires Inv-loop μ-loop
+look-back-requires c κs = tt
 
 put-last-requires : tie.Need-put-last-requires Inv-loop μ-loop
 put-last-requires c κs = let p = turn (c .before .before .before) in let l = p .loop in omega (arith, l .inv .0, l .inv .1, l .inv .2, start-of p .pre)
@@ -73,7 +73,7 @@ returns : tie.Need-returns Inv-loop μ-loop
 returns c =
     let o = c .before .before in let t = o .before .before in let b = t .before .before in let p = turn b in let l = p .loop in
     let a = start-of p .args in
-    let line : lastLine (eqb (b .station-look-back .result / 4294967296) 8) (a .clean) ≡ rowsFrom (lent (a .image .now) (a .kinds .now)) (a .clean) (32 - l .k) (l .k) =
+    let line : lastLine (eqb (b .look-back .result / 4294967296) 8) (a .clean) ≡ rowsFrom (lent (a .image .now) (a .kinds .now)) (a .clean) (32 - l .k) (l .k) =
     ap (λ (x : ℕ). lastLine (eqb (outcomeIn x) 8) (a .clean)) (answered b)
     ∙ rows-stop (lent (a .image .now) (a .kinds .now)) (a .clean) (32 - l .k) (l .k) (omega arith) (λ e. t .if1 .taken (ap outcomeIn (answered b) ∙ e)) in
     (o .put-last .ensures .0 ∙ ap (sets (l .out) (l .at)) line ∙ l .inv .3, o .put-last .ensures .1 ∙ ap (λ (x : List ℕ). l .at + length x) line ∙ l .inv .4)
@@ -111,10 +111,10 @@ loop-again c =
     let p = turn b in let l = p .loop in let a = start-of p .args in
     let d : Disc = lent (a .image .now) (a .kinds .now) in
     let done : outcomeIn (after d spare (lookBack (l .k)) .answer) ≡ 0 = ap outcomeIn (sym (answered b)) ∙ e .if1 .left in
-    let second : b .station-look-back .result % 4294967296 ≡ secondIn (after d spare (lookBack (l .k)) .answer) = ap secondIn (answered b) in
+    let second : b .look-back .result % 4294967296 ≡ secondIn (after d spare (lookBack (l .k)) .answer) = ap secondIn (answered b) in
     let size : z .size .result ≡ unpack (after d spare (lookBack (l .k)) .ledger) .size = z .size .ensures ∙ ap (λ (x : List ℕ). unpack x .size) (shown b) in
     let count : u .used .result ≡ used (unpack (after d spare (lookBack (l .k)) .ledger) .entries) = u .used .ensures ∙ ap (λ (x : List ℕ). used (unpack x .entries)) (shown b) in
-    let one : List ℕ = rowLine (l .k) (b .station-look-back .result % 4294967296) (z .size .result) (u .used .result) in
+    let one : List ℕ = rowLine (l .k) (b .look-back .result % 4294967296) (z .size .result) (u .used .result) in
     let is : one ≡ rowOf (l .k) (after d spare (lookBack (l .k))) = same-row (l .k) second size count ∙ row-of (l .k) (after d spare (lookBack (l .k))) in
     let left : 32 - (l .k + 1) ≡ 32 - l .k - 1 = omega arith in (
       omega arith,
@@ -147,8 +147,8 @@ put-rows-spec =
     Inv-loop
     μ-loop
     loop-holds
-    slice-aggregate-station-look-back
-    station-look-back-requires
+    slice-aggregate-look-back
+    look-back-requires
     put-last-requires
     same-length
     returns

@@ -1,4 +1,4 @@
--- `vat::sector::put_lengths` meets its contract: the rows that the two lengths settle, put one after another.
+-- `vat::sector::put_lengths` meets its contract: the rows of the lengths, put one after another.
 -- Assumes nothing.
 use Rattle.le.specs.Field.{lay}
 use Rattle.vat.specs.Table.{lengthRows}
@@ -6,20 +6,11 @@ use borrow.Author.Needs.{needs}
 use Rattle.vat.proofs.sector.put_lengths.Statement.{statement}
 use Rattle.vat.proofs.sector.put_lengths.Tie as tie
 
-mul-length : tie.Need-mul-length
-mul-length c = search needs
-
-add-length : tie.Need-add-length
-add-length c = search needs
-
 put32-requires : tie.Need-put32-requires
 put32-requires c κs = search needs
 
 put32-requires-2 : tie.Need-put32-requires-2
 put32-requires-2 c κs = search needs
-
-cast-put64 : tie.Need-cast-put64
-cast-put64 c = search needs
 
 put64-requires : tie.Need-put64-requires
 put64-requires c κs = search needs
@@ -44,11 +35,8 @@ pub put-lengths-spec : {M : Type 1} → statement M
 put-lengths-spec =
     tie.close
     (tie.spec
-    mul-length
-    add-length
     put32-requires
     put32-requires-2
-    cast-put64
     put64-requires
     add-put16
     cast-put16

@@ -9,7 +9,7 @@ use lib.Seq.{sets}
 use Rattle.le.specs.Field.{lay}
 use Rattle.le.proofs.Rows.{length-lay}
 use Rattle.tag.specs.Tag.{seal}
-use Rattle.vat.specs.Table.{tableStart, plainRows, lengthRows}
+use Rattle.vat.specs.Table.{tableStart, tableLength, plainRows, tableRows}
 use Rattle.vat.specs.Sector.{ownRows, tableBytes, stationAt, stationName, timed, body, sector}
 use Rattle.vat.proofs.Frame.{Lengths}
 use Rattle.vat.proofs.Record.{header, header-lengths, header-laid, length-body}
@@ -30,11 +30,11 @@ after-plain c = after-lengths c .before .before .before .before
 abbrev after-times : tie.After-seal-arg → tie.After-put-times
 after-times c = after-plain c .before .before .before .before
 
-abbrev after-station : tie.After-seal-arg → tie.After-put-text
+abbrev after-station : tie.After-seal-arg → tie.After-put-name
 after-station c = after-times c .before .before .before .before
 
 abbrev after-table : tie.After-seal-arg → tie.After-put-table
-after-table c = after-station c .before .before .before .before .before
+after-table c = after-station c .before .before .before .before
 
 abbrev after-clear : tie.After-seal-arg → tie.After-clear
 after-clear c = after-table c .before .before .before .before
@@ -44,12 +44,12 @@ start-of c = after-clear c .before .before .before .before .before
 
 -- zeros, the table, the station's name and the times make the body
 filled : (c : tie.After-seal-arg) → let s = start-of c in after-times c .put-times .last .0 ≡ body (s .args .map .now) (s .args .previous) (s .args .stamp .now)
-unfolding body stationName
+unfolding body
 filled c =
     let s = start-of c in let a = s .args in
     let zeros = after-clear c .clear .ensures ∙ ap (λ (n : ℕ). replicate n 0) (s .pre .0) in
     let table = after-table c .put-table .ensures ∙ ap (λ (l : List ℕ). sets l (tableStart 0) (tableBytes (a .map .now) (a .previous))) zeros in
-    let named = after-station c .put-text .ensures ∙ ap (λ (l : List ℕ). sets l stationAt stationName) table in
+    let named = after-station c .put-name .ensures ∙ ap (λ (l : List ℕ). sets l stationAt stationName) table in
     after-times c .put-times .ensures ∙ ap (timed (a .stamp .now)) named
 
 -- what is sealed: the header laid over the body
@@ -59,8 +59,17 @@ laid c =
     let a = start-of c .args in
     let n : ℕ = length (a .map .now) in
     let plain = after-plain c .put-plain .ensures ∙ ap (λ (l : List ℕ). lay l (plainRows (a .b))) (filled c) in
-    let lengths = after-lengths c .put-lengths .ensures ∙ ap (λ (l : List ℕ). lay l (lengthRows 0 n)) plain in
-    after-own c .put-own .ensures ∙ ap (λ (l : List ℕ). lay l ownRows) lengths ∙ header-laid (a .b) n (body (a .map .now) (a .previous) (a .stamp .now))
+    let lengths = after-lengths c .put-lengths .ensures ∙ ap (λ (l : List ℕ). lay l (tableRows 0 n)) plain in
+    after-own c .put-own .ensures ∙ ap (λ (l : List ℕ). lay l (ownRows 3)) lengths ∙ header-laid (a .b) n (body (a .map .now) (a .previous) (a .stamp .now))
+
+cast-length : tie.Need-cast-length
+cast-length c = search needs
+
+mul-length : tie.Need-mul-length
+mul-length c = search needs
+
+add-length : tie.Need-add-length
+add-length c = search needs
 
 clear-requires : tie.Need-clear-requires
 clear-requires c κs = search needs
@@ -68,11 +77,8 @@ clear-requires c κs = search needs
 put-table-requires : tie.Need-put-table-requires
 put-table-requires c κs = search needs
 
-slice-aggregate-put-text : tie.Need-slice-aggregate-put-text
-slice-aggregate-put-text c = search needs
-
-put-text-requires : tie.Need-put-text-requires
-put-text-requires c κs = search needs
+put-name-requires : tie.Need-put-name-requires
+put-name-requires c κs = search needs
 
 put-times-requires : tie.Need-put-times-requires
 put-times-requires c κs = search needs
@@ -94,7 +100,7 @@ seal-requires c κs =
     let p = start-of c in let a = p .args in
     let n : ℕ = length (a .map .now) in
     let s : List ℕ = body (a .map .now) (a .previous) (a .stamp .now) in
-    let told : Lengths (lay s (header (a .b) n)) 0 n = header-lengths (a .b) n s (p .fits .b .fits) (p .pre .1) (length-body (a .map .now) (a .previous) (a .stamp .now)) in
+    let told : Lengths (lay s (header (a .b) n)) 0 (tableLength n) (tableLength n) = header-lengths (a .b) n s (p .fits .b .fits) (p .pre .1) (length-body (a .map .now) (a .previous) (a .stamp .now)) in
     rw (laid c) (omega (arith, told .summed, p .pre .1, length-lay (header (a .b) n) s, length-body (a .map .now) (a .previous) (a .stamp .now)))
 
 same-length : tie.Need-same-length
@@ -108,10 +114,12 @@ pub record-spec : {M : Type 1} → statement M
 record-spec =
     tie.close
     (tie.spec
+    cast-length
+    mul-length
+    add-length
     clear-requires
     put-table-requires
-    slice-aggregate-put-text
-    put-text-requires
+    put-name-requires
     put-times-requires
     put-plain-requires
     cast-put-lengths

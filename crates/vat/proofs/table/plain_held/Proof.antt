@@ -1,81 +1,39 @@
--- `vat::table::plain_held` meets its contract: the identifier decides first, then all the other rows together.
+-- `vat::table::plain_held` meets its contract: the rows of every file entry decide first, then one more.
 -- Assumes nothing.
-use Rattle.le.specs.Field.{holds}
-use Rattle.vat.specs.Table.{sectorLength, plainRows}
-use Prim.Native.Nat.{ℕ, _≤_}
-use mathlib.Core.Path.{_≡_, sym, ap, ap₂, _∙_, subst⁻¹}
-use mathlib.Core.Bool.{true, false, _&&_, and-true}
-use mathlib.Core.List.{List}
-use lib.Dec.{eqb, lit≤}
-use lib.ListN.{length}
-use borrow.Author.Tests.{eq-eqb, ne-eqb}
-use Rattle.le.specs.Field.{readLe}
+use Prim.Native.Nat.{ℕ}
+use mathlib.Core.Path.{_≡_, sym, ap, ap₂, _∙_}
+use mathlib.Core.Bool.{Bool, true, false, _&&_, and-true}
+use mathlib.Core.List.{List, [], _∷_}
+use lib.Dec.{eqb}
+use borrow.Author.Tests.{not-true, not-false}
+use Rattle.le.specs.Field.{row, readLe, holds}
+use Rattle.le.proofs.Rows.{holds-append}
+use Rattle.vat.specs.Table.{entryRows, plainRows}
+use borrow.Author.Needs.{needs}
 use Rattle.vat.proofs.table.plain_held.Statement.{statement}
 use Rattle.vat.proofs.table.plain_held.Tie as tie
 
--- the places of the function, each found from a later one
-abbrev start-of : tie.Else1 → tie.Start
-start-of c = c .before .before .before
+-- the rows of every file entry, and the link count
+parted : (s : List ℕ) (b : ℕ) (t : Bool) → holds s (entryRows 0 b) ≡ t → holds s (plainRows b) ≡ (t && eqb (readLe 2 s 48) 0)
+unfolding holds plainRows
+parted s b t e = holds-append (entryRows 0 b) (row 48 2 0 ∷ []) s ∙ ap₂ _&&_ e (and-true (eqb (readLe 2 s 48) 0))
 
-abbrev identified : tie.After-read32 → tie.Else1
-identified c = c .before .before .before
-
--- a place below 2048 is within the sector
-inside : (c : tie.Start) {k : ℕ} → k ≤ sectorLength → k ≤ length (c .args .s .now)
-inside c {k} h = subst⁻¹ (λ (n : ℕ). k ≤ n) (c .pre) h
-
-read16-requires : tie.Need-read16-requires
-read16-requires c κs = inside (c .before) (lit≤ tt)
+entry-held-requires : tie.Need-entry-held-requires
+entry-held-requires c κs = search needs
 
 returns : tie.Need-returns
-unfolding holds plainRows
 returns c =
-    let s : List ℕ = c .before .before .before .args .s .now in
-    let wrong : eqb (readLe 2 s 0) 261 ≡ false = ne-eqb (readLe 2 s 0) 261 (λ e. c .if1 .taken (c .before .read16 .ensures ∙ e)) in
-    rw wrong
+    let e = c .before in let a = e .before .before .args in
+    sym (parted (a .s .now) (a .b) false (sym (e .entry-held .ensures) ∙ not-true (e .entry-held .result) (c .if1 .taken)))
 
-read16-requires-2 : tie.Need-read16-requires-2
-read16-requires-2 c κs = inside (start-of c) (lit≤ tt)
-
-read8-requires : tie.Need-read8-requires
-read8-requires c κs = inside (start-of (c .before)) (lit≤ tt)
-
-read32-requires : tie.Need-read32-requires
-read32-requires c κs = inside (start-of (c .before .before)) (lit≤ tt)
-
-read16-requires-3 : tie.Need-read16-requires-3
-read16-requires-3 c κs = inside (start-of (identified c)) (lit≤ tt)
-
-read8-requires-2 : tie.Need-read8-requires-2
-read8-requires-2 c κs = inside (start-of (identified (c .before))) (lit≤ tt)
-
-read16-requires-4 : tie.Need-read16-requires-4
-read16-requires-4 c κs = inside (start-of (identified (c .before .before))) (lit≤ tt)
+read16-requires : tie.Need-read16-requires
+read16-requires c κs = search needs
 
 returns-2 : tie.Need-returns-2
-unfolding holds plainRows
 returns-2 c =
-    let f = c .before in let y = f .before in let b = y .before in let z = b .before in let v = z .before in let e = identified b in
-    let a = start-of e .args in
-    let s : List ℕ = a .s .now in
-    let right : eqb (readLe 2 s 0) 261 ≡ true = eq-eqb (readLe 2 s 0) 261 (sym (e .before .read16 .ensures) ∙ e .if1 .left) in
-    let links = ap (λ (x : ℕ). eqb x 0) (c .read164 .ensures) ∙ sym (and-true (eqb (readLe 2 s 48) 0)) in
-    let file-type = ap₂ _&&_ (ap (λ (x : ℕ). eqb x 0) (f .read82 .ensures)) links in
-    let strategy = ap₂ _&&_ (ap (λ (x : ℕ). eqb x 4) (y .read163 .ensures)) file-type in
-    let location = ap₂ _&&_ (ap (λ (x : ℕ). eqb x (a .b)) (b .read32 .ensures)) strategy in
-    let zero = ap₂ _&&_ (ap (λ (x : ℕ). eqb x 0) (z .read8 .ensures)) location in
-    rw right (ap₂ _&&_ (ap (λ (x : ℕ). eqb x 2) (v .read162 .ensures)) zero)
+    let e = c .before .before in let a = e .before .before .args in
+    ap (λ (x : ℕ). eqb x 0) (c .read16 .ensures)
+    ∙ sym (parted (a .s .now) (a .b) true (sym (e .entry-held .ensures) ∙ not-false (e .entry-held .result) (c .before .if1 .left)))
 
 pub plain-held-spec : {M : Type 1} → statement M
-plain-held-spec =
-    tie.close
-    (tie.spec
-    read16-requires
-    returns
-    read16-requires-2
-    read8-requires
-    read32-requires
-    read16-requires-3
-    read8-requires-2
-    read16-requires-4
-    returns-2)
+plain-held-spec = tie.close (tie.spec entry-held-requires returns read16-requires returns-2)

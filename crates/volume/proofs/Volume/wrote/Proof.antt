@@ -4,6 +4,7 @@ use Prim.Native.Nat.{ℕ, _+_}
 use mathlib.Core.Path.{_≡_, sym, ap, _∙_}
 use mathlib.Core.Bool.{Bool, true, false}
 use mathlib.Core.Logic.{⊎-elim}
+use mathlib.Core.Option.{some}
 use lib.Dec.{eqb}
 use lib.ListN.{set}
 use borrow.Author.Tests.{eq-eqb, ne-eqb}
@@ -16,7 +17,7 @@ use Rattle.volume.proofs.Volume.wrote.Tie as tie
 -- the state after the branch, with the other fields set
 met : (v s : Volume) (n b : ℕ) (t : Bool) → eqb n (v .size) ≡ t
     → s ≡ record { entries = set (v .entries) n b; size = grown t (v .size); recorded = v .recorded; last = v .last; mode = v .mode }
-    → record { entries = s .entries; size = s .size; recorded = b + 1; last = s .last; mode = 1 } ≡ wrote n b v
+    → record { entries = s .entries; size = s .size; recorded = b + 1; last = s .last; mode = 1 } ≡ wrote (some n) b v
 unfolding wrote
 met v s n b t z e =
     ap (λ (u : Volume). record { entries = u .entries; size = u .size; recorded = b + 1; last = u .last; mode = 1 }) e

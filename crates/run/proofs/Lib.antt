@@ -1,0 +1,4 @@
+pub mod Extents
+pub mod Words
+pub mod Record
+pub mod Theorems

@@ -1,0 +1,3 @@
+// The entry of a run.
+pub mod entry;
+pub mod sector;

@@ -1,0 +1,54 @@
+//! Table sectors that commit would not record, and sums laid by hand.
+
+use station_model::fields::put;
+use station_model::table::{crc, seal, table_length, vat_sector, SECTOR};
+
+/// Byte 176, where extended attributes start, and behind them the table.
+pub const ATTRIBUTES: usize = 176;
+
+/// A table sector as commit records it, but behind these extended attributes:
+/// "The table [...] starts at 176 + attribute length" (document 02). What would
+/// reach beyond the sector is cut off.
+pub fn vat_behind(attributes: &[u8], block: u32, map: &[u32], previous: u32) -> [u8; SECTOR] {
+    let mut sector = vat_sector(block, map, previous);
+    let table = ATTRIBUTES + attributes.len();
+    sector.copy_within(ATTRIBUTES..SECTOR - attributes.len(), table);
+    put(&mut sector, ATTRIBUTES, attributes);
+    let descriptors = table_length(map.len()) as u32;
+    put_lengths(&mut sector, attributes.len() as u32, descriptors);
+    seal(&mut sector, block);
+    sector
+}
+
+/// Puts attribute length and descriptor length, and CRC length and information
+/// length that agree with them, modulo 2 to the 16 where they are larger.
+pub fn put_lengths(sector: &mut [u8; SECTOR], attributes: u32, descriptors: u32) {
+    let crc_length = 160u32.wrapping_add(attributes).wrapping_add(descriptors);
+    put(sector, 10, &(crc_length as u16).to_le_bytes());
+    put(sector, 56, &u64::from(descriptors).to_le_bytes());
+    put(sector, 168, &attributes.to_le_bytes());
+    put(sector, 172, &descriptors.to_le_bytes());
+}
+
+/// Seals the sector for the block with a CRC over so many bytes, whatever its
+/// CRC length says.
+pub fn seal_over(sector: &mut [u8; SECTOR], block: u32, length: usize) {
+    let sum = crc(&sector[16..16 + length]);
+    put(sector, 8, &sum.to_le_bytes());
+    put(sector, 12, &block.to_le_bytes());
+    put_sum(sector);
+}
+
+/// Puts the right checksum of a tag: "sum of bytes 0 to 3 and 5 to 15, modulo 256".
+pub fn put_sum(sector: &mut [u8; SECTOR]) {
+    sector[4] = 0;
+    let all = sector[..16].iter().map(|byte| u32::from(*byte));
+    sector[4] = all.sum::<u32>() as u8;
+}
+
+/// The most bytes of attributes before a table of so many entries: "the whole
+/// must stay below one sector" (document 02), and all its lengths are multiples
+/// of 4.
+pub fn most_attributes(size: usize) -> usize {
+    SECTOR - 4 - ATTRIBUTES - table_length(size)
+}
