@@ -7,7 +7,7 @@ use mathlib.Core.Path.{_≡_, refl, sym, ap, ap₂, _∙_, subst}
 use mathlib.Core.Bool.{Bool, true, false, not}
 use mathlib.Core.List.{List, [], _∷_, _++_}
 use lib.Dec.{eqb, ltb}
-use lib.ListN.{length, getD, take, drop}
+use lib.ListN.{length, take, drop}
 use borrow.Author.Tests.{eqb-true, not-false}
 use Rattle.disc.specs.Disc.{Disc, sized, inOrder, kindAt, sectorAt, readable, content}
 use Rattle.volume.specs.Volume.{unpack, fits}
@@ -15,6 +15,7 @@ use Rattle.recorder.specs.Refusals.{Test, test, first, blockOf, notInUse}
 use Rattle.recorder.specs.Effects.{settled}
 use Rattle.run.specs.Entry.{totalLength, entryAt, extentsAt}
 use Rattle.run.specs.View.{bufferLent, viewOutcome, shownFrom, filledWith, viewEffect, view}
+use Rattle.history.proofs.Growth.{data-within}
 use Rattle.archive.specs.Earlier.{seen}
 use Rattle.archive.proofs.Runs.{SameBelow, extents-same, entry-same, run-same}
 use Rattle.alike.specs.Alike.{Alike, MeanNothing}
@@ -47,11 +48,6 @@ passes false false false false true g h i z = absurd (omega arith)
 passes false false false false false true h i z = absurd (omega arith)
 passes false false false false false false true i z = absurd (omega arith)
 passes false false false false false false false i z = (refl, refl)
-
-data-within : (ks : List ℕ) (b : ℕ) → getD ks b 0 ≡ 1 → b < length ks
-data-within [] b e = absurd (omega arith)
-data-within (k ∷ ks) zero e = omega arith
-data-within (k ∷ ks) (suc b) e = let h : b < length ks = data-within ks b e in omega arith
 
 module _ {d e : Disc} (a : Alike d e) where
   same-content : (b : ℕ) → content e b ≡ content d b

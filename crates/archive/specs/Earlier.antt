@@ -17,8 +17,11 @@ pub record Seen : Type 0 where
   pub answer : ℕ
   pub buffer : List ℕ
 
+abbrev pub showing : ℕ → List ℕ → Seen
+showing answer buffer = record { answer = answer; buffer = buffer }
+
 abbrev pub seen : After → Seen
-seen x = record { answer = x .answer; buffer = x .buffer }
+seen x = showing (x .answer) (x .buffer)
 
 -- Number n of the save k before the newest, seen from the offset on: a look back, lent these bytes as ledger, and a view.
 abbrev pub seenBack : Disc → List ℕ → ℕ → ℕ → ℕ → List ℕ → Seen

@@ -32,15 +32,16 @@ use Rattle.run.proofs.Theorems.{reads-back}
 use Rattle.viewer.proofs.Outcome.{view-done}
 use Rattle.history.specs.History.{History}
 use Rattle.history.specs.Events.{Event, AllAllowed, runs, remembers, afterCall}
-use Rattle.archive.specs.Earlier.{seen, seenBack, SeenLater}
+use Rattle.archive.specs.Earlier.{seen, seenBack, SeenLater, showing}
 use Rattle.archive.proofs.Theorem.{earlier-entries}
+use Rattle.history.proofs.Growth.{data-there}
 use Rattle.alike.specs.Alike.{Alike}
 use Rattle.alike.proofs.Views.{mean-nothing}
-use Rattle.client.specs.Day.{Day, ended, called, goingOn, day, AllDone, opening, savesAmong, showing, filling, storing, viewed}
+use Rattle.client.specs.Day.{Day, ended, called, goingOn, day, AllDone, opening, savesAmong, filling, storing, viewed}
 use Rattle.client.proofs.Days.{first-done, called-done, done-first, rest-done, last-called, look-back-small}
 use Rattle.client.proofs.Claimed.{world, startHistory, start-kept, opened, remembered, claim-at}
 use Rattle.client.proofs.Since.{asEvents, Went, went, history-joined, saved, book, SavedThere}
-use Rattle.client.proofs.Written.{data-there, Wrote, write-told, write-small, written, names-block}
+use Rattle.client.proofs.Written.{Wrote, write-told, write-small, written, names-block}
 
 -- ---- a block and its entry, written one behind the other
 
@@ -80,10 +81,13 @@ module _ {d d₁ d₂ : Disc} {v₀ : Volume} {l₁ l₂ : List ℕ} (v n t : �
 
   block-there : (eqb (kindAt d₂ t) 1 ≡ true) × (sectorAt d₂ t ≡ block)
   block-there =
-      data-there d₂ t block (q .more .contents t (omega (arith, here, p .counted)) ∙ ap (content d₁) here ∙ p .holds)
+      let s = data-there d₂ t block (q .more .contents t (omega (arith, here, p .counted)) ∙ ap (content d₁) here ∙ p .holds) in
+      (eq-eqb (kindAt d₂ t) 1 (s .0), s .1)
 
   entry-there : (eqb (kindAt d₂ (t + 1)) 1 ≡ true) × (sectorAt d₂ (t + 1) ≡ entry es (t + 1))
-  entry-there = data-there d₂ (t + 1) (entry es (t + 1)) (ap (content d₂) (sym behind-it) ∙ q .holds)
+  entry-there =
+      let s = data-there d₂ (t + 1) (entry es (t + 1)) (ap (content d₂) (sym behind-it) ∙ q .holds) in
+      (eq-eqb (kindAt d₂ (t + 1)) 1 (s .0), s .1)
 
   is-there : (isEntry (d₂ .kinds) (entry es (t + 1)) (t + 1) ≡ true) × (extentsOf (entry es (t + 1)) ≡ es)
   is-there =

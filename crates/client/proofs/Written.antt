@@ -15,7 +15,7 @@ use borrow.Author.Tests.{eq-eqb, ne-eqb, eqb-true, eqb-false, lt-ltb, lt-leb, le
 use Rattle.le.specs.Bytes.{every}
 use Rattle.le.proofs.Rows.{and-left, and-right}
 use Rattle.vat.specs.Table.{limit, unused, unusedOrBelow, isTable}
-use Rattle.disc.specs.Disc.{Disc, Sector, link, recorded, kindAt, sectorAt, readable, content, puts}
+use Rattle.disc.specs.Disc.{Disc, Sector, link, recorded, kindAt, content, puts}
 use Rattle.disc.specs.Tables.{tableAt}
 use Rattle.disc.proofs.Recording.{Sound, leading-le}
 use Rattle.disc.proofs.Found.{table-recorded}
@@ -27,18 +27,8 @@ use Rattle.recorder.specs.Refusals.{Test, test, first, links, target, blockLent
 use Rattle.recorder.specs.Effects.{effect, After, after}
 use Rattle.recorder.proofs.Sectors.{links-whole, behind, length-behind, behind-whole}
 use Rattle.recorder.proofs.Done.{Fits, basic-passed, links-few, Writable, WriteDone, write-done}
-use Rattle.history.proofs.Log.{all-below-more, some-same, none-some, Extends}
-use Rattle.history.proofs.Growth.{F, all-below-of, all-below-to, NoTables, Grown, puts-plain, links-no-tables, behind-no-tables, behind-content, behind-counted}
-
--- ---- what a data sector reads
-
-pub data-there : (d : Disc) (b : ℕ) (s : List ℕ) → content d b ≡ some s → (eqb (kindAt d b) 1 ≡ true) × (sectorAt d b ≡ s)
-unfolding content
-data-there d b s e = go (eqb (kindAt d b) 1) e
-  where
-    go : (t : Bool) → readable t (sectorAt d b) ≡ some s → (t ≡ true) × (sectorAt d b ≡ s)
-    go true e = (refl, some-same (sectorAt d b) s e)
-    go false e = absurd (none-some s e)
+use Rattle.history.proofs.Log.{all-below-more, Extends}
+use Rattle.history.proofs.Growth.{F, data-there, all-below-of, all-below-to, NoTables, Grown, puts-plain, links-no-tables, behind-no-tables, behind-content, behind-counted}
 
 -- ---- the ledger fits
 
@@ -190,7 +180,7 @@ module _ (d : Disc) (l : List ℕ) (good : Proper (unpack l)) (n : Option ℕ) (
         proper = subst Proper (sym same) fine;
         fit =
             ap (fits d′) same
-            ∙ wrote-fits d d′ v n (target v) ok (write-fits d l n block e) (f .fit) (f .writable) (good .long) (g .plainly .extends) (omega (arith, here)) one-more (data-there d′ (target v) block there .0);
+            ∙ wrote-fits d d′ v n (target v) ok (write-fits d l n block e) (f .fit) (f .writable) (good .long) (g .plainly .extends) (omega (arith, here)) one-more (eq-eqb (kindAt d′ (target v)) 1 (data-there d′ (target v) block there .0));
       })
 
 -- what the ledger says of the number

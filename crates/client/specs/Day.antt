@@ -16,7 +16,7 @@ use Rattle.run.specs.Entry.{entry}
 use Rattle.run.specs.View.{filledWith, view}
 use Rattle.history.specs.Events.{Event, runs}
 use Rattle.history.specs.Closed.{TurnedAway}
-use Rattle.archive.specs.Earlier.{Seen}
+use Rattle.archive.specs.Earlier.{Seen, showing}
 
 -- What the last call answered, outcome × 4,294,967,296 + second number; and the disc and the ledger as it left them.
 pub record Day : Type 0 where
@@ -141,10 +141,6 @@ leftBy d held tried = runs (record { disc = d; ledger = held }) tried .disc
 -- An answer that turns away a call on a closed disc.
 abbrev pub ClosedAnswer : ℕ → Type 0
 ClosedAnswer r = (n : ℕ) × TurnedAway n × (r ≡ n * 4294967296)
-
--- What a view tells: its answer, and the buffer with what it fills in.
-abbrev pub showing : ℕ → List ℕ → Seen
-showing answer buffer = record { answer = answer; buffer = buffer }
 
 -- A view that is done and shows these bytes.
 abbrev pub filling : List ℕ → List ℕ → Seen

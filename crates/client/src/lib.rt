@@ -19,9 +19,9 @@ ghost use Rattle.recorder.specs.Calls.{Call, begin, mount, write, release, clos
 ghost use Rattle.run.specs.View.{mostViewed};
 ghost use Rattle.history.specs.Events.{Event};
 ghost use Rattle.history.specs.Times.{savedStamp};
-ghost use Rattle.archive.specs.Earlier.{seenBack};
+ghost use Rattle.archive.specs.Earlier.{seenBack, showing};
 ghost use Rattle.alike.specs.Alike.{Alike};
-ghost use Rattle.client.specs.Day.{Day, ended, morning, day, AllDone, opening, readAt, ShowsSave, oneBack, savesAmong, sectorsBehind, CutBehind, tableKept, readsOf, StoppedStoring, StoppedMarking, leftBy, ClosedAnswer, showing, filling, storing, viewed};
+ghost use Rattle.client.specs.Day.{Day, ended, morning, day, AllDone, opening, readAt, ShowsSave, oneBack, savesAmong, sectorsBehind, CutBehind, tableKept, readsOf, StoppedStoring, StoppedMarking, leftBy, ClosedAnswer, filling, storing, viewed};
 
 // An answer from here on is a refusal.
 const REFUSED: u64 = 4294967296;

@@ -10,14 +10,14 @@ use mathlib.Core.List.{List, [], _∷_, _++_}
 use mathlib.Core.Logic.{inl, inr}
 use mathlib.Core.Option.{Option, some}
 use lib.Dec.{eqb}
-use lib.ListN.{length, getD, take, drop, replicate, length-replicate}
+use lib.ListN.{length, take, drop, replicate, length-replicate}
 use lib.Seq.{drop-cons}
-use borrow.Author.Tests.{eqb-true, le-ltb, le-leb}
+use borrow.Author.Tests.{le-ltb, le-leb}
 use Rattle.le.specs.Bytes.{every}
 use Rattle.anchor.specs.declared.Extent.{Extent}
 use Rattle.anchor.specs.Anchor.{anchor, anchorTagged}
 use Rattle.anchor.proofs.Theorems.{tagged-anchor}
-use Rattle.disc.specs.Disc.{Disc, sized, inOrder, recorded, kindAt, sectorAt, readable, content, Sector, link, plain, torn, put, puts}
+use Rattle.disc.specs.Disc.{Disc, sized, inOrder, recorded, kindAt, sectorAt, content, Sector, link, plain, torn, put, puts}
 use Rattle.disc.specs.Session.{zeroSectors, zeroSector, closing, closingLength, sessionClosed}
 use Rattle.disc.proofs.Recording.{Sound, Recorded, put-recorded, puts-append}
 use Rattle.volume.specs.Volume.{ledgerLength, readOnly, unpack, fits}
@@ -31,8 +31,8 @@ use Rattle.history.specs.History.{Snapshot, History, Fed, feed}
 use Rattle.history.specs.Events.{World, Event, calls, cuts, ledgerHeld, cutDisc, AllAllowed, next, fed, runs, remembers, afterCall, begunHistory, mountedHistory}
 use Rattle.history.specs.Claim.{DoneShowing, Mounts, Claim}
 use Rattle.history.specs.Closed.{ClosedShowing, Closes, mayRecord, TurnedAway, ClosedDiscs}
-use Rattle.history.proofs.Log.{none-some, some-same, Extends}
-use Rattle.history.proofs.Growth.{F, plain-content, NoTables, Grown, puts-plain, links-no-tables, closing-no-tables, behind-counted, behind-extends}
+use Rattle.history.proofs.Log.{none-some, Extends}
+use Rattle.history.proofs.Growth.{F, data-there, data-within, plain-content, NoTables, Grown, puts-plain, links-no-tables, closing-no-tables, behind-counted, behind-extends}
 use Rattle.history.proofs.Saving.{Saving, closing-saving, tableSector, beforeTable, length-before, before-whole, before-no-tables, room, sector-long, savedDisc, save}
 use Rattle.history.proofs.Steps.{done-fed, refused-records-none, records-nothing}
 use Rattle.history.proofs.Theorem.{Kept, all-kept, claimed, begun-kept, mounted-kept, drafted, saved-page, saved-disc, remounts}
@@ -81,28 +81,14 @@ stand-on e (link ∷ ss) b h s = absurd s
 stand-on e (torn t ∷ ss) b h s = absurd s
 stand-on e (plain t ∷ ss) b h s = (e .contents b (omega arith) ∙ s .0, stand-on e ss (suc b) (omega arith) (s .1))
 
--- what is read is data, and stands there
-kind-of : (d : Disc) (b : ℕ) (s : List ℕ) → content d b ≡ some s → (kindAt d b ≡ 1) × (sectorAt d b ≡ s)
-unfolding content
-kind-of d b s e = go (eqb (kindAt d b) 1) refl e
-  where
-    go : (t : Bool) → eqb (kindAt d b) 1 ≡ t → readable t (sectorAt d b) ≡ some s → (kindAt d b ≡ 1) × (sectorAt d b ≡ s)
-    go true z e = (eqb-true (kindAt d b) 1 z, some-same (sectorAt d b) s e)
-    go false z e = absurd (none-some s e)
-
-within : (ks : List ℕ) (b : ℕ) → getD ks b 0 ≡ 1 → b < length ks
-within [] b e = absurd (omega arith)
-within (k ∷ ks) zero e = omega arith
-within (k ∷ ks) (suc b) e = let h : b < length ks = within ks b e in omega arith
-
 kinds-of : (ss : List Sector) (d : Disc) (b : ℕ) → Stands d b ss → every (λ k. eqb k 1) (take (length ss) (drop b (d .kinds))) ≡ true
 unfolding every
 kinds-of [] d b s = refl
 kinds-of (link ∷ ss) d b s = absurd s
 kinds-of (torn t ∷ ss) d b s = absurd s
 kinds-of (plain t ∷ ss) d b s =
-    let is : kindAt d b ≡ 1 = kind-of d b t (s .0) .0 in
-    rw (drop-cons (d .kinds) b 0 (within (d .kinds) b is), is) (kinds-of ss d (suc b) (s .1))
+    let is : kindAt d b ≡ 1 = data-there d b t (s .0) .0 in
+    rw (drop-cons (d .kinds) b 0 (data-within (d .kinds) b is), is) (kinds-of ss d (suc b) (s .1))
 
 first-of : (main reserve : Extent) (start b : ℕ) (d : Disc) (at : ℕ) → Stands d at (closing main reserve start b) → content d at ≡ some (anchor main reserve (start + b))
 unfolding closing
@@ -165,7 +151,7 @@ module _ (d : Disc) (l : List ℕ) (ok : Sound d) (good : Proper (unpack l)) (ma
   pointed : sectorAt left pointer ≡ anchor main reserve (start + target (unpack l))
   pointed =
       let b : ℕ = target (unpack l) in
-      kind-of left pointer (anchor main reserve (start + b)) (first-of main reserve start b left pointer standing) .1
+      data-there left pointer (anchor main reserve (start + b)) (first-of main reserve start b left pointer standing) .1
 
   tagged : anchorTagged (sectorAt left pointer) pointer ≡ true
   tagged =

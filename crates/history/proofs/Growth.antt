@@ -10,9 +10,9 @@ use mathlib.Core.List.{List, [], _∷_, _++_}
 use mathlib.Core.Logic.{inl, inr}
 use mathlib.Core.Option.{Option, none, some}
 use lib.Dec.{eqb, ltb}
-use lib.ListN.{length, take, replicate}
+use lib.ListN.{length, take, replicate, getD}
 use lib.Seq.{take-append-le, length-take-le, take-length}
-use borrow.Author.Tests.{eq-eqb, ltb-true, lt-ltb, le-ltb}
+use borrow.Author.Tests.{eq-eqb, ltb-true, lt-ltb, le-ltb, eqb-true}
 use Rattle.le.specs.Bytes.{every}
 use Rattle.le.proofs.Rows.{and-left, and-right}
 use Rattle.vat.specs.Table.{sectorLength, unused, unusedOrBelow, entriesOf, previousOf, modifiedOf, isTable}
@@ -25,7 +25,7 @@ use Rattle.disc.specs.Session.{zeroSectors, zeroSector, closing}
 use Rattle.disc.proofs.Recording.{Sound, Whole, Recorded, put-recorded, plain-here, puts-append}
 use Rattle.recorder.proofs.Sectors.{AllWhole, whole-take, behind, length-behind}
 use Rattle.history.specs.Events.{Torn, tornAt, cutDisc}
-use Rattle.history.proofs.Log.{Format, AllBelow, NamesBelow, View, Extends, Plain, Saved, extends-on, plain-same, plain-on}
+use Rattle.history.proofs.Log.{Format, AllBelow, NamesBelow, View, Extends, Plain, Saved, extends-on, plain-same, plain-on, none-some, some-same}
 
 abbrev pub F : Format
 F = record { Disc = Disc; recorded = recorded; table = tableAt; mapAt = mapAt; previousAt = previousAt; timeAt = timeAt; content = content }
@@ -52,6 +52,22 @@ all-below-to b (x ∷ xs) a = ap₂ (λ (p q : Bool). p && q) (below-to b x (a .
 
 pub names-below : NamesBelow F
 names-below d b e = all-below-of b (mapAt d b) (recognised (kindAt d b) (sectorAt d b) b e .entries)
+
+-- ---- data
+
+-- what is read is data, and stands there
+pub data-there : (d : Disc) (b : ℕ) (s : List ℕ) → content d b ≡ some s → (kindAt d b ≡ 1) × (sectorAt d b ≡ s)
+unfolding content
+data-there d b s e = go (eqb (kindAt d b) 1) refl e
+  where
+    go : (t : Bool) → eqb (kindAt d b) 1 ≡ t → readable t (sectorAt d b) ≡ some s → (kindAt d b ≡ 1) × (sectorAt d b ≡ s)
+    go true z e = (eqb-true (kindAt d b) 1 z, some-same (sectorAt d b) s e)
+    go false z e = absurd (none-some s e)
+
+pub data-within : (ks : List ℕ) (b : ℕ) → getD ks b 0 ≡ 1 → b < length ks
+data-within [] b e = absurd (omega arith)
+data-within (k ∷ ks) zero e = omega arith
+data-within (k ∷ ks) (suc b) e = let h : b < length ks = data-within ks b e in omega arith
 
 -- ---- one sector
 
