@@ -66,6 +66,14 @@ counted() {
     rm -f "$log"
 }
 
+# told_by PID FILE: what a command that was started before has written to the file, once it has ended, and its exit status
+told_by() {
+    wait "$1"
+    local status=$?
+    cat "$2"
+    return "$status"
+}
+
 # A crate that is proved is one, and each of its must-fail edits.
 rattle_tests() {
     { grep -E '^[a-z]' crates.txt; find crates -path '*/must-fail/*.edit'; } | wc -l
@@ -112,9 +120,14 @@ one "tests/vectors.py" outside_vectors
 one "tests/statements.py" python3 tests/statements.py
 counted "tests/statements_edits.py" "$(wrong_statements)" python3 tests/statements_edits.py
 counted "rt ci" "$(rattle_tests)" rt ci
-counted "tests/must_fail.sh" "$(must_fail_tests)" tests/must_fail.sh
 one "rt staticlib station" archive
+# These two at once: each leaves a processor idle now and then.
+edits=$(mktemp)
+tests/must_fail.sh >"$edits" 2>&1 &
+edits_tried=$!
 counted "host tests" "$(host_tests_written)" host_tests
+counted "tests/must_fail.sh" "$(must_fail_tests)" told_by "$edits_tried" "$edits"
+rm -f "$edits"
 
 for name in "${broken[@]}"; do
     echo "failed: $name"

@@ -21,6 +21,7 @@ FLOORS = "crates.txt"
 STATION = "crates/station/src/"
 CLIENT = "crates/client/src/"
 DISC_AND_LEDGER = ["image", "kinds", "ledger"]
+ALL_THREE = ["image", "kinds", "roles", "ledger"]
 BUFFERS = ["block", "stamp", "answer", "buffer"]
 SLICES = {"&[u8]": "const uint8_t", "&mut [u8]": "uint8_t"}
 NUMBERS = {"u32": "uint32_t", "u64": "uint64_t"}
@@ -46,6 +47,8 @@ HOMES = {
     "lent": "Rattle.disc.specs.Disc",
     "left": "Rattle.recorder.specs.Effects",
     "after": "Rattle.recorder.specs.Effects",
+    "leftRoles": "Rattle.roles.specs.Keeping",
+    "afterRoles": "Rattle.roles.specs.Keeping",
 }
 CALLS_HOME = "Rattle.recorder.specs.Calls"
 
@@ -108,9 +111,13 @@ class Exported:
             fail(self.where, "something else than `requires {..}` and `ensures {..}` stands between its result and its body")
 
     def form(self):
-        """Its call, by its name: station_close_packet is closePacket."""
-        first, *others = self.name.removeprefix("station_").split("_")
+        """Its call, by its name: station_close_packet_roles is closePacket."""
+        first, *others = self.name.removeprefix("station_").removesuffix("_roles").split("_")
         return first + "".join(map(str.capitalize, others))
+
+    def lent(self):
+        """What it is lent first: the roles too, if its name says so."""
+        return ALL_THREE if self.name.endswith("_roles") else DISC_AND_LEDGER
 
     def call(self):
         """Its call's constructor."""
@@ -119,7 +126,7 @@ class Exported:
     def own(self):
         """What its call is about, behind the ledger: each as its type and as the contract writes it. A length and directly behind it the location of the
         same name are one extent."""
-        found, parameters = [], self.parameters[3:]
+        found, parameters = [], self.parameters[len(self.lent()):]
         while parameters:
             (name, kind), *parameters = parameters
             location = name.removesuffix("_length") + "_location"
@@ -153,8 +160,9 @@ class Exported:
         return f"uint64_t {self.name}({', '.join(words)})"
 
     def contract(self):
-        """The one equation that it must promise: what it leaves is what `after` says of what it was lent, or its own definition."""
+        """The one equation that it must promise: what it leaves is what `after` says of what it was lent, with roles `afterRoles`, or its own definition."""
         kinds = dict(self.parameters)
+        left, after = ("leftRoles", "afterRoles") if self.lent() is ALL_THREE else ("left", "after")
 
         def at_end(name):
             return now(name, "exit" if kinds[name] == "&mut [u8]" else "entry")
@@ -162,10 +170,11 @@ class Exported:
         given = [text for _, text in self.given()]
         call = f"({' '.join([self.call(), *given])})" if given else self.call()
         buffers = [at_end(name) for name in BUFFERS if name in kinds]
-        left = " ".join(["left r", *map(at_end, DISC_AND_LEDGER), *(buffers or ["[]"])])
+        leaves = " ".join([left, "r", *map(at_end, self.lent()), *(buffers or ["[]"])])
         disc = f"(lent {now('image', 'entry')} {now('kinds', 'entry')})"
-        said = f"{self.form()} {disc} {now('ledger', 'entry')} {' '.join(given)}" if self.form() in OWN else f"after {disc} {now('ledger', 'entry')} {call}"
-        return f"λ r. ⌜ {left} ≡ {said} ⌝"
+        lent = " ".join([disc, *(now(name, "entry") for name in self.lent()[2:])])
+        said = f"{self.form()} {lent} {' '.join(given)}" if self.form() in OWN else f"{after} {lent} {call}"
+        return f"λ r. ⌜ {leaves} ≡ {said} ⌝"
 
 
 def exported_functions():
@@ -193,6 +202,12 @@ def constructors():
     return {name: [folded(t) for t in kind.split("→")] for name, kind in found}
 
 
+def altering():
+    """The calls that alter disc or ledger: by the first two columns of their manner, which restore the ledger or may record."""
+    rows = re.findall(r"^mannerOf \(?(\w+).*= manner (true|false) (true|false) ", (ROOT / CALLS).read_text(), re.MULTILINE)
+    return {name for name, *columns in rows if "true" in columns}
+
+
 def defined(name, file):
     """The type of a definition."""
     found = re.search(rf"^(?:\w+ )*pub {name} : (.*)$", (ROOT / file).read_text(), re.MULTILINE)
@@ -208,8 +223,11 @@ def check_call(function, calls):
         if defined(form, file) != wanted:
             fail(function.where, f"{file} defines {form} : {defined(form, file)}, not {wanted}")
         return
-    if form in FORMS and FORMS[form][2] and names[3:4] != [FORMS[form][2]]:
-        fail(function.where, f"its parameter behind the ledger is {names[3:4]}, not {[FORMS[form][2]]}")
+    behind = names[len(function.lent()):][:1]
+    if form in FORMS and FORMS[form][2] and behind != [FORMS[form][2]]:
+        fail(function.where, f"its parameter behind the ledger is {behind}, not {[FORMS[form][2]]}")
+    if (function.call() in altering()) != (function.lent() is ALL_THREE):
+        fail(function.where, "a call is lent the roles, and named so, exactly if it alters disc or ledger")
     if calls.get(function.call()) != [*function.takes(), "Call"]:
         fail(function.where, f"{CALLS} has no constructor {function.call()} : {' → '.join([*function.takes(), 'Call'])}")
 
@@ -222,10 +240,10 @@ def check_signature(function, calls):
         fail(function.where, f"answers {function.result or 'nothing'}, not u64")
     names = [name for name, _ in function.parameters]
     before = len(failures)
-    if names[:3] != DISC_AND_LEDGER:
-        fail(function.where, "its parameters do not begin with image, kinds, ledger")
+    if names[:len(function.lent())] != function.lent():
+        fail(function.where, f"its parameters do not begin with {', '.join(function.lent())}")
     for name, kind in function.parameters:
-        slice_of_bytes = name in [*DISC_AND_LEDGER, *BUFFERS]
+        slice_of_bytes = name in [*ALL_THREE, *BUFFERS]
         wanted = [*SLICES] if slice_of_bytes else ["u64" if name == "offset" else "u32"]
         if kind not in wanted:
             fail(function.where, f"its parameter {name} is of type {kind}, not {' or '.join(wanted)}")
@@ -269,13 +287,13 @@ def check_symbols(file, homes):
 
 
 def header_declarations():
-    """The header's declarations, one text each, beside its macros and its enum of outcomes."""
+    """The header's declarations, one text each, beside its macros and its enums of outcomes and roles."""
     text = without_comments((ROOT / HEADER).read_text().replace('extern "C" {', " "))
     for name in re.findall(r"^\s*#\s*define\s+(\w+)", text, re.MULTILINE):
         if not name.startswith("STATION_"):
             fail(HEADER, f"defines {name}, which is not a STATION_ name")
     text = re.sub(r"^\s*#.*\n", "\n", text.replace("\\\n", " "), flags=re.MULTILINE)
-    text = re.sub(r"\benum station_outcome \{[^{}]*\};", " ", text)
+    text = re.sub(r"\benum station_(outcome|role) \{[^{}]*\};", " ", text)
     declarations = [re.sub(r" ?([(),*]) ?", r"\1", folded(one)) for one in text.split(";")]
     # What is left behind the last one closes `extern "C"`.
     return [one for one in declarations if one not in ("", "}")]

@@ -4,16 +4,23 @@
  * Link libstation.a. The functions allocate nothing, keep nothing between two
  * calls and run on a stack of 256 KiB.
  *
- * Every call is lent a disc and a ledger, each buffer as a pointer and its
- * length in bytes. The pointer points at that many bytes, also where there are
- * none, and is not null; buffers of one call do not overlap. Apart from that
- * any lengths and any contents may be lent: they are tested.
+ * Every call is lent a disc and a ledger, and the ten that alter disc or ledger
+ * the roles too, each buffer as a pointer and its length in bytes. The pointer
+ * points at that many bytes, also where there are none, and is not null; buffers
+ * of one call do not overlap. Apart from that any lengths and any contents may be
+ * lent: they are tested.
  *
  *   image   2048 bytes a sector. A disc has 1 to 360,000 sectors; a block
  *           number counts from 0.
  *   kinds   one byte a sector: 0 blank, 1 data, 2 link, 3 unreadable. All
  *           sectors that are not blank form a beginning of the disc; their
  *           count is called recorded.
+ *   roles   one byte a sector, as many as kinds: what the sector is there for, 0
+ *           to 6, as enum station_role names them. Begin, mount and look back
+ *           make all of them anew. Every other call reads none, and changes those
+ *           of the sectors that it records and of the one that its number named
+ *           before: they are right if disc, roles and ledger come as the call
+ *           before left them. A cut loses them, as it loses the ledger.
  *   ledger  1,848 bytes: 458 map entries, then size, recorded, last table and
  *           mode, each 32 bits, little-endian. Unused map entries, all entries
  *           from size on, and a missing last table are hex FFFFFFFF. Mode is
@@ -102,7 +109,8 @@ enum station_outcome {
        length */
     STATION_DISC_SIZE = 1,
     /* a lent block is not 2048 bytes, a lent ledger not 1,848, a lent stamp not
-       12, a lent answer not 8, or a lent buffer of view above 65,536 */
+       12, a lent answer not 8, the lent roles not as many as the kinds, or a lent
+       buffer of view above 65,536 */
     STATION_LENT_LENGTH = 2,
     /* a kind above 3, or a recorded sector after a blank one */
     STATION_DISC_UNSOUND = 3,
@@ -152,6 +160,24 @@ enum station_outcome {
     STATION_BEYOND_THE_RUN = 20
 };
 
+/* The roles. The kind decides the last three; the others are of data (kind 1). */
+enum station_role {
+    /* an entry of the ledger's map below size names the block, which is no table
+       sector */
+    STATION_ROLE_IN_USE = 0,
+    /* no entry names it any more; after begin, mount or look back all data that is
+       no table sector and that no entry names */
+    STATION_ROLE_SUPERSEDED = 1,
+    /* recorded by write unnumbered, or by closing the session before its table,
+       since the last begin, mount or look back */
+    STATION_ROLE_WITHOUT_NUMBER = 2,
+    /* a table sector; it is never in use */
+    STATION_ROLE_TABLE = 3,
+    STATION_ROLE_LINK = 4,
+    STATION_ROLE_UNREADABLE = 5,
+    STATION_ROLE_BLANK = 6
+};
+
 /* The outcome of an answer: 0 done, else a refusal. */
 #define STATION_OUTCOME(answer) ((uint32_t)((uint64_t)(answer) >> 32))
 
@@ -160,61 +186,72 @@ enum station_outcome {
 
 /*
  * Begin: size 0, no last table, mode 0. Allowed on a disc with recorded sectors
- * if none is a table sector. Second number 0. Refusals 1, 2, 3, 6. The ledger's
- * content is not read.
+ * if none is a table sector. All roles are made anew. Second number 0. Refusals 1,
+ * 2, 3, 6. The content of roles and ledger is not read.
  */
-uint64_t station_begin(const uint8_t *image, size_t image_length,
-                       const uint8_t *kinds, size_t kinds_length,
-                       uint8_t *ledger, size_t ledger_length);
+uint64_t station_begin_roles(const uint8_t *image, size_t image_length,
+                             const uint8_t *kinds, size_t kinds_length,
+                             uint8_t *roles, size_t roles_length,
+                             uint8_t *ledger, size_t ledger_length);
 
 /*
  * Mount: starts at the last recorded sector and goes towards block 0. The first
  * table sector met ends the search. Its entries and size fill the ledger; it is
- * the last table; mode 0. Second number 1 if clean, which means that it is the
- * last recorded sector, and 0 if dirty. Refusals 1, 2, 3, 7. The ledger's
- * content is not read.
+ * the last table; mode 0. All roles are made anew. Second number 1 if clean, which
+ * means that it is the last recorded sector, and 0 if dirty. Refusals 1, 2, 3, 7.
+ * The content of roles and ledger is not read.
  */
-uint64_t station_mount(const uint8_t *image, size_t image_length,
-                       const uint8_t *kinds, size_t kinds_length,
-                       uint8_t *ledger, size_t ledger_length);
+uint64_t station_mount_roles(const uint8_t *image, size_t image_length,
+                             const uint8_t *kinds, size_t kinds_length,
+                             uint8_t *roles, size_t roles_length,
+                             uint8_t *ledger, size_t ledger_length);
 
 /*
  * Write number v: records one data sector with the lent block and sets entry v
  * to it. If v equals size, size grows by one. A released number below size may
- * be written again. Mode becomes 1. Second number: the block recorded. Refusals
- * 1, 2, 3, 4, 5, 17, 13, 12, 14, 15: a v at or above 458 gives 13, even above
- * size.
+ * be written again. Mode becomes 1. The block is in use, and the one that v named
+ * before is superseded if it is data, no table sector, and no number names it any
+ * more. Second number: the block recorded. Refusals 1, 2, 3, 4, 5, 17, 13, 12, 14,
+ * 15: a v at or above 458 gives 13, even above size.
  */
-uint64_t station_write(uint8_t *image, size_t image_length, uint8_t *kinds,
-                       size_t kinds_length, uint8_t *ledger,
-                       size_t ledger_length, uint32_t v, const uint8_t *block,
-                       size_t block_length);
+uint64_t station_write_roles(uint8_t *image, size_t image_length,
+                             uint8_t *kinds, size_t kinds_length,
+                             uint8_t *roles, size_t roles_length,
+                             uint8_t *ledger, size_t ledger_length, uint32_t v,
+                             const uint8_t *block, size_t block_length);
 
 /*
  * Write unnumbered: records one data sector with the lent block, as write does,
- * and sets no entry: map and size stay. Mode becomes 1. Second number: the block
- * recorded. Refusals 1, 2, 3, 4, 5, 17, 14, 15.
+ * and sets no entry: map and size stay. Mode becomes 1. The block is without a
+ * number. Second number: the block recorded. Refusals 1, 2, 3, 4, 5, 17, 14, 15.
  */
-uint64_t station_write_unnumbered(uint8_t *image, size_t image_length,
-                                  uint8_t *kinds, size_t kinds_length,
-                                  uint8_t *ledger, size_t ledger_length,
-                                  const uint8_t *block, size_t block_length);
+uint64_t station_write_unnumbered_roles(uint8_t *image, size_t image_length,
+                                        uint8_t *kinds, size_t kinds_length,
+                                        uint8_t *roles, size_t roles_length,
+                                        uint8_t *ledger, size_t ledger_length,
+                                        const uint8_t *block,
+                                        size_t block_length);
 
 /*
- * Release v: sets the entry to unused. Size stays. Second number 0. Refusals 1,
- * 2, 3, 4, 5, 17, 10.
+ * Release v: sets the entry to unused. Size stays. The block that v named is
+ * superseded, as after a write of v. Second number 0. Refusals 1, 2, 3, 4, 5, 17,
+ * 10.
  */
-uint64_t station_release(const uint8_t *image, size_t image_length,
-                         const uint8_t *kinds, size_t kinds_length,
-                         uint8_t *ledger, size_t ledger_length, uint32_t v);
+uint64_t station_release_roles(const uint8_t *image, size_t image_length,
+                               const uint8_t *kinds, size_t kinds_length,
+                               uint8_t *roles, size_t roles_length,
+                               uint8_t *ledger, size_t ledger_length,
+                               uint32_t v);
 
 /*
- * Close packet: mode 0 (also after an underrun). Nothing is recorded. Closing a
- * closed packet is done. Second number 0. Refusals 1, 2, 3, 4, 5, 17.
+ * Close packet: mode 0 (also after an underrun). Nothing is recorded, and no role
+ * changes. Closing a closed packet is done. Second number 0. Refusals 1, 2, 3, 4,
+ * 5, 17.
  */
-uint64_t station_close_packet(const uint8_t *image, size_t image_length,
-                              const uint8_t *kinds, size_t kinds_length,
-                              uint8_t *ledger, size_t ledger_length);
+uint64_t station_close_packet_roles(const uint8_t *image, size_t image_length,
+                                    const uint8_t *kinds, size_t kinds_length,
+                                    const uint8_t *roles, size_t roles_length,
+                                    uint8_t *ledger, size_t ledger_length);
 
 /*
  * Commit: records the table sector, which becomes the last table. It may follow
@@ -222,19 +259,21 @@ uint64_t station_close_packet(const uint8_t *image, size_t image_length,
  * with size 0. Second number: the block recorded. Refusals 1, 2, 3, 4, 5, 17,
  * 14.
  */
-uint64_t station_commit(uint8_t *image, size_t image_length, uint8_t *kinds,
-                        size_t kinds_length, uint8_t *ledger,
-                        size_t ledger_length);
+uint64_t station_commit_roles(uint8_t *image, size_t image_length,
+                              uint8_t *kinds, size_t kinds_length,
+                              uint8_t *roles, size_t roles_length,
+                              uint8_t *ledger, size_t ledger_length);
 
 /*
  * Commit at: a commit whose table sector has the lent stamp as access,
  * modification and attribute time; the plain commit records zeros there. Second
  * number: the block recorded. Refusals 1, 2, 3, 4, 5, 17, 16, 14.
  */
-uint64_t station_commit_at(uint8_t *image, size_t image_length, uint8_t *kinds,
-                           size_t kinds_length, uint8_t *ledger,
-                           size_t ledger_length, const uint8_t *stamp,
-                           size_t stamp_length);
+uint64_t station_commit_at_roles(uint8_t *image, size_t image_length,
+                                 uint8_t *kinds, size_t kinds_length,
+                                 uint8_t *roles, size_t roles_length,
+                                 uint8_t *ledger, size_t ledger_length,
+                                 const uint8_t *stamp, size_t stamp_length);
 
 /*
  * Read v: copies the 2048 bytes to the lent block; allowed with mode 2. Second
@@ -259,13 +298,15 @@ uint64_t station_view(const uint8_t *image, size_t image_length,
 /*
  * Look back k: from the table that mount would find, follows the previous entry
  * k times; k 0 is that table. The ledger gets its map, recorded as it is now,
- * that table as last, mode 2. Second number: the table's block. Refusals 1, 2,
- * 3, 7, then 8 or 9 at the first failing step. The ledger's content is not
- * read.
+ * that table as last, mode 2. All roles are made anew. Second number: the table's
+ * block. Refusals 1, 2, 3, 7, then 8 or 9 at the first failing step. The content of
+ * roles and ledger is not read.
  */
-uint64_t station_look_back(const uint8_t *image, size_t image_length,
-                           const uint8_t *kinds, size_t kinds_length,
-                           uint8_t *ledger, size_t ledger_length, uint32_t k);
+uint64_t station_look_back_roles(const uint8_t *image, size_t image_length,
+                                 const uint8_t *kinds, size_t kinds_length,
+                                 uint8_t *roles, size_t roles_length,
+                                 uint8_t *ledger, size_t ledger_length,
+                                 uint32_t k);
 
 /*
  * Time of k: goes back as look back k does and tells the modification time of
@@ -284,16 +325,19 @@ uint64_t station_time_of(const uint8_t *image, size_t image_length,
  * and the table sector, which becomes the last table, all as data. The pointer
  * names two extents, main and reserve, each by its length in bytes and its
  * location; its tag location is the partition's start plus its block. Mode is 1
- * afterwards, and the disc is closed. Second number: the block of the table.
+ * afterwards, and the disc is closed. The 256 sectors before the table are without
+ * a number. Second number: the block of the table.
  * Refusals 1, 2, 3, 4, 5, 17, 18, 14.
  */
-uint64_t station_close_session(uint8_t *image, size_t image_length,
-                               uint8_t *kinds, size_t kinds_length,
-                               uint8_t *ledger, size_t ledger_length,
-                               uint32_t main_length, uint32_t main_location,
-                               uint32_t reserve_length,
-                               uint32_t reserve_location,
-                               uint32_t partition_start);
+uint64_t station_close_session_roles(uint8_t *image, size_t image_length,
+                                     uint8_t *kinds, size_t kinds_length,
+                                     uint8_t *roles, size_t roles_length,
+                                     uint8_t *ledger, size_t ledger_length,
+                                     uint32_t main_length,
+                                     uint32_t main_location,
+                                     uint32_t reserve_length,
+                                     uint32_t reserve_location,
+                                     uint32_t partition_start);
 
 #ifdef __cplusplus
 }

@@ -6,180 +6,62 @@
 //! content may be lent, and it touches no byte outside what it is lent. What
 //! it may change is lent as `&mut`.
 
-mod archive {
-    extern "C" {
-        pub fn station_begin(
-            image: *const u8,
-            image_length: usize,
-            kinds: *const u8,
-            kinds_length: usize,
-            ledger: *mut u8,
-            ledger_length: usize,
-        ) -> u64;
-        pub fn station_mount(
-            image: *const u8,
-            image_length: usize,
-            kinds: *const u8,
-            kinds_length: usize,
-            ledger: *mut u8,
-            ledger_length: usize,
-        ) -> u64;
-        pub fn station_write(
-            image: *mut u8,
-            image_length: usize,
-            kinds: *mut u8,
-            kinds_length: usize,
-            ledger: *mut u8,
-            ledger_length: usize,
-            v: u32,
-            block: *const u8,
-            block_length: usize,
-        ) -> u64;
-        pub fn station_write_unnumbered(
-            image: *mut u8,
-            image_length: usize,
-            kinds: *mut u8,
-            kinds_length: usize,
-            ledger: *mut u8,
-            ledger_length: usize,
-            block: *const u8,
-            block_length: usize,
-        ) -> u64;
-        pub fn station_release(
-            image: *const u8,
-            image_length: usize,
-            kinds: *const u8,
-            kinds_length: usize,
-            ledger: *mut u8,
-            ledger_length: usize,
-            v: u32,
-        ) -> u64;
-        pub fn station_close_packet(
-            image: *const u8,
-            image_length: usize,
-            kinds: *const u8,
-            kinds_length: usize,
-            ledger: *mut u8,
-            ledger_length: usize,
-        ) -> u64;
-        pub fn station_commit(
-            image: *mut u8,
-            image_length: usize,
-            kinds: *mut u8,
-            kinds_length: usize,
-            ledger: *mut u8,
-            ledger_length: usize,
-        ) -> u64;
-        pub fn station_commit_at(
-            image: *mut u8,
-            image_length: usize,
-            kinds: *mut u8,
-            kinds_length: usize,
-            ledger: *mut u8,
-            ledger_length: usize,
-            stamp: *const u8,
-            stamp_length: usize,
-        ) -> u64;
-        pub fn station_read(
-            image: *const u8,
-            image_length: usize,
-            kinds: *const u8,
-            kinds_length: usize,
-            ledger: *const u8,
-            ledger_length: usize,
-            v: u32,
-            block: *mut u8,
-            block_length: usize,
-        ) -> u64;
-        pub fn station_view(
-            image: *const u8,
-            image_length: usize,
-            kinds: *const u8,
-            kinds_length: usize,
-            ledger: *const u8,
-            ledger_length: usize,
-            v: u32,
-            offset: u64,
-            buffer: *mut u8,
-            buffer_length: usize,
-        ) -> u64;
-        pub fn station_look_back(
-            image: *const u8,
-            image_length: usize,
-            kinds: *const u8,
-            kinds_length: usize,
-            ledger: *mut u8,
-            ledger_length: usize,
-            k: u32,
-        ) -> u64;
-        pub fn station_time_of(
-            image: *const u8,
-            image_length: usize,
-            kinds: *const u8,
-            kinds_length: usize,
-            ledger: *const u8,
-            ledger_length: usize,
-            k: u32,
-            answer: *mut u8,
-            answer_length: usize,
-        ) -> u64;
-        pub fn station_close_session(
-            image: *mut u8,
-            image_length: usize,
-            kinds: *mut u8,
-            kinds_length: usize,
-            ledger: *mut u8,
-            ledger_length: usize,
-            main_length: u32,
-            main_location: u32,
-            reserve_length: u32,
-            reserve_location: u32,
-            partition_start: u32,
-        ) -> u64;
-    }
-}
+mod archive;
 
-/// `station_begin`: the answer of [`crate::begin`] as one number.
-pub fn begin(image: &[u8], kinds: &[u8], ledger: &mut [u8]) -> u64 {
-    // SAFETY: each pointer and length is one live slice.
-    unsafe {
-        archive::station_begin(
-            image.as_ptr(),
-            image.len(),
-            kinds.as_ptr(),
-            kinds.len(),
-            ledger.as_mut_ptr(),
-            ledger.len(),
-        )
-    }
-}
-
-/// `station_mount`: the answer of [`crate::mount`] as one number; the second
-/// is 1 if clean and 0 if dirty.
-pub fn mount(image: &[u8], kinds: &[u8], ledger: &mut [u8]) -> u64 {
-    // SAFETY: each pointer and length is one live slice.
-    unsafe {
-        archive::station_mount(
-            image.as_ptr(),
-            image.len(),
-            kinds.as_ptr(),
-            kinds.len(),
-            ledger.as_mut_ptr(),
-            ledger.len(),
-        )
-    }
-}
-
-/// `station_write`: the answer of [`crate::write`] as one number; the second
-/// is the block recorded.
-pub fn write(image: &mut [u8], kinds: &mut [u8], ledger: &mut [u8], v: u32, block: &[u8]) -> u64 {
+/// `station_begin_roles`: the answer of [`crate::begin`] as one number.
+pub fn begin(image: &[u8], kinds: &[u8], roles: &mut [u8], ledger: &mut [u8]) -> u64 {
     // SAFETY: each pointer and length is one live slice, and no two overlap.
     unsafe {
-        archive::station_write(
+        archive::station_begin_roles(
+            image.as_ptr(),
+            image.len(),
+            kinds.as_ptr(),
+            kinds.len(),
+            roles.as_mut_ptr(),
+            roles.len(),
+            ledger.as_mut_ptr(),
+            ledger.len(),
+        )
+    }
+}
+
+/// `station_mount_roles`: the answer of [`crate::mount`] as one number; the second
+/// is 1 if clean and 0 if dirty.
+pub fn mount(image: &[u8], kinds: &[u8], roles: &mut [u8], ledger: &mut [u8]) -> u64 {
+    // SAFETY: each pointer and length is one live slice, and no two overlap.
+    unsafe {
+        archive::station_mount_roles(
+            image.as_ptr(),
+            image.len(),
+            kinds.as_ptr(),
+            kinds.len(),
+            roles.as_mut_ptr(),
+            roles.len(),
+            ledger.as_mut_ptr(),
+            ledger.len(),
+        )
+    }
+}
+
+/// `station_write_roles`: the answer of [`crate::write`] as one number; the second
+/// is the block recorded.
+pub fn write(
+    image: &mut [u8],
+    kinds: &mut [u8],
+    roles: &mut [u8],
+    ledger: &mut [u8],
+    v: u32,
+    block: &[u8],
+) -> u64 {
+    // SAFETY: each pointer and length is one live slice, and no two overlap.
+    unsafe {
+        archive::station_write_roles(
             image.as_mut_ptr(),
             image.len(),
             kinds.as_mut_ptr(),
             kinds.len(),
+            roles.as_mut_ptr(),
+            roles.len(),
             ledger.as_mut_ptr(),
             ledger.len(),
             v,
@@ -189,21 +71,24 @@ pub fn write(image: &mut [u8], kinds: &mut [u8], ledger: &mut [u8], v: u32, bloc
     }
 }
 
-/// `station_write_unnumbered`: the answer of [`crate::write_unnumbered`] as one
+/// `station_write_unnumbered_roles`: the answer of [`crate::write_unnumbered`] as one
 /// number; the second is the block recorded.
 pub fn write_unnumbered(
     image: &mut [u8],
     kinds: &mut [u8],
+    roles: &mut [u8],
     ledger: &mut [u8],
     block: &[u8],
 ) -> u64 {
     // SAFETY: each pointer and length is one live slice, and no two overlap.
     unsafe {
-        archive::station_write_unnumbered(
+        archive::station_write_unnumbered_roles(
             image.as_mut_ptr(),
             image.len(),
             kinds.as_mut_ptr(),
             kinds.len(),
+            roles.as_mut_ptr(),
+            roles.len(),
             ledger.as_mut_ptr(),
             ledger.len(),
             block.as_ptr(),
@@ -212,15 +97,17 @@ pub fn write_unnumbered(
     }
 }
 
-/// `station_release`: the answer of [`crate::release`] as one number.
-pub fn release(image: &[u8], kinds: &[u8], ledger: &mut [u8], v: u32) -> u64 {
-    // SAFETY: each pointer and length is one live slice.
+/// `station_release_roles`: the answer of [`crate::release`] as one number.
+pub fn release(image: &[u8], kinds: &[u8], roles: &mut [u8], ledger: &mut [u8], v: u32) -> u64 {
+    // SAFETY: each pointer and length is one live slice, and no two overlap.
     unsafe {
-        archive::station_release(
+        archive::station_release_roles(
             image.as_ptr(),
             image.len(),
             kinds.as_ptr(),
             kinds.len(),
+            roles.as_mut_ptr(),
+            roles.len(),
             ledger.as_mut_ptr(),
             ledger.len(),
             v,
@@ -228,47 +115,59 @@ pub fn release(image: &[u8], kinds: &[u8], ledger: &mut [u8], v: u32) -> u64 {
     }
 }
 
-/// `station_close_packet`: the answer of [`crate::close_packet`] as one number.
-pub fn close_packet(image: &[u8], kinds: &[u8], ledger: &mut [u8]) -> u64 {
-    // SAFETY: each pointer and length is one live slice.
+/// `station_close_packet_roles`: the answer of [`crate::close_packet`] as one number.
+pub fn close_packet(image: &[u8], kinds: &[u8], roles: &[u8], ledger: &mut [u8]) -> u64 {
+    // SAFETY: each pointer and length is one live slice, and no two overlap.
     unsafe {
-        archive::station_close_packet(
+        archive::station_close_packet_roles(
             image.as_ptr(),
             image.len(),
             kinds.as_ptr(),
             kinds.len(),
+            roles.as_ptr(),
+            roles.len(),
             ledger.as_mut_ptr(),
             ledger.len(),
         )
     }
 }
 
-/// `station_commit`: the answer of [`crate::commit`] as one number; the second
+/// `station_commit_roles`: the answer of [`crate::commit`] as one number; the second
 /// is the block recorded.
-pub fn commit(image: &mut [u8], kinds: &mut [u8], ledger: &mut [u8]) -> u64 {
+pub fn commit(image: &mut [u8], kinds: &mut [u8], roles: &mut [u8], ledger: &mut [u8]) -> u64 {
     // SAFETY: each pointer and length is one live slice, and no two overlap.
     unsafe {
-        archive::station_commit(
+        archive::station_commit_roles(
             image.as_mut_ptr(),
             image.len(),
             kinds.as_mut_ptr(),
             kinds.len(),
+            roles.as_mut_ptr(),
+            roles.len(),
             ledger.as_mut_ptr(),
             ledger.len(),
         )
     }
 }
 
-/// `station_commit_at`: the answer of [`crate::commit_at`] as one number; the
+/// `station_commit_at_roles`: the answer of [`crate::commit_at`] as one number; the
 /// second is the block recorded.
-pub fn commit_at(image: &mut [u8], kinds: &mut [u8], ledger: &mut [u8], stamp: &[u8]) -> u64 {
+pub fn commit_at(
+    image: &mut [u8],
+    kinds: &mut [u8],
+    roles: &mut [u8],
+    ledger: &mut [u8],
+    stamp: &[u8],
+) -> u64 {
     // SAFETY: each pointer and length is one live slice, and no two overlap.
     unsafe {
-        archive::station_commit_at(
+        archive::station_commit_at_roles(
             image.as_mut_ptr(),
             image.len(),
             kinds.as_mut_ptr(),
             kinds.len(),
+            roles.as_mut_ptr(),
+            roles.len(),
             ledger.as_mut_ptr(),
             ledger.len(),
             stamp.as_ptr(),
@@ -322,16 +221,18 @@ pub fn view(
     }
 }
 
-/// `station_look_back`: the answer of [`crate::look_back`] as one number; the
+/// `station_look_back_roles`: the answer of [`crate::look_back`] as one number; the
 /// second is the table's block.
-pub fn look_back(image: &[u8], kinds: &[u8], ledger: &mut [u8], k: u32) -> u64 {
-    // SAFETY: each pointer and length is one live slice.
+pub fn look_back(image: &[u8], kinds: &[u8], roles: &mut [u8], ledger: &mut [u8], k: u32) -> u64 {
+    // SAFETY: each pointer and length is one live slice, and no two overlap.
     unsafe {
-        archive::station_look_back(
+        archive::station_look_back_roles(
             image.as_ptr(),
             image.len(),
             kinds.as_ptr(),
             kinds.len(),
+            roles.as_mut_ptr(),
+            roles.len(),
             ledger.as_mut_ptr(),
             ledger.len(),
             k,
@@ -360,7 +261,7 @@ pub fn time_of(image: &[u8], kinds: &[u8], ledger: &[u8], k: u32, answer: &mut [
     }
 }
 
-/// `station_close_session`: the answer of [`crate::close_session`] as one number;
+/// `station_close_session_roles`: the answer of [`crate::close_session`] as one number;
 /// the second is the block of the table recorded. The numbers are the length and
 /// location of the main extent, those of the reserve extent, and the partition's
 /// start.
@@ -368,6 +269,7 @@ pub fn time_of(image: &[u8], kinds: &[u8], ledger: &[u8], k: u32, answer: &mut [
 pub fn close_session(
     image: &mut [u8],
     kinds: &mut [u8],
+    roles: &mut [u8],
     ledger: &mut [u8],
     main_length: u32,
     main_location: u32,
@@ -377,11 +279,13 @@ pub fn close_session(
 ) -> u64 {
     // SAFETY: each pointer and length is one live slice, and no two overlap.
     unsafe {
-        archive::station_close_session(
+        archive::station_close_session_roles(
             image.as_mut_ptr(),
             image.len(),
             kinds.as_mut_ptr(),
             kinds.len(),
+            roles.as_mut_ptr(),
+            roles.len(),
             ledger.as_mut_ptr(),
             ledger.len(),
             main_length,

@@ -1,12 +1,17 @@
 //! The recording core of a disc station: a write-once sector log on CD-R.
 //!
 //! These are safe functions over the proved core. Each call is lent the disc
-//! as two buffers and the ledger, and says what it did:
+//! as two buffers and the ledger, those that alter disc or ledger the roles too,
+//! and says what it did:
 //!
 //! - the image, 2048 bytes a sector, and the kinds, one byte a sector: 0 blank,
 //!   1 data, 2 link, 3 unreadable. A disc has 1 to 360,000 sectors, and all
 //!   that are not blank form a beginning of it; their count is called
 //!   *recorded*;
+//! - the roles, one byte a sector: what each sector is there for, a [`Role`].
+//!   [`begin`], [`mount`] and [`look_back`] make all of them anew, and every other
+//!   call keeps them up if they come as the call before left them; it reads none.
+//!   [`space`] counts them;
 //! - the ledger, 1,848 bytes: 458 map entries, then size, recorded, last table
 //!   and mode, each 32 bits and little-endian. Unused entries, all entries from
 //!   size on, and a missing last table are FFFFFFFF. Mode is 0 (no packet
@@ -26,22 +31,24 @@
 //! them; [`view`] shows the run's bytes.
 //!
 //! ```
-//! use station::{Extent, Refusal, SaveTime, Timestamp, LEDGER, SECTOR};
+//! use station::{Extent, Refusal, Role, SaveTime, Timestamp, LEDGER, SECTOR};
 //!
 //! let sectors = 40;
 //! let mut image = vec![0; sectors * SECTOR];
 //! let mut kinds = vec![0; sectors];
+//! let mut roles = vec![0; sectors];
 //! let mut ledger = [0; LEDGER];
 //! let run = [0x5A; SECTOR];
 //!
-//! station::begin(&image, &kinds, &mut ledger)?;
-//! let block = station::write(&mut image, &mut kinds, &mut ledger, 0, &run)?;
-//! let table = station::commit(&mut image, &mut kinds, &mut ledger)?;
+//! station::begin(&image, &kinds, &mut roles, &mut ledger)?;
+//! let block = station::write(&mut image, &mut kinds, &mut roles, &mut ledger, 0, &run)?;
+//! let table = station::commit(&mut image, &mut kinds, &mut roles, &mut ledger)?;
 //! assert_eq!((block, table), (0, 1));
 //!
-//! // The next day, with a fresh ledger.
+//! // The next day, with fresh roles and a fresh ledger.
+//! let mut roles = vec![0; sectors];
 //! let mut ledger = [0; LEDGER];
-//! let clean = station::mount(&image, &kinds, &mut ledger)?;
+//! let clean = station::mount(&image, &kinds, &mut roles, &mut ledger)?;
 //! assert!(clean);
 //!
 //! let mut shown = [0; SECTOR];
@@ -57,11 +64,17 @@
 //! let mut blocks = long.to_vec();
 //! blocks.resize(2 * SECTOR, 0);
 //! let (one, other) = blocks.split_at(SECTOR);
-//! let first = station::write_unnumbered(&mut image, &mut kinds, &mut ledger, one)?;
-//! let last = station::write_unnumbered(&mut image, &mut kinds, &mut ledger, other)?;
+//! let first = station::write_unnumbered(&mut image, &mut kinds, &mut roles, &mut ledger, one)?;
+//! let last = station::write_unnumbered(&mut image, &mut kinds, &mut roles, &mut ledger, other)?;
 //! let extent = Extent { length: 3000, location: first };
 //! let entry = station::file_entry(&[extent], last + 1);
-//! station::write(&mut image, &mut kinds, &mut ledger, 1, &entry)?;
+//! station::write(&mut image, &mut kinds, &mut roles, &mut ledger, 1, &entry)?;
+//!
+//! // Where the space went: two blocks with a number, two without, and a save; and
+//! // seven links, since the mount had closed the packet.
+//! let space = station::space(&roles);
+//! let counts = Role::ALL.map(|role| space.count(role));
+//! assert_eq!(counts, [2, 0, 2, 1, 7, 0, 28]);
 //!
 //! let mut shown = [0; 3000];
 //! let filled = station::view(&image, &kinds, &ledger, 1, 0, &mut shown)?;
@@ -73,7 +86,7 @@
 //! // a clock one hour ahead of UTC.
 //! let midnight = Timestamp::midnight(1970, 1, 1);
 //! let stamp = Timestamp { minute: 30, zone: Some(60), ..midnight };
-//! station::commit_at(&mut image, &mut kinds, &mut ledger, &stamp.to_bytes())?;
+//! station::commit_at(&mut image, &mut kinds, &mut roles, &mut ledger, &stamp.to_bytes())?;
 //! let told = station::time_of(&image, &kinds, &ledger, 0)?;
 //! assert_eq!(told, SaveTime { minutes: -30, zone_given: true });
 //!
@@ -83,7 +96,8 @@
 //!
 //! // A closing needs 257 sectors, and links as usual.
 //! let extent = Extent { length: 16 * SECTOR as u32, location: 32 };
-//! let closed = station::close_session(&mut image, &mut kinds, &mut ledger, extent, extent, 300);
+//! let closed =
+//!     station::close_session(&mut image, &mut kinds, &mut roles, &mut ledger, extent, extent, 300);
 //! assert_eq!(closed, Err(Refusal::NoRoom));
 //! assert!(!station::is_closed(&image, &kinds)?);
 //! # Ok::<(), Refusal>(())
@@ -109,6 +123,7 @@ mod extent;
 mod ffi;
 mod recorded;
 mod refusal;
+mod role;
 mod run;
 mod tag;
 mod timestamp;
@@ -117,6 +132,7 @@ pub use closing::{close_session, is_closed};
 pub use extent::Extent;
 pub use recorded::{recorded, recorded_since, Sector};
 pub use refusal::Refusal;
+pub use role::{space, NoRole, Role, Space};
 pub use run::{file_entry, view, write_unnumbered};
 pub use timestamp::{SaveTime, Timestamp};
 
@@ -158,26 +174,38 @@ pub const LIMIT: u32 = 458;
 pub const UNUSED: u32 = u32::MAX;
 
 /// Begin: size 0, no last table, mode 0. Allowed on a disc with recorded
-/// sectors if none is a table sector.
+/// sectors if none is a table sector. All roles are made anew.
 ///
 /// # Errors
 ///
-/// 1, 2, 3 and 6. The ledger's length is tested, and its content is not read.
-pub fn begin(image: &[u8], kinds: &[u8], ledger: &mut [u8]) -> Result<(), Refusal> {
-    done(raw::begin(image, kinds, ledger))
+/// 1, 2, 3 and 6. The lengths of roles and ledger are tested, and their content is
+/// not read.
+pub fn begin(
+    image: &[u8],
+    kinds: &[u8],
+    roles: &mut [u8],
+    ledger: &mut [u8],
+) -> Result<(), Refusal> {
+    done(raw::begin(image, kinds, roles, ledger))
 }
 
 /// Mount: starts at the last recorded sector and goes towards block 0. The
 /// first table sector met ends the search. Its entries and size fill the
-/// ledger; it is the last table; mode 0.
+/// ledger; it is the last table; mode 0. All roles are made anew.
 ///
 /// True means clean: the table is the last recorded sector. False means dirty.
 ///
 /// # Errors
 ///
-/// 1, 2, 3 and 7. The ledger's length is tested, and its content is not read.
-pub fn mount(image: &[u8], kinds: &[u8], ledger: &mut [u8]) -> Result<bool, Refusal> {
-    second(raw::mount(image, kinds, ledger)).map(|clean| clean != 0)
+/// 1, 2, 3 and 7. The lengths of roles and ledger are tested, and their content is
+/// not read.
+pub fn mount(
+    image: &[u8],
+    kinds: &[u8],
+    roles: &mut [u8],
+    ledger: &mut [u8],
+) -> Result<bool, Refusal> {
+    second(raw::mount(image, kinds, roles, ledger)).map(|clean| clean != 0)
 }
 
 /// Write number v: records one data sector with the lent block and sets entry v
@@ -192,11 +220,12 @@ pub fn mount(image: &[u8], kinds: &[u8], ledger: &mut [u8]) -> Result<bool, Refu
 pub fn write(
     image: &mut [u8],
     kinds: &mut [u8],
+    roles: &mut [u8],
     ledger: &mut [u8],
     v: u32,
     block: &[u8],
 ) -> Result<u32, Refusal> {
-    second(raw::write(image, kinds, ledger, v, block))
+    second(raw::write(image, kinds, roles, ledger, v, block))
 }
 
 /// Release v: sets the entry to unused. Size stays.
@@ -204,8 +233,14 @@ pub fn write(
 /// # Errors
 ///
 /// 1, 2, 3, 4, 5, 17 and 10.
-pub fn release(image: &[u8], kinds: &[u8], ledger: &mut [u8], v: u32) -> Result<(), Refusal> {
-    done(raw::release(image, kinds, ledger, v))
+pub fn release(
+    image: &[u8],
+    kinds: &[u8],
+    roles: &mut [u8],
+    ledger: &mut [u8],
+    v: u32,
+) -> Result<(), Refusal> {
+    done(raw::release(image, kinds, roles, ledger, v))
 }
 
 /// Close packet: mode 0 (also after an underrun). Nothing is recorded. Closing
@@ -214,8 +249,13 @@ pub fn release(image: &[u8], kinds: &[u8], ledger: &mut [u8], v: u32) -> Result<
 /// # Errors
 ///
 /// 1, 2, 3, 4, 5 and 17.
-pub fn close_packet(image: &[u8], kinds: &[u8], ledger: &mut [u8]) -> Result<(), Refusal> {
-    done(raw::close_packet(image, kinds, ledger))
+pub fn close_packet(
+    image: &[u8],
+    kinds: &[u8],
+    roles: &[u8],
+    ledger: &mut [u8],
+) -> Result<(), Refusal> {
+    done(raw::close_packet(image, kinds, roles, ledger))
 }
 
 /// Commit: records the table sector, which becomes the last table. It may
@@ -225,8 +265,13 @@ pub fn close_packet(image: &[u8], kinds: &[u8], ledger: &mut [u8]) -> Result<(),
 /// # Errors
 ///
 /// 1, 2, 3, 4, 5, 17 and 14.
-pub fn commit(image: &mut [u8], kinds: &mut [u8], ledger: &mut [u8]) -> Result<u32, Refusal> {
-    second(raw::commit(image, kinds, ledger))
+pub fn commit(
+    image: &mut [u8],
+    kinds: &mut [u8],
+    roles: &mut [u8],
+    ledger: &mut [u8],
+) -> Result<u32, Refusal> {
+    second(raw::commit(image, kinds, roles, ledger))
 }
 
 /// Commit at: a commit whose table sector has the lent timestamp as access,
@@ -239,10 +284,11 @@ pub fn commit(image: &mut [u8], kinds: &mut [u8], ledger: &mut [u8]) -> Result<u
 pub fn commit_at(
     image: &mut [u8],
     kinds: &mut [u8],
+    roles: &mut [u8],
     ledger: &mut [u8],
     stamp: &[u8],
 ) -> Result<u32, Refusal> {
-    second(raw::commit_at(image, kinds, ledger, stamp))
+    second(raw::commit_at(image, kinds, roles, ledger, stamp))
 }
 
 /// Read v: copies the 2048 bytes to the lent block; allowed with mode 2.
@@ -262,14 +308,21 @@ pub fn read(
 
 /// Look back k: from the table that mount would find, follows the previous
 /// entry k times; k 0 is that table. The ledger gets its map, recorded as it is
-/// now, that table as last, mode 2. The answer is the table's block.
+/// now, that table as last, mode 2. All roles are made anew. The answer is the
+/// table's block.
 ///
 /// # Errors
 ///
-/// 1, 2, 3, 7, then 8 or 9 at the first failing step. The ledger's length is
-/// tested, and its content is not read.
-pub fn look_back(image: &[u8], kinds: &[u8], ledger: &mut [u8], k: u32) -> Result<u32, Refusal> {
-    second(raw::look_back(image, kinds, ledger, k))
+/// 1, 2, 3, 7, then 8 or 9 at the first failing step. The lengths of roles and
+/// ledger are tested, and their content is not read.
+pub fn look_back(
+    image: &[u8],
+    kinds: &[u8],
+    roles: &mut [u8],
+    ledger: &mut [u8],
+    k: u32,
+) -> Result<u32, Refusal> {
+    second(raw::look_back(image, kinds, roles, ledger, k))
 }
 
 /// Time of k: goes back as [`look_back`] k does and tells the modification time

@@ -42,16 +42,16 @@ pub fn recorded(kinds: &[u8]) -> usize {
 /// let mut burn = |sector: Sector| burned.push((sector.block, sector.kind));
 ///
 /// let (mut image, mut kinds) = (vec![0; 40 * SECTOR], vec![0; 40]);
-/// let mut ledger = [0; LEDGER];
-/// station::begin(&image, &kinds, &mut ledger)?;
+/// let (mut roles, mut ledger) = (vec![0; 40], [0; LEDGER]);
+/// station::begin(&image, &kinds, &mut roles, &mut ledger)?;
 ///
 /// let before = station::recorded(&kinds);
-/// station::write(&mut image, &mut kinds, &mut ledger, 0, &[0x5A; SECTOR])?;
+/// station::write(&mut image, &mut kinds, &mut roles, &mut ledger, 0, &[0x5A; SECTOR])?;
 /// station::recorded_since(&image, &kinds, before).for_each(&mut burn);
 ///
-/// station::close_packet(&image, &kinds, &mut ledger)?;
+/// station::close_packet(&image, &kinds, &roles, &mut ledger)?;
 /// let before = station::recorded(&kinds);
-/// station::commit(&mut image, &mut kinds, &mut ledger)?;
+/// station::commit(&mut image, &mut kinds, &mut roles, &mut ledger)?;
 /// station::recorded_since(&image, &kinds, before).for_each(&mut burn);
 ///
 /// let links = (1..8).map(|block| (block, 2));

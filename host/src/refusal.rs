@@ -13,8 +13,8 @@ pub enum Refusal {
     /// not 2048 × kinds length.
     DiscSize = 1,
     /// 2, the host program: a lent block is not 2048 bytes, a lent ledger not
-    /// 1,848, a lent timestamp not 12, a lent answer not 8, or a buffer lent to a
-    /// view is above 65,536.
+    /// 1,848, a lent timestamp not 12, a lent answer not 8, the lent roles are not
+    /// as many as the kinds, or a buffer lent to a view is above 65,536.
     LentLength = 2,
     /// 3, the disc: a kind above 3, or a recorded sector after a blank one.
     DiscUnsound = 3,
@@ -120,6 +120,7 @@ impl Refusal {
             Refusal::LentLength => {
                 "a lent block is not 2048 bytes, a lent ledger not 1,848, \
                  a lent timestamp not 12, a lent answer not 8, \
+                 the lent roles are not as many as the kinds, \
                  or a buffer lent to a view is above 65,536"
             }
             Refusal::DiscUnsound => "a kind above 3, or a recorded sector after a blank one",

@@ -30,10 +30,11 @@ const PERMISSIONS: u32 = 0x1084;
 pub fn write_unnumbered(
     image: &mut [u8],
     kinds: &mut [u8],
+    roles: &mut [u8],
     ledger: &mut [u8],
     block: &[u8],
 ) -> Result<u32, Refusal> {
-    second(raw::write_unnumbered(image, kinds, ledger, block))
+    second(raw::write_unnumbered(image, kinds, roles, ledger, block))
 }
 
 /// The entry of a run, for a [`write`](crate::write) that is about to take the
@@ -59,10 +60,10 @@ pub fn write_unnumbered(
 /// use station::{Extent, Refusal, LEDGER, SECTOR};
 ///
 /// let (mut image, mut kinds) = (vec![0; 40 * SECTOR], vec![0; 40]);
-/// let mut ledger = [0; LEDGER];
-/// station::begin(&image, &kinds, &mut ledger)?;
+/// let (mut roles, mut ledger) = (vec![0; 40], [0; LEDGER]);
+/// station::begin(&image, &kinds, &mut roles, &mut ledger)?;
 /// for byte in [1, 2, 3] {
-///     station::write_unnumbered(&mut image, &mut kinds, &mut ledger, &[byte; SECTOR])?;
+///     station::write_unnumbered(&mut image, &mut kinds, &mut roles, &mut ledger, &[byte; SECTOR])?;
 /// }
 ///
 /// // Block 2, and then block 0 and a beginning of block 1.
@@ -71,7 +72,7 @@ pub fn write_unnumbered(
 ///     Extent { length: 2050, location: 0 },
 /// ];
 /// let entry = station::file_entry(&extents, 3);
-/// station::write(&mut image, &mut kinds, &mut ledger, 0, &entry)?;
+/// station::write(&mut image, &mut kinds, &mut roles, &mut ledger, 0, &entry)?;
 ///
 /// let mut shown = [0; 6];
 /// let filled = station::view(&image, &kinds, &ledger, 0, 2046, &mut shown)?;
@@ -80,7 +81,7 @@ pub fn write_unnumbered(
 /// assert_eq!((filled, &shown[..4]), (4, &[1, 1, 2, 2][..]));
 ///
 /// // At another block it is no entry of a run.
-/// station::write(&mut image, &mut kinds, &mut ledger, 1, &entry)?;
+/// station::write(&mut image, &mut kinds, &mut roles, &mut ledger, 1, &entry)?;
 /// let elsewhere = station::view(&image, &kinds, &ledger, 1, 0, &mut shown);
 /// assert_eq!(elsewhere, Err(Refusal::NotARun));
 /// # Ok::<(), Refusal>(())

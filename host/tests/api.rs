@@ -22,26 +22,26 @@ use station_model::table::SECTOR;
 /// as the 8 bytes of document 02.
 fn typed(core: &mut Core, call: Call, buffer: &mut [u8]) -> Result<u32, Refusal> {
     let (image, kinds) = (&mut core.image, &mut core.kinds);
-    let ledger = &mut core.ledger;
+    let (roles, ledger) = (&mut core.roles, &mut core.ledger);
     match call {
-        Call::Begin => station::begin(image, kinds, ledger).map(|()| 0),
-        Call::Mount => station::mount(image, kinds, ledger).map(u32::from),
-        Call::Write(v) => station::write(image, kinds, ledger, v, buffer),
-        Call::WriteUnnumbered => station::write_unnumbered(image, kinds, ledger, buffer),
-        Call::Release(v) => station::release(image, kinds, ledger, v).map(|()| 0),
-        Call::ClosePacket => station::close_packet(image, kinds, ledger).map(|()| 0),
-        Call::Commit => station::commit(image, kinds, ledger),
-        Call::CommitAt => station::commit_at(image, kinds, ledger, buffer),
+        Call::Begin => station::begin(image, kinds, roles, ledger).map(|()| 0),
+        Call::Mount => station::mount(image, kinds, roles, ledger).map(u32::from),
+        Call::Write(v) => station::write(image, kinds, roles, ledger, v, buffer),
+        Call::WriteUnnumbered => station::write_unnumbered(image, kinds, roles, ledger, buffer),
+        Call::Release(v) => station::release(image, kinds, roles, ledger, v).map(|()| 0),
+        Call::ClosePacket => station::close_packet(image, kinds, roles, ledger).map(|()| 0),
+        Call::Commit => station::commit(image, kinds, roles, ledger),
+        Call::CommitAt => station::commit_at(image, kinds, roles, ledger, buffer),
         Call::Read(v) => station::read(image, kinds, ledger, v, buffer).map(|()| 0),
         Call::View { v, offset } => station::view(image, kinds, ledger, v, offset, buffer),
-        Call::LookBack(k) => station::look_back(image, kinds, ledger, k),
+        Call::LookBack(k) => station::look_back(image, kinds, roles, ledger, k),
         Call::CloseSession(Anchor {
             main,
             reserve,
             partition_start,
         }) => {
             let (main, reserve) = (extent(main), extent(reserve));
-            station::close_session(image, kinds, ledger, main, reserve, partition_start)
+            station::close_session(image, kinds, roles, ledger, main, reserve, partition_start)
         }
         Call::TimeOf(k) => {
             let told = station::time_of(image, kinds, ledger, k)?;
@@ -82,13 +82,20 @@ fn any_station(random: &mut Random) -> Station {
     if random.one_in(2) {
         station.ledger = fitting.to_vec();
     }
+    station.roles = random_roles(random, station.kinds.len());
     match random.below(12) {
         0 => station.kinds[0] = 7,
         1 => station.kinds.push(0),
         2 => station.ledger.push(0),
+        3 => station.roles.push(0),
         _ => {}
     }
     station
+}
+
+/// Any bytes: no call reads them.
+fn random_roles(random: &mut Random, sectors: usize) -> Vec<u8> {
+    (0..sectors).map(|_| random.next() as u8).collect()
 }
 
 /// Views are as a rule of a run, if the ledger fits and names one.
@@ -174,15 +181,16 @@ fn entries_as_the_model_makes_them() {
 /// The text tells number and cause; a refusal is an error like others.
 #[test]
 fn refusals_as_errors() {
-    let mut ledger = [0; station::LEDGER];
-    let refused = station::begin(&[], &[], &mut ledger).expect_err("no sectors");
+    let (mut role, mut ledger) = ([0], [0; station::LEDGER]);
+    let refused = station::begin(&[], &[], &mut [], &mut ledger).expect_err("no sectors");
     assert_eq!(refused, Refusal::DiscSize);
     let error: Box<dyn std::error::Error> = Box::new(refused);
     assert_eq!(
         error.to_string(),
         "refusal 1: no sectors, more than 360,000, or image length is not 2048 × kinds length"
     );
-    let refused = station::mount(&[0; SECTOR], &[0], &mut ledger).expect_err("a blank disc");
+    let refused = station::mount(&[0; SECTOR], &[0], &mut role, &mut ledger);
+    let refused = refused.expect_err("a blank disc");
     assert_eq!(
         refused.to_string(),
         "refusal 7: mount, look back or asking for a time, and no table sector exists"

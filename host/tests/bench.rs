@@ -4,7 +4,7 @@
 
 mod common;
 
-use common::built::{fourth, BLOCK};
+use common::built::{beside, BLOCK};
 use common::pair::tell_compared;
 use common::stamps::{Told, HALF_PAST};
 use common::station::{done, refused, Station};
@@ -296,7 +296,7 @@ fn cut_before_the_first_table() {
     for (call, j) in [(Call::Write(2), 1), (Call::Commit, 0), (Call::CommitAt, 0)] {
         for torn in [None, Some(&vat_sector(2, &[0, 1], NONE))] {
             let mut station = written.clone();
-            station.cut(call, fourth(call), j, torn);
+            station.cut(call, beside(call), j, torn);
             assert_eq!(station.time_of(0), Err(7));
             assert_eq!(station.call(Call::Mount), refused(7));
             assert_eq!(station.call(Call::Begin), done(0));

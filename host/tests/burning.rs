@@ -6,7 +6,7 @@ mod common;
 
 use std::collections::BTreeMap;
 
-use common::built::{fourth, BLOCK};
+use common::built::{beside, BLOCK};
 use common::closing::{disc_with_room, CLOSE};
 use common::core::Core;
 use common::forge;
@@ -59,7 +59,7 @@ fn calls_that_record_nothing() {
         Call::ClosePacket,
         Call::Begin,
     ] {
-        station.call_lent(call, &mut fourth(call).to_vec());
+        station.call_lent(call, &mut beside(call).to_vec());
         assert_eq!(since(&station, 2), [], "{call:?}");
     }
 }

@@ -4,6 +4,9 @@
 //! What a cut call would have recorded is what the core records when the same
 //! call is made whole on a copy. The model's calls have no part in this test.
 //!
+//! Until a cut, and again from the next begin, mount or look back on, the roles are
+//! those that the history gives.
+//!
 //! After each event the disc is closed or not, as document 02 defines it; and where
 //! no sector has a pointer's tag at the start, only a closing that was done, or cut
 //! behind its last sector, closes it.
@@ -14,73 +17,33 @@
 mod common;
 
 use common::agreement::compare;
+use common::attempt::{Attempt, Made};
 use common::closing::{anchor, cuts, disc_of_closings, disc_with_room, has_pointer, CLOSING};
 use common::core::{Core, Short};
 use common::forge;
 use common::random::{seed, Random};
+use common::roles::astray;
 use common::runs::{self, Shown};
 use common::station::Station;
 use common::tally::Tally;
-use station_model::answer::Answer;
 use station_model::book::{Ending, Fed, History, Snapshot};
 use station_model::calls::Call;
-use station_model::disc::DATA;
-use station_model::table::SECTOR;
+use station_model::roles::Since;
 use station_model::time::STAMP;
 
 /// Events of lists to compare, without the cuts tried beside them.
 const EVENTS: usize = 40_000;
-
-/// A call about to be made, with the block, timestamp or answer that it is lent;
-/// the host lends some calls too little, or such a buffer of another length.
-struct Attempt {
-    call: Call,
-    buffer: Vec<u8>,
-    short: Short,
-}
-
-impl Attempt {
-    /// "a write's lent block", or a commit's timestamp.
-    fn written(&self) -> Option<&[u8]> {
-        matches!(self.call, Call::Write(_) | Call::CommitAt).then_some(&self.buffer)
-    }
-
-    /// "until a begin, mount or look back is done, only these three [...] follow"
-    fn restores(&self) -> bool {
-        matches!(self.call, Call::Begin | Call::Mount | Call::LookBack(_))
-    }
-
-    /// Makes the whole call on a copy.
-    fn made_on(&self, core: &Core) -> Made {
-        let mut after = core.clone();
-        let mut buffer = self.buffer.clone();
-        let answer = after.call_short(self.call, &mut buffer, self.short);
-        let sectors = after.disc().recorded() - core.disc().recorded();
-        Made {
-            answer,
-            after,
-            buffer,
-            sectors: sectors as usize,
-        }
-    }
-}
-
-/// What the core made of a call.
-struct Made {
-    answer: Answer,
-    after: Core,
-    buffer: Vec<u8>,
-    /// How many sectors it recorded.
-    sectors: usize,
-}
 
 /// One list in the making: the disc, the book, and what has happened.
 #[derive(Clone)]
 struct List {
     core: Core,
     history: History,
-    /// "The ledger is lost": since a cut none of the three was done.
+    /// "The ledger is lost", and the roles with it: since a cut no begin, mount or
+    /// look back was done.
     lost: bool,
+    /// The history that the roles are worked out from.
+    since: Since,
     /// Whether a closing has closed the disc; unknown where a sector had a
     /// pointer's tag at the start.
     closed: Option<bool>,
@@ -95,6 +58,7 @@ impl List {
     fn start(disc: &Station, random: &mut Random) -> List {
         let mut core = Core::holding(disc, random.below(16));
         random.fill(&mut core.ledger);
+        random.fill(&mut core.roles);
         let (call, history) = match core.disc().newest_vat() {
             Some(found) => (Call::Mount, History::mounted(&core.disc(), &found.vat)),
             None => (Call::Begin, History::begun()),
@@ -108,6 +72,7 @@ impl List {
             core,
             history,
             lost: false,
+            since: Since::default(),
             closed,
             shown: Shown::default(),
             events,
@@ -120,10 +85,12 @@ impl List {
         if self.lost {
             let ledger = forge::lost_ledger(random, &self.core.disc(), &self.core.ledger);
             self.core.ledger.copy_from_slice(&ledger);
+            random.fill(&mut self.core.roles);
         }
         let attempt = self.attempt(random);
         let made = attempt.made_on(&self.core);
-        let may_follow_a_cut = attempt.restores() || attempt.call.only_tells();
+        // "until a begin, mount or look back is done, only these three [...] follow"
+        let may_follow_a_cut = attempt.call.scans() || attempt.call.only_tells();
         if self.lost && made.answer.is_done() && !may_follow_a_cut {
             tally.skipped += 1;
             return Ok(());
@@ -143,11 +110,12 @@ impl List {
         self.agrees(random)
     }
 
-    /// Agrees with the book, shows of each run what it did, and is closed or not as
-    /// it must be.
+    /// Agrees with the book, shows of each run what it did, has the roles of its
+    /// history, and is closed or not as it must be.
     fn agrees(&mut self, random: &mut Random) -> Result<(), String> {
         compare(&self.core, &self.history, random)?;
         self.shown.compare(&self.core)?;
+        self.roles_agree()?;
         let Core { image, kinds, .. } = &self.core;
         let told = station::is_closed(image, kinds);
         let closed = self.core.disc().is_closed();
@@ -160,6 +128,13 @@ impl List {
         Ok(())
     }
 
+    fn roles_agree(&self) -> Result<(), String> {
+        let core = &self.core;
+        let difference = || astray(&core.disc(), &core.volume(), &core.roles, &self.since);
+        let difference = (!self.lost).then(difference).flatten();
+        difference.map_or(Ok(()), Err)
+    }
+
     /// A random call, with numbers near those that mean something.
     fn attempt(&self, random: &mut Random) -> Attempt {
         let call = self.call(random);
@@ -169,7 +144,8 @@ impl List {
         match (random.below(40), call.lent_length()) {
             (0, _) => short.image = 1,
             (1, _) => short.ledger = 1,
-            (2, Some(right)) => buffer.resize(random.below(2 * right), 0),
+            (2, _) => short.roles = 1,
+            (3, Some(right)) => buffer.resize(random.below(2 * right), 0),
             _ => {}
         }
         Attempt {
@@ -226,14 +202,15 @@ impl List {
         self.note(attempt, format!("{answer:?}"));
         if answer.is_done() && !attempt.call.only_tells() {
             self.check_done(attempt, &made.after)?;
-            self.lost &= !attempt.restores();
+            self.lost &= !attempt.call.scans();
         } else if !self.core.same_bytes(&made.after) {
             return Err("a refusal, or a call that only tells, altered lent bytes".into());
         }
         if !answer.is_done() && made.buffer != attempt.buffer {
-            return Err("a refusal altered the fourth buffer".into());
+            return Err("a refusal altered the last buffer".into());
         }
         self.core = made.after;
+        self.since.feed(attempt.call, answer);
         self.feed(attempt, Ending::Answered(answer));
         Ok(())
     }
@@ -256,7 +233,7 @@ impl List {
     /// Cuts the call after j of its sectors. The table sector of a commit or a
     /// closing is its last, so it was kept if it has sectors and all were kept.
     fn cut(&mut self, attempt: &Attempt, made: &Made, j: usize, random: &mut Random) {
-        let (told, torn) = torn_bytes(random, made, j);
+        let (told, torn) = made.torn_bytes(random, j);
         let cut = format!("cut after {j} of {}, {told}", made.sectors);
         self.note(attempt, cut);
         self.core.cut(&made.after, j, torn.as_ref());
@@ -316,31 +293,6 @@ impl List {
     }
 }
 
-/// "stays blank or has kind 3 with arbitrary bytes": also those of a table
-/// sector for that block, or those that were about to be recorded.
-fn torn_bytes(random: &mut Random, made: &Made, j: usize) -> (&'static str, Option<[u8; SECTOR]>) {
-    if j == made.sectors {
-        return ("no next sector", None);
-    }
-    let block = made.after.disc().recorded() as usize - made.sectors + j;
-    let mut bytes = [0; SECTOR];
-    match random.below(4) {
-        0 => ("next blank", None),
-        1 if made.after.kinds[block] == DATA => {
-            bytes.copy_from_slice(&made.after.image[block * SECTOR..][..SECTOR]);
-            ("next torn, its own bytes", Some(bytes))
-        }
-        2 => {
-            random.fill(&mut bytes);
-            ("next torn, random bytes", Some(bytes))
-        }
-        _ => (
-            "next torn, bytes of a table sector",
-            Some(forge::valid_vat(random, block as u32)),
-        ),
-    }
-}
-
 /// A disc for the next list: new, with forged tables, or the one that the list
 /// before has left.
 fn next_disc(before: Option<List>, random: &mut Random) -> Station {
@@ -348,6 +300,7 @@ fn next_disc(before: Option<List>, random: &mut Random) -> Station {
         (0..=2, Some(list)) => Station {
             image: list.core.image.to_vec(),
             kinds: list.core.kinds.to_vec(),
+            roles: list.core.roles.to_vec(),
             ledger: list.core.ledger.to_vec(),
         },
         (3..=4, _) => forge::disc_with_vats(random),

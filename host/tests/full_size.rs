@@ -2,17 +2,18 @@
 //!
 //! There is one image of 737 MB. Before each call the model says what the call
 //! is to do; then the core makes it, on a thread with a stack of 256 KiB that
-//! does nothing else; then the answer, ledger, kinds, the fourth buffer and the
+//! does nothing else; then the answer, ledger, kinds, roles, the last buffer and the
 //! sectors recorded are compared, and the whole image at the end of each part.
 
 mod common;
 
 use std::thread;
 
-use common::built::fourth;
+use common::built::beside;
 use common::closing::{starting, CLOSE};
 use common::core::{unpacked, Core, Short};
 use common::guarded::Guarded;
+use common::roles::{astray, KEEPING};
 use common::runs::extent;
 use common::stamps::HALF_PAST;
 use common::station::{done, refused};
@@ -20,9 +21,10 @@ use common::tables::vat_behind;
 use station_model::anchor::pointer_sector;
 use station_model::answer::{Answer, Refusal};
 use station_model::calls::{effect, Call, Lent};
-use station_model::disc::{Sector, DATA, LINK, MOST_SECTORS, UNREADABLE};
+use station_model::disc::{Disc, Sector, DATA, LINK, MOST_SECTORS, UNREADABLE};
 use station_model::effect::Effect;
 use station_model::ledger::{Volume, LEDGER};
+use station_model::roles::Since;
 use station_model::run::{entry_sector, MOST_VIEWED};
 use station_model::table::{stamped_vat_sector, vat_sector, NONE, SECTOR};
 
@@ -35,6 +37,7 @@ const SECTORS: u32 = MOST_SECTORS as u32;
 const ONE_SECTOR: Short = Short {
     image: SECTOR,
     kinds: 1,
+    roles: 1,
     ledger: 0,
 };
 
@@ -42,6 +45,7 @@ struct FullSize {
     core: Core,
     /// The block, timestamp or answer that the next call is lent.
     buffer: Guarded,
+    since: Since,
     compared: usize,
 }
 
@@ -50,11 +54,13 @@ impl FullSize {
         let core = Core {
             image: Guarded::zeros((MOST_SECTORS + 1) * SECTOR, 0),
             kinds: Guarded::zeros(MOST_SECTORS + 1, 0),
+            roles: Guarded::zeros(MOST_SECTORS + 1, 0),
             ledger: Guarded::zeros(LEDGER, 0),
         };
         FullSize {
             core,
             buffer: Guarded::holding(&[], 0),
+            since: Since::default(),
             compared: 0,
         }
     }
@@ -78,6 +84,7 @@ impl FullSize {
         let lent = Lent {
             image: &self.core.image[..self.core.image.len() - short.image],
             kinds: &self.core.kinds[..self.core.kinds.len() - short.kinds],
+            roles: &self.core.roles[..self.core.roles.len() - short.roles],
             ledger: &self.core.ledger,
             buffer: &self.buffer,
         };
@@ -99,9 +106,10 @@ impl FullSize {
     }
 
     fn call_short(&mut self, call: Call, short: Short) -> Answer {
-        self.buffer = Guarded::holding(fourth(call), 0);
+        self.buffer = Guarded::holding(beside(call), 0);
         let expected = self.expected(call, short);
         let mut kinds = self.core.kinds.to_vec();
+        let mut roles = self.core.roles.to_vec();
         let mut ledger = self.core.ledger.to_vec();
         let mut buffer = self.buffer.to_vec();
         let answer = self.on_a_small_stack(call, short);
@@ -112,15 +120,33 @@ impl FullSize {
                 let after = effect.volume.as_ref();
                 ledger = after.map_or(ledger, |volume| volume.to_bytes().to_vec());
                 effect.show_in(&mut buffer);
+                effect.set_roles(&mut roles);
                 self.compare_sectors(&mut kinds, &effect.sectors);
             }
         }
         assert!(self.core.kinds[..] == kinds, "kinds after {call:?}");
+        assert!(self.core.roles[..] == roles, "roles after {call:?}");
         assert!(self.core.ledger[..] == ledger, "ledger after {call:?}");
         assert!(self.buffer[..] == buffer, "buffer after {call:?}");
         assert_eq!(self.core.struck(&self.buffer), None, "{call:?}");
+        self.since.feed(call, answer);
         self.compared += 1;
         answer
+    }
+
+    /// The roles are those that the history gives, and they add up.
+    fn assert_kept_up(&self) {
+        let Core {
+            image,
+            kinds,
+            roles,
+            ..
+        } = &self.core;
+        let disc = Disc::lent(&image[..MOST_SECTORS * SECTOR], &kinds[..MOST_SECTORS]);
+        let disc = disc.expect("the largest disc");
+        let roles = &roles[..MOST_SECTORS];
+        let difference = astray(&disc, &self.core.volume(), roles, &self.since);
+        assert!(difference.is_none(), "roles differ, worked out afresh");
     }
 
     /// Puts the kinds of the recorded sectors in and compares their bytes.
@@ -154,22 +180,10 @@ fn one_sector_too_many(disc: &mut FullSize) {
     }
 }
 
-fn every_call() -> [Call; 13] {
-    [
-        Call::Begin,
-        Call::Mount,
-        Call::Write(0),
-        Call::WriteUnnumbered,
-        Call::Release(0),
-        Call::ClosePacket,
-        Call::Commit,
-        Call::CommitAt,
-        Call::Read(0),
-        Call::LookBack(0),
-        Call::TimeOf(0),
-        CLOSE,
-        Call::View { v: 0, offset: 0 },
-    ]
+fn every_call() -> impl Iterator<Item = Call> {
+    let view = Call::View { v: 0, offset: 0 };
+    let telling = [Call::Read(0), Call::TimeOf(0), view];
+    KEEPING.into_iter().chain(telling)
 }
 
 /// A block and a table at the start, and what is shown of them.
@@ -199,6 +213,7 @@ fn recorded_at_the_end(disc: &mut FullSize) {
     assert_eq!(disc.call(Call::Release(0)), done(0));
     assert_eq!(disc.call(Call::Read(1)), done(0));
     assert_eq!(disc.call(Call::CommitAt), done(SECTORS - 264));
+    disc.assert_kept_up();
     assert_eq!(disc.call(Call::Mount), done(1));
     assert_eq!(disc.call(Call::LookBack(1)), done(1));
     assert_eq!(disc.call(Call::TimeOf(0)), done(0));
@@ -213,7 +228,8 @@ fn closed_at_the_end(disc: &mut FullSize) {
     disc.lend_ledger(|volume| volume.mode = 1);
     let close = Call::CloseSession(starting(400_000));
     assert_eq!(disc.call(close), done(SECTORS - 7));
-    for call in every_call().into_iter().filter(|call| call.is_commit()) {
+    disc.assert_kept_up();
+    for call in every_call().filter(|call| call.is_commit()) {
         assert_eq!(disc.call(call), refused(17));
     }
     assert_eq!(disc.call(Call::Write(0)), refused(17));

@@ -1,10 +1,11 @@
 //! The C header: a C program that includes it is compiled against the archive
 //! and run; C++ takes it too; its numbers are the crate's.
 
+use std::fmt::Debug;
 use std::path::{Path, PathBuf};
 use std::process::Command;
 
-use station::Refusal;
+use station::{Refusal, Role};
 
 /// The folder of the archive that this package links.
 const ARCHIVE: &str = env!("STATION_ARCHIVE_FOLDER");
@@ -70,7 +71,7 @@ fn a_c_program_records_and_mounts() {
     let said = run(&mut Command::new(program));
     assert_eq!(
         said,
-        "recorded, mounted, read, looked back, told the times, viewed a run and closed\n"
+        "recorded, mounted, read, looked back, told the times and the space, viewed a run and closed\n"
     );
 }
 
@@ -106,8 +107,10 @@ fn the_header_has_the_crates_numbers() {
         let line = format!("#define STATION_{name} {value} ");
         assert!(header.contains(&line), "{line}");
     }
-    for refusal in REFUSALS {
-        let line = format!("    STATION_{} = {}", c_name(refusal), refusal.number());
+    let refusals = REFUSALS.map(|refusal| (c_name(refusal), refusal.number()));
+    let roles = Role::ALL.map(|role| (format!("ROLE_{}", c_name(role)), role.number().into()));
+    for (name, number) in refusals.into_iter().chain(roles) {
+        let line = format!("    STATION_{name} = {number}");
         let found = header
             .lines()
             .any(|held| held.trim_end_matches(',') == line);
@@ -116,9 +119,9 @@ fn the_header_has_the_crates_numbers() {
 }
 
 /// `DiscSize` is DISC_SIZE in C.
-fn c_name(refusal: Refusal) -> String {
+fn c_name(case: impl Debug) -> String {
     let mut name = String::new();
-    for letter in format!("{refusal:?}").chars() {
+    for letter in format!("{case:?}").chars() {
         if letter.is_uppercase() && !name.is_empty() {
             name.push('_');
         }

@@ -1,12 +1,12 @@
-//! Every wrong length of image, kinds, ledger and the fourth buffer (a block, a
-//! timestamp, an answer, or one for a view), alone and together, on the core and on
-//! the model, compared.
+//! Every wrong length of image, kinds, ledger and the last buffer (a block, a
+//! timestamp, an answer, or one for a view), alone and together, and beside roles of
+//! a wrong length, on the core and on the model, compared.
 
 mod common;
 
-use common::built::{fourth, saved, saved_at};
-use common::closing::CLOSE;
+use common::built::{beside, saved, saved_at};
 use common::pair::{tell_compared, Pair};
+use common::roles::KEEPING;
 use common::runs::{extent, with_run, VIEWED};
 use common::station::{done, refused, Station};
 use station_model::calls::Call;
@@ -25,21 +25,11 @@ fn resized(bytes: &[u8], length: usize) -> Vec<u8> {
     resized
 }
 
-const CALLS: [Call; 13] = [
-    Call::Begin,
-    Call::Mount,
-    Call::Write(0),
-    Call::WriteUnnumbered,
-    Call::Release(0),
-    Call::ClosePacket,
-    Call::Commit,
-    Call::CommitAt,
-    Call::Read(0),
-    Call::LookBack(0),
-    Call::TimeOf(0),
-    VIEW,
-    CLOSE,
-];
+/// All thirteen calls.
+fn calls() -> impl Iterator<Item = Call> {
+    let telling = [Call::Read(0), Call::TimeOf(0), VIEW];
+    KEEPING.into_iter().chain(telling)
+}
 
 const VIEW: Call = Call::View { v: 0, offset: 0 };
 
@@ -49,20 +39,22 @@ fn at_each_length(station: &Station) {
     for image in lengths(station.image.len()) {
         for kinds in lengths(station.kinds.len()) {
             for ledger in lengths(LEDGER) {
-                let lent = Station {
-                    image: resized(&station.image, image),
-                    kinds: resized(&station.kinds, kinds),
-                    ledger: resized(&station.ledger, ledger),
-                };
-                with_each_buffer(&lent);
+                for roles in [kinds, kinds + 1] {
+                    with_each_buffer(&Station {
+                        image: resized(&station.image, image),
+                        kinds: resized(&station.kinds, kinds),
+                        roles: resized(&station.roles, roles),
+                        ledger: resized(&station.ledger, ledger),
+                    });
+                }
             }
         }
     }
 }
 
 fn with_each_buffer(lent: &Station) {
-    for call in CALLS {
-        let right = fourth(call);
+    for call in calls() {
+        let right = beside(call);
         for length in lengths(right.len()) {
             let mut pair = Pair::shifted(lent, length);
             pair.call(call, &resized(right, length));
@@ -93,21 +85,18 @@ fn lengths_beside_later_refusals() {
     tell_compared("lengths_beside_later_refusals");
 }
 
-/// Every length of the ledger and of the fourth buffer up to beyond the right one.
+/// Every length of the ledger and of the buffer beside it, up to beyond the right one.
 #[test]
 fn every_length_of_ledger_and_buffer() {
     let station = saved_at(19);
     for length in 0..=2050 {
         let mut pair = Pair::holding(&station);
-        for call in CALLS
-            .into_iter()
-            .filter(|call| call.lent_length().is_some())
-        {
-            pair.call(call, &resized(fourth(call), length));
+        for call in calls().filter(|call| call.lent_length().is_some()) {
+            pair.call(call, &resized(beside(call), length));
         }
         pair.lend_ledger(&resized(&station.ledger, length));
-        for call in CALLS {
-            pair.call(call, fourth(call));
+        for call in calls() {
+            pair.call(call, beside(call));
         }
     }
     tell_compared("every_length_of_ledger_and_buffer");
@@ -119,7 +108,7 @@ fn lengths_with_a_high_bit() {
     let station = saved_at(19);
     let mut pair = Pair::holding(&station);
     for call in [Call::CommitAt, Call::TimeOf(0)] {
-        let right = fourth(call);
+        let right = beside(call);
         for bit in 4..25 {
             let long = resized(right, right.len() + (1 << bit));
             assert_eq!(pair.call(call, &long), refused(2), "{call:?}, bit {bit}");
@@ -159,6 +148,7 @@ fn every_length_of_a_small_image() {
             let lent = Station {
                 image: station.image[..image].to_vec(),
                 kinds: station.kinds[..kinds].to_vec(),
+                roles: station.roles[..kinds].to_vec(),
                 ledger: station.ledger.clone(),
             };
             let mut pair = Pair::holding(&lent);

@@ -54,6 +54,7 @@ impl Disc {
         let mut core = Core {
             image: Guarded::zeros(SECTORS * SECTOR, 5),
             kinds: Guarded::zeros(SECTORS, 3),
+            roles: Guarded::zeros(SECTORS, 2),
             ledger: Guarded::zeros(LEDGER, 1),
         };
         for (at, byte) in core.image.iter_mut().enumerate() {
@@ -77,6 +78,7 @@ impl Disc {
         let lent = Lent {
             image: &self.core.image,
             kinds: &self.core.kinds,
+            roles: &self.core.roles,
             ledger: &self.core.ledger,
             buffer: &expected,
         };

@@ -148,11 +148,12 @@ fn any_lengths(case: usize) -> Outcomes {
         .to_vec();
     let call = forge::call(&mut random, forge::size_in(&station.ledger), 2);
     let mut buffer = random.bytes(call.lent_length().unwrap_or(SECTOR));
-    match random.below(5) {
+    match random.below(6) {
         0 => station.image = other_length(&mut random, &station.image),
         1 => station.kinds = other_length(&mut random, &station.kinds),
-        2 => station.ledger = other_length(&mut random, &station.ledger),
-        3 => buffer = other_length(&mut random, &buffer),
+        2 => station.roles = other_length(&mut random, &station.roles),
+        3 => station.ledger = other_length(&mut random, &station.ledger),
+        4 => buffer = other_length(&mut random, &buffer),
         _ => random.fill(&mut station.kinds),
     }
     let mut pair = Pair::of_case(&station, case);

@@ -14,7 +14,7 @@ use common::station::{done, refused, Station};
 use station_model::calls::Call;
 use station_model::disc::{BLANK, DATA, LINK, UNREADABLE};
 use station_model::ledger::Volume;
-use station_model::table::{vat_sector, LIMIT, NONE, SECTOR};
+use station_model::table::{vat_sector, LIMIT, NONE};
 use station_model::time::NO_STAMP;
 
 /// Makes the call on a copy and checks that a refusal alters nothing.
@@ -50,6 +50,11 @@ fn earlier_refusals_win(mut station: Station, call: Call, buffer: &[u8]) {
         let longer = [buffer, &[0]].concat();
         assert_eq!(outcome(&station, call, &longer), 2, "{call:?}");
     }
+    if call.is_lent_roles() {
+        let mut longer = station.clone();
+        longer.roles.push(0);
+        assert_eq!(outcome(&longer, call, buffer), 2, "{call:?}");
+    }
     station.ledger.pop();
     assert_eq!(outcome(&station, call, buffer), 2, "{call:?}");
     station.image.pop();
@@ -62,8 +67,7 @@ fn write() {
     assert_eq!(outcome(&station, Call::Write(0), &BLOCK), 0);
     let table = vat_sector(0, &[], NONE);
     assert_eq!(outcome(&station, Call::Write(0), &table), 15);
-    station.kinds.pop();
-    station.image.truncate(8 * SECTOR);
+    station.shorten(8);
     assert_eq!(outcome(&station, Call::Write(0), &table), 14);
     assert_eq!(outcome(&station, Call::Write(1), &table), 12);
     assert_eq!(outcome(&station, Call::Write(457), &table), 12);
@@ -90,8 +94,7 @@ fn write_unnumbered() {
     let table = vat_sector(0, &[], NONE);
     assert_eq!(outcome(&station, call, &table), 15);
     assert_eq!(outcome(&station, call, &pointer(0, 0)), 15);
-    station.kinds.pop();
-    station.image.truncate(8 * SECTOR);
+    station.shorten(8);
     assert_eq!(outcome(&station, call, &BLOCK), 14);
     assert_eq!(outcome(&station, call, &table), 14);
     earlier_refusals_win(station, call, &table);

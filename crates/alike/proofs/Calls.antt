@@ -26,7 +26,7 @@ use Rattle.recorder.specs.Refusals.{test, first, links, target, reserve, basic,
 use Rattle.recorder.specs.Effects.{Effect, settles, blockReached, cleanNumber, stampOf, saved, effect, settled, after, ifDone, sectorsIf, secondNumber, sectorsOf}
 use Rattle.alike.specs.Alike.{Alike, SameCall}
 use Rattle.recorder.proofs.Done.{SaveDone, mount-done, write-done, commit-done, closing-done, look-back-done, read-done}
-use Rattle.history.proofs.Steps.{walked-table}
+use Rattle.recorder.proofs.Answers.{walked-table}
 use Rattle.recorder.proofs.Sectors.{AllWhole, links-whole, whole-append, behind-whole}
 use Rattle.alike.proofs.Discs.{alike-puts, same-recorded, same-sized, same-order, same-blanks, same-kind, same-newest, same-map, same-walked, same-time, same-fits, same-closed}
 

@@ -10,7 +10,7 @@ use mathlib.Core.Option.{Option, none, some}
 use lib.Dec.{eqb, ltb}
 use lib.ListN.{length, getD, take}
 use Rattle.disc.specs.Disc.{Disc, Sector, recorded, puts}
-use Rattle.recorder.specs.Calls.{Call, begin, mount, read, lookBack, saves}
+use Rattle.recorder.specs.Calls.{Call, begin, mount, read, lookBack, saves, onlyTells}
 use Rattle.recorder.specs.Refusals.{outcome}
 use Rattle.recorder.specs.Effects.{effect, After, settled, after, sectorsOf}
 use Rattle.alike.specs.Alike.{Alike, SameCall}
@@ -19,7 +19,7 @@ use Rattle.alike.proofs.Discs.{alike-refl, alike-sym, alike-trans, same
 use Rattle.alike.proofs.Calls.{sectors-whole}
 use Rattle.alike.proofs.Views.{mean-nothing}
 use Rattle.history.specs.History.{Entry, unusedEntry, shows, Snapshot, History, Fed, answered, feed}
-use Rattle.history.specs.Events.{World, Event, calls, cuts, ledgerHeld, onlyTells, Allowed, tornAt, cutDisc, ledgerAfter, next, told, cutIf, fed, AllAllowed, runs, remembers, afterCall, begunHistory, mountedHistory}
+use Rattle.history.specs.Events.{World, Event, calls, cuts, ledgerHeld, Allowed, tornAt, cutDisc, ledgerAfter, next, told, cutIf, fed, AllAllowed, runs, remembers, afterCall, begunHistory, mountedHistory}
 use Rattle.history.specs.Claim.{reading, Shows, DoneShowing, Mounts, Claim}
 use Rattle.alike.specs.Scribbles.{Happening, event, scribble, onDisc, AllHappen, ends, recalls, ScribbledPowerCuts}
 use Rattle.history.proofs.Theorem.{power-cuts}

@@ -9,45 +9,19 @@ use mathlib.Core.List.{List, [], _∷_, _++_}
 use lib.Dec.{eqb, ltb}
 use lib.ListN.{length, take, drop}
 use borrow.Author.Tests.{eqb-true, not-false}
-use Rattle.disc.specs.Disc.{Disc, sized, inOrder, kindAt, sectorAt, readable, content}
-use Rattle.volume.specs.Volume.{unpack, fits}
-use Rattle.recorder.specs.Refusals.{Test, test, first, blockOf, notInUse}
+use Rattle.disc.specs.Disc.{Disc, kindAt, sectorAt, readable, content}
+use Rattle.volume.specs.Volume.{unpack}
+use Rattle.recorder.specs.Refusals.{Test, test, first, basic, blockOf, notInUse, numberedTests}
 use Rattle.recorder.specs.Effects.{settled}
-use Rattle.run.specs.Entry.{totalLength, entryAt, extentsAt}
-use Rattle.run.specs.View.{bufferLent, viewOutcome, shownFrom, filledWith, viewEffect, view}
+use Rattle.recorder.proofs.Done.{stopped, none-applies}
+use Rattle.run.specs.Entry.{totalLength, entryAt}
+use Rattle.run.specs.View.{bufferLent, runTests, viewOutcome, shownFrom, filledWith, viewEffect, view}
 use Rattle.history.proofs.Growth.{data-within}
 use Rattle.archive.specs.Earlier.{seen}
 use Rattle.archive.proofs.Runs.{SameBelow, extents-same, entry-same, run-same}
 use Rattle.alike.specs.Alike.{Alike, MeanNothing}
 use Rattle.alike.proofs.Discs.{same-kind}
 use Rattle.alike.proofs.Calls.{same-basic, same-unfit, same-call}
-
--- ---- a view's tests, by what they find
-
-abbrev asked : Bool → Bool → Bool → Bool → Bool → Bool → List Test → List Test
-asked a b c e f g rest = test 1 a ∷ test 2 b ∷ test 3 c ∷ test 4 e ∷ test 10 f ∷ test 11 g ∷ rest
-
--- behind 11 nothing is asked
-stops-at-11 : (a b c e f : Bool) (xs ys : List Test) → first (asked a b c e f true xs) ≡ first (asked a b c e f true ys)
-unfolding first
-stops-at-11 true b c e f xs ys = refl
-stops-at-11 false true c e f xs ys = refl
-stops-at-11 false false true e f xs ys = refl
-stops-at-11 false false false true f xs ys = refl
-stops-at-11 false false false false true xs ys = refl
-stops-at-11 false false false false false xs ys = refl
-
--- a view that is done passes 11 and 19
-passes : (a b c e f g h i : Bool) → first (asked a b c e f g (test 19 h ∷ test 20 i ∷ [])) ≡ 0 → (g ≡ false) × (h ≡ false)
-unfolding first
-passes true b c e f g h i z = absurd (omega arith)
-passes false true c e f g h i z = absurd (omega arith)
-passes false false true e f g h i z = absurd (omega arith)
-passes false false false true f g h i z = absurd (omega arith)
-passes false false false false true g h i z = absurd (omega arith)
-passes false false false false false true h i z = absurd (omega arith)
-passes false false false false false false true i z = absurd (omega arith)
-passes false false false false false false false i z = (refl, refl)
 
 module _ {d e : Disc} (a : Alike d e) where
   same-content : (b : ℕ) → content e b ≡ content d b
@@ -70,39 +44,42 @@ module _ {d e : Disc} (a : Alike d e) where
     abbrev b : ℕ
     b = blockOf (unpack l) n
 
-    -- 19 and 20 on a disc
-    abbrev on : Disc → List Test
-    on x = test 19 (not (entryAt x b)) ∷ test 20 (ltb (totalLength (extentsAt x b)) offset) ∷ []
+    -- up to 11, and then 19 and 20, on a disc
+    abbrev upTo11 : Disc → List Test
+    upTo11 x = basic x (bufferLent l buffer) ++ numberedTests x l n
 
     inside : eqb (kindAt d b) 1 ≡ true → b < length (d .kinds)
     inside z = data-within (d .kinds) b (eqb-true (kindAt d b) 1 z)
 
+    same-up-to-11 : upTo11 d ≡ upTo11 e
+    same-up-to-11 = λ i. same-basic a (bufferLent l buffer) i ++ (same-unfit a l i ∷ test 10 (notInUse (unpack l) n) ∷ test 11 (not (eqb (same-kind a b i) 1)) ∷ [])
+
+    -- a view that passes these looks at data
+    looks-at-data : first (upTo11 d) ≡ 0 → eqb (kindAt d b) 1 ≡ true
+    looks-at-data z = not-false (eqb (kindAt d b) 1) (none-applies (upTo11 d) refl z .1 .1 .1 .1 .1 .0)
+
+    same-run-tests : eqb (kindAt d b) 1 ≡ true → runTests d b offset ≡ runTests e b offset
+    same-run-tests z =
+        ap₂ (λ (t : Bool) (k : ℕ). test 19 (not t) ∷ test 20 (ltb k offset) ∷ [])
+        (sym (entry-same all-same b (inside z) z)) (ap totalLength (sym (extents-same all-same b (inside z) z)))
+
     same-outcome : viewOutcome d l n offset buffer ≡ viewOutcome e l n offset buffer
     unfolding viewOutcome
-    same-outcome = go (eqb (kindAt d b) 1) refl
+    same-outcome = go (first (upTo11 d)) refl
       where
-        before : (xs : List Test)
-            → first (asked (not (sized d)) (not (bufferLent l buffer)) (not (inOrder (d .kinds))) (not (fits d (unpack l))) (notInUse (unpack l) n) (not (eqb (kindAt d b) 1)) xs)
-            ≡ first (asked (not (sized e)) (not (bufferLent l buffer)) (not (inOrder (e .kinds))) (not (fits e (unpack l))) (notInUse (unpack l) n) (not (eqb (kindAt e b) 1)) xs)
-        before xs = λ i. first (same-basic a (bufferLent l buffer) i ++ (same-unfit a l i ∷ test 10 (notInUse (unpack l) n) ∷ test 11 (not (eqb (same-kind a b i) 1)) ∷ xs))
-
-        go : (t : Bool) → eqb (kindAt d b) 1 ≡ t
-            → first (asked (not (sized d)) (not (bufferLent l buffer)) (not (inOrder (d .kinds))) (not (fits d (unpack l))) (notInUse (unpack l) n) (not (eqb (kindAt d b) 1)) (on d))
-            ≡ first (asked (not (sized e)) (not (bufferLent l buffer)) (not (inOrder (e .kinds))) (not (fits e (unpack l))) (notInUse (unpack l) n) (not (eqb (kindAt e b) 1)) (on e))
-        go true z =
-            ap₂ (λ (t : Bool) (k : ℕ). first (asked (not (sized d)) (not (bufferLent l buffer)) (not (inOrder (d .kinds))) (not (fits d (unpack l))) (notInUse (unpack l) n) (not (eqb (kindAt d b) 1)) (test 19 (not t) ∷ test 20 (ltb k offset) ∷ [])))
-            (sym (entry-same all-same b (inside z) z)) (ap totalLength (sym (extents-same all-same b (inside z) z)))
-            ∙ before (on e)
-        go false z =
-            rw z (stops-at-11 (not (sized d)) (not (bufferLent l buffer)) (not (inOrder (d .kinds))) (not (fits d (unpack l))) (notInUse (unpack l) n) (on d) (on e))
-            ∙ before (on e)
+        go : (o : ℕ) → first (upTo11 d) ≡ o → first (upTo11 d ++ runTests d b offset) ≡ first (upTo11 e ++ runTests e b offset)
+        go zero z = ap₂ (λ (xs ys : List Test). first (xs ++ ys)) same-up-to-11 (same-run-tests (looks-at-data z))
+        go (suc o) z =
+            let stops : first (upTo11 d) ≡ 0 → ⊥ = λ y. omega (arith, z, y) in
+            stopped (upTo11 d) (runTests d b offset) stops ∙ sym (stopped (upTo11 d) (runTests e b offset) stops)
+            ∙ ap (λ (xs : List Test). first (xs ++ runTests e b offset)) same-up-to-11
 
     same-bytes : viewOutcome d l n offset buffer ≡ 0 → shownFrom d b offset (length buffer) ≡ shownFrom e b offset (length buffer)
     unfolding viewOutcome shownFrom
     same-bytes z =
-        let p = passes (not (sized d)) (not (bufferLent l buffer)) (not (inOrder (d .kinds))) (not (fits d (unpack l))) (notInUse (unpack l) n) (not (eqb (kindAt d b) 1)) (not (entryAt d b)) (ltb (totalLength (extentsAt d b)) offset) z in
+        let p = none-applies (upTo11 d ++ runTests d b offset) refl z .1 .1 .1 .1 .1 in
         let is-data : eqb (kindAt d b) 1 ≡ true = not-false (eqb (kindAt d b) 1) (p .0) in
-        ap (λ (x : List ℕ). take (length buffer) (drop offset x)) (sym (run-same all-same b (inside is-data) is-data (not-false (entryAt d b) (p .1))))
+        ap (λ (x : List ℕ). take (length buffer) (drop offset x)) (sym (run-same all-same b (inside is-data) is-data (not-false (entryAt d b) (p .1 .0))))
 
     same-view : seen (view d l n offset buffer) ≡ seen (view e l n offset buffer)
     unfolding view viewEffect

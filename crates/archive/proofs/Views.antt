@@ -19,7 +19,8 @@ use Rattle.disc.proofs.Recording.{Sound, sound-sized, sound-order}
 use Rattle.volume.specs.Volume.{ledgerLength, unpack}
 use Rattle.recorder.specs.Refusals.{Test, test, first, blockOf}
 use Rattle.recorder.specs.Effects.{settled}
-use Rattle.run.specs.Entry.{totalLength, entryAt, extentsAt}
+use Rattle.recorder.proofs.Done.{coded, NoneApplies, none-applies}
+use Rattle.run.specs.Entry.{totalLength, entryAt}
 use Rattle.run.specs.View.{mostViewed, runTests, viewOutcome, shownFrom, filledWith, viewEffect, view}
 use Rattle.history.proofs.Log.{AllBelow}
 use Rattle.history.proofs.Shown.{HoldsMap}
@@ -68,16 +69,12 @@ behind-test n true ts us h = refl
 behind-test n false ts us h = h refl
 
 -- what is shown counts only where no test applies
-shown-only : (a b c e f : Bool) (buffer xs ys : List ℕ) → (b ≡ false → c ≡ false → e ≡ false → xs ≡ ys)
-    → tells (first (test 2 a ∷ test 10 b ∷ test 11 c ∷ test 19 e ∷ test 20 f ∷ [])) buffer xs
-    ≡ tells (first (test 2 a ∷ test 10 b ∷ test 11 c ∷ test 19 e ∷ test 20 f ∷ [])) buffer ys
-unfolding first
-shown-only true b c e f buffer xs ys h = refl
-shown-only false true c e f buffer xs ys h = refl
-shown-only false false true e f buffer xs ys h = refl
-shown-only false false false true f buffer xs ys h = refl
-shown-only false false false false true buffer xs ys h = refl
-shown-only false false false false false buffer xs ys h = ap (tells 0 buffer) (h refl refl refl)
+shown-only : (ts : List Test) → coded ts ≡ true → (buffer xs ys : List ℕ) → (NoneApplies ts → xs ≡ ys) → tells (first ts) buffer xs ≡ tells (first ts) buffer ys
+shown-only ts k buffer xs ys h = go (first ts) refl
+  where
+    go : (o : ℕ) → first ts ≡ o → tells o buffer xs ≡ tells o buffer ys
+    go zero z = ap (tells 0 buffer) (h (none-applies ts k z))
+    go (suc o) z = refl
 
 number-named : (r : ℕ) (xs : List ℕ) (n : ℕ) → AllBelow r xs → Named r (getD xs n unused)
 number-named r [] n a = inr refl
@@ -113,7 +110,7 @@ module _ {r : ℕ} {d d′ : Disc} (e : SameBelow r d d′) (xs : List ℕ) (low
   told-same =
       let room : ℕ = length buffer in
       ap (λ (o : ℕ). tells o buffer (shownFrom d′ x offset room)) tests-same
-      ∙ shown-only (not (leb room mostViewed)) (noNumber xs n) (not (eqb (kindAt d x) 1)) (not (entryAt d x)) (ltb (totalLength (extentsAt d x)) offset) buffer
-      (shownFrom d′ x offset room) (shownFrom d x offset room)
-      (λ used holding is.
-      ap (λ (bytes : List ℕ). take room (drop offset bytes)) (run-same e x (inside used) (not-false (eqb (kindAt d x) 1) holding) (not-false (entryAt d x) is)))
+      ∙ shown-only (mapTests d xs n offset buffer) refl buffer (shownFrom d′ x offset room) (shownFrom d x offset room)
+      (λ passed.
+      let holding : eqb (kindAt d x) 1 ≡ true = not-false (eqb (kindAt d x) 1) (passed .1 .1 .0) in
+      ap (λ (bytes : List ℕ). take room (drop offset bytes)) (run-same e x (inside (passed .1 .0)) holding (not-false (entryAt d x) (passed .1 .1 .1 .0))))

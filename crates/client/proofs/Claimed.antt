@@ -10,17 +10,17 @@ use mathlib.Core.List.{List, [], _∷_}
 use mathlib.Core.Option.{Option, none, some}
 use Rattle.disc.specs.Disc.{Disc}
 use Rattle.disc.specs.Tables.{mapAt, newest, blockFound}
-use Rattle.recorder.specs.Calls.{Call, begin, mount, write, release, closePacket, commit, closeSession, read, lookBack, timeOf}
+use Rattle.recorder.specs.Calls.{Call, begin, mount, write, release, closePacket, commit, closeSession, read, lookBack, timeOf, onlyTells}
 use Rattle.recorder.specs.Refusals.{outcome}
 use Rattle.recorder.specs.Effects.{effect, after, secondNumber}
 use Rattle.history.specs.History.{Snapshot, History, done, feed}
-use Rattle.history.specs.Events.{World, calls, onlyTells, AllAllowed, ledgerAfter, next, told, fed, runs, remembers, pageOf, afterCall}
+use Rattle.history.specs.Events.{World, calls, AllAllowed, ledgerAfter, next, told, fed, runs, remembers, pageOf, afterCall}
 use Rattle.history.specs.Claim.{Claim}
 use Rattle.alike.specs.Scribbles.{Happening, event, AllHappen, ends, recalls}
 use Rattle.history.proofs.Theorem.{Kept, all-kept, begun-kept, mounted-kept}
 use Rattle.alike.proofs.Scribbles.{scribbled-power-cuts}
-use Rattle.client.specs.Day.{Day, called, day, AllDone, opening}
-use Rattle.client.proofs.Days.{first-done, called-done, done-first, rest-done}
+use Rattle.client.specs.Day.{Day, day, AllDone, opening}
+use Rattle.client.proofs.Days.{did, first-done, called-done, done-first, rest-done}
 
 -- ---- calls that are done, and then whatever happens
 
@@ -37,7 +37,7 @@ callsThen (c ∷ cs) hs = event (calls c []) ∷ callsThen cs hs
 -- the history after the calls
 abbrev pub history : Day → History → List Call → History
 history x h [] = h
-history x h (c ∷ cs) = history (called (x .disc) (x .ledger) c) (done (told c) (secondNumber (x .disc) (x .ledger) c) h) cs
+history x h (c ∷ cs) = history (did x c) (done (told c) (secondNumber (x .disc) (x .ledger) c) h) cs
 
 -- a call that only tells leaves the ledger that it was lent
 still-held : (d : Disc) (l : List ℕ) (c : Call) → outcome d l c ≡ 0 → ledgerAfter (onlyTells c) 0 (some l) (after d l c .ledger) ≡ some (after d l c .ledger)
@@ -54,7 +54,7 @@ still-held d l (lookBack k) e = refl
 still-held d l (timeOf k answer) e = rw e
 
 module _ (x : Day) (c : Call) (e : outcome (x .disc) (x .ledger) c ≡ 0) where
-  pub next-done : next (world x) (calls c []) ≡ world (called (x .disc) (x .ledger) c)
+  pub next-done : next (world x) (calls c []) ≡ world (did x c)
   unfolding next
   next-done = rw e (λ i. record { disc = after (x .disc) (x .ledger) c .disc; ledger = still-held (x .disc) (x .ledger) c e i })
 
@@ -63,7 +63,7 @@ module _ (x : Day) (c : Call) (e : outcome (x .disc) (x .ledger) c ≡ 0) where
   fed-done h = rw e
 
   -- what holds before a call holds after it
-  pub kept-next : (h : History) → Kept (world x) h → Kept (world (called (x .disc) (x .ledger) c)) (done (told c) (secondNumber (x .disc) (x .ledger) c) h)
+  pub kept-next : (h : History) → Kept (world x) h → Kept (world (did x c)) (done (told c) (secondNumber (x .disc) (x .ledger) c) h)
   unfolding AllAllowed runs remembers
   kept-next h k = subst₂ Kept next-done (fed-done h) (all-kept (calls c [] ∷ []) (world x) h k (λ z. absurd (not-lost (x .ledger) z), tt))
 
@@ -77,9 +77,9 @@ unfolding AllHappen ends recalls day
 goes [] x h hs ok a = record { allowed = λ b. b; ended = refl; recalled = refl }
 goes (c ∷ cs) x h hs ok a =
     let z : outcome (x .disc) (x .ledger) c ≡ 0 = done-first x c cs ok a in
-    let x′ : Day = called (x .disc) (x .ledger) c in
+    let x′ : Day = did x c in
     let h′ : History = done (told c) (secondNumber (x .disc) (x .ledger) c) h in
-    let at : world (day x (c ∷ cs)) ≡ world (day x′ cs) = ap world (first-done x c cs ok) in
+    let at : world (day x (c ∷ cs)) ≡ world (day x′ cs) = ap world (first-done x c cs ok a) in
     let rest : Goes x′ h′ cs hs = goes cs x′ h′ hs (called-done x c cs ok a) (rest-done x c cs ok a) in
     let w : next (world x) (calls c []) ≡ world x′ = next-done x c z in
     record {
@@ -96,8 +96,8 @@ pub kept-on : (cs : List Call) (x : Day) (h : History) → x .answer < 429496729
 unfolding day
 kept-on [] x h ok a k = k
 kept-on (c ∷ cs) x h ok a k =
-    subst (λ (y : Day). Kept (world y) (history x h (c ∷ cs))) (sym (first-done x c cs ok))
-    (kept-on cs (called (x .disc) (x .ledger) c) (done (told c) (secondNumber (x .disc) (x .ledger) c) h) (called-done x c cs ok a) (rest-done x c cs ok a)
+    subst (λ (y : Day). Kept (world y) (history x h (c ∷ cs))) (sym (first-done x c cs ok a))
+    (kept-on cs (did x c) (done (told c) (secondNumber (x .disc) (x .ledger) c) h) (called-done x c cs ok a) (rest-done x c cs ok a)
     (kept-next x c (done-first x c cs ok a) h k))
 
 -- ---- the start
@@ -127,7 +127,7 @@ start-kept false d l e = mounted-kept d l e
 -- ---- behind the start and the calls that follow
 
 abbrev pub opened : Day → Bool → Day
-opened x fresh = called (x .disc) (x .ledger) (opening fresh)
+opened x fresh = did x (opening fresh)
 
 abbrev pub remembered : Day → Bool → List Call → History
 remembered x fresh cs = history (opened x fresh) (startHistory fresh (x .disc)) cs
@@ -138,7 +138,7 @@ module _ (x : Day) (fresh : Bool) (ok : x .answer < 4294967296) where
     went hs = goes cs (opened x fresh) (startHistory fresh (x .disc)) hs (called-done x (opening fresh) cs ok a) (rest-done x (opening fresh) cs ok a)
 
     there : world (day x (opening fresh ∷ cs)) ≡ world (day (opened x fresh) cs)
-    there = ap world (first-done x (opening fresh) cs ok)
+    there = ap world (first-done x (opening fresh) cs ok a)
 
     pub claim-behind : (hs : List Happening) → AllHappen (world (day x (opening fresh ∷ cs))) hs
         → Claim (ends (world (day x (opening fresh ∷ cs))) hs .disc) (recalls (world (day x (opening fresh ∷ cs))) (remembered x fresh cs) hs)

@@ -5,27 +5,28 @@
 use Prim.Native.Nat.{ℕ, zero, suc, _*_, _<_}
 use native.Mathlib.Omega.{arith}
 use mathlib.Core.Path.{_≡_, refl, sym, ap, _∙_, subst, subst₂}
-use mathlib.Core.Bool.{Bool, true, false}
+use mathlib.Core.Bool.{Bool, true, false, not}
 use mathlib.Core.List.{List, [], _∷_, _++_}
 use mathlib.Core.Logic.{inl, inr}
 use mathlib.Core.Option.{Option, some}
+use lib.Dec.{eqb}
 use lib.ListN.{length, getD}
 use Rattle.vat.specs.Table.{sectorLength}
 use Rattle.anchor.specs.declared.Extent.{Extent}
-use Rattle.disc.specs.Disc.{Disc, lent}
+use Rattle.disc.specs.Disc.{Disc, lent, sized}
 use Rattle.disc.specs.Session.{sessionClosed}
 use Rattle.volume.specs.Volume.{ledgerLength}
 use Rattle.recorder.specs.Calls.{Call, mount, write, closeSession}
-use Rattle.recorder.specs.Refusals.{outcome}
-use Rattle.recorder.specs.Effects.{After, left, after}
+use Rattle.recorder.specs.Refusals.{Test, test, first, tests, outcome}
+use Rattle.roles.specs.Keeping.{outcomeRoles, AfterRoles, leftRoles, afterRoles}
 use Rattle.history.specs.History.{unusedEntry, Snapshot, History}
 use Rattle.history.specs.Events.{Event, AllAllowed, runs, remembers, afterCall}
 use Rattle.history.specs.Claim.{DoneShowing}
 use Rattle.history.specs.Closed.{ClosedShowing, Closes, TurnedAway}
 use Rattle.history.proofs.Log.{some-same}
 use Rattle.history.proofs.Closed.{closed-discs}
-use Rattle.client.specs.Day.{Day, ended, called, day, AllDone, opening, leftBy, ClosedAnswer}
-use Rattle.client.proofs.Days.{joined, first-done, part-done, called-done, done-first, rest-done, last-called}
+use Rattle.client.specs.Day.{Day, ended, day, AllDone, opening, leftBy, ClosedAnswer}
+use Rattle.client.proofs.Days.{joined, part-done, did, done-first, called-done, first-done, rest-done, last-done, Fit}
 use Rattle.client.proofs.Claimed.{world, history, startHistory, opened, remembered}
 use Rattle.client.proofs.Shown.{Reads, mount-reads}
 use Rattle.client.proofs.Saves.{firstPage, first-there}
@@ -53,36 +54,48 @@ module _ (x : Day) (fresh : Bool) (ok : x .answer < 4294967296) (before : List C
       let there : Went o h before = went before o h o-done b-done in
       let closes : Closes (world y) (history o h before) = subst₂ Closes (there .ended) (there .recalled) (start-closes fresh (x .disc) (x .ledger) e (asEvents before) (there .allowed)) in
       let is-done : outcome (y .disc) (y .ledger) closing ≡ 0 = done-first y closing [] b-done (subst (λ (z : Day). z .answer < 4294967296) (joined before (closing ∷ []) o) rest) in
-      let same : day x (opening fresh ∷ (before ++ (closing ∷ []))) ≡ called (y .disc) (y .ledger) closing = first-done x (opening fresh) (before ++ (closing ∷ [])) ok ∙ last-called o before closing b-done in
+      let same : day x (opening fresh ∷ (before ++ (closing ∷ []))) ≡ did y closing = first-done x (opening fresh) (before ++ (closing ∷ [])) ok a ∙ last-done o before closing rest in
       let left = closes (y .ledger) refl main reserve n is-done in
       (left .0, left .1, subst (λ (z : Day). ClosedShowing (z .disc) (left .0)) (sym same) (left .2))
 
 -- whatever is tried leaves it
 pub closing-reads : (x : Day) (fresh : Bool) → x .answer < 4294967296 → (v : ℕ) (block : List ℕ) (main reserve : Extent) (n : ℕ)
-    → AllDone x (opening fresh ∷ write (some v) block ∷ closeSession main reserve n ∷ []) → (held : Option (List ℕ)) (tried : List Event) (y : Day) (out : List ℕ) → y .answer < 4294967296
+    → AllDone x (opening fresh ∷ write (some v) block ∷ closeSession main reserve n ∷ []) → (held : Option (List ℕ)) (tried : List Event) (y : Day) (out : List ℕ) → y .answer < 4294967296 → Fit y
     → y .disc ≡ leftBy (day x (opening fresh ∷ write (some v) block ∷ closeSession main reserve n ∷ []) .disc) held tried → length (y .ledger) ≡ ledgerLength → length out ≡ sectorLength
     → Reads y mount v out 0 block
-closing-reads x fresh ok v block main reserve n a held tried y out y-ok same long whole =
+closing-reads x fresh ok v block main reserve n a held tried y out y-ok fit same long whole =
     let d : Disc = day x (opening fresh ∷ write (some v) block ∷ closeSession main reserve n ∷ []) .disc in
     let left = left-closed x fresh ok (write (some v) block ∷ []) main reserve n a in
     let unchanged : leftBy d held tried ≡ d = closed-discs .unchanged (record { disc = d; ledger = held }) (left .2 .is-closed) tried in
     let page : left .0 ≡ firstPage x fresh v block = some-same (left .0) (firstPage x fresh v block) (sym (left .1)) in
     let shown : DoneShowing (y .disc) (y .ledger) mount (left .0) = subst (λ (z : Disc). DoneShowing z (y .ledger) mount (left .0)) (sym (same ∙ unchanged)) (left .2 .mounts (y .ledger) long) in
-    mount-reads y y-ok v out whole shown (ap (λ (p : Snapshot). getD p v unusedEntry) page ∙ first-there x fresh ok v block (closeSession main reserve n ∷ []) a)
+    mount-reads y y-ok fit v out whole shown (ap (λ (p : Snapshot). getD p v unusedEntry) page ∙ first-there x fresh ok v block (closeSession main reserve n ∷ []) a)
 
 -- ---- a call that is turned away
 
-refused-whole : (d : Disc) (l : List ℕ) (v : ℕ) (block : List ℕ) (n : ℕ) → outcome d l (write (some v) block) ≡ n → TurnedAway n
-    → after d l (write (some v) block) ≡ record { answer = n * 4294967296; disc = d; ledger = l; buffer = block }
-unfolding after
-refused-whole d l v block zero e (inl z) = absurd (omega arith)
-refused-whole d l v block zero e (inr z) = absurd (omega (arith, z .0))
-refused-whole d l v block (suc n) e t = rw e
+-- 1 and 2 before the tests of the call
+away-first : (a b : Bool) (ts : List Test) → TurnedAway (first ts) → TurnedAway (first (test 1 a ∷ test 2 b ∷ ts))
+unfolding first
+away-first true b ts t = inr (omega arith, omega arith)
+away-first false true ts t = inr (omega arith, omega arith)
+away-first false false ts t = t
 
-pub write-is-refused : (i k l block : List ℕ) (v : ℕ) {r : ℕ} {i′ k′ l′ : List ℕ} → left r i′ k′ l′ block ≡ after (lent i k) l (write (some v) block) → sessionClosed (lent i k) ≡ true
-    → ClosedAnswer r × (ended r i′ k′ l′ ≡ ended r i k l)
-write-is-refused i k l block v {r} {i′} {k′} {l′} e closed =
-    let n : ℕ = outcome (lent i k) l (write (some v) block) in
-    let away : TurnedAway n = closed-discs .turned-away (lent i k) closed l (write (some v) block) refl in
-    let all : left r i′ k′ l′ block ≡ left (n * 4294967296) i k l block = e ∙ refused-whole (lent i k) l v block n refl away in
-    ((n, away, ap (λ (x : After). x .answer) all), ap {B = Day} (λ (x : After). record { answer = r; disc = x .disc; ledger = x .ledger }) all)
+module _ (d : Disc) (roles l : List ℕ) (v : ℕ) (block : List ℕ) where
+  roles-away : TurnedAway (outcome d l (write (some v) block)) → TurnedAway (outcomeRoles d roles l (write (some v) block))
+  unfolding outcome outcomeRoles
+  roles-away = away-first (not (sized d)) (not (eqb (length roles) (length (d .kinds)))) (tests d l (write (some v) block))
+
+  refused-whole : (n : ℕ) → outcomeRoles d roles l (write (some v) block) ≡ n → TurnedAway n
+      → afterRoles d roles l (write (some v) block) ≡ leftRoles (n * 4294967296) (d .image) (d .kinds) roles l block
+  unfolding afterRoles
+  refused-whole zero e (inl z) = absurd (omega arith)
+  refused-whole zero e (inr z) = absurd (omega (arith, z .0))
+  refused-whole (suc n) e t = rw e
+
+pub write-is-refused : (i k o l block : List ℕ) (v : ℕ) {r : ℕ} {i′ k′ o′ l′ : List ℕ} → leftRoles r i′ k′ o′ l′ block ≡ afterRoles (lent i k) o l (write (some v) block) → sessionClosed (lent i k) ≡ true
+    → ClosedAnswer r × (ended r i′ k′ o′ l′ ≡ ended r i k o l)
+write-is-refused i k o l block v {r} {i′} {k′} {o′} {l′} e closed =
+    let n : ℕ = outcomeRoles (lent i k) o l (write (some v) block) in
+    let away : TurnedAway n = roles-away (lent i k) o l v block (closed-discs .turned-away (lent i k) closed l (write (some v) block) refl) in
+    let all : leftRoles r i′ k′ o′ l′ block ≡ leftRoles (n * 4294967296) i k o l block = e ∙ refused-whole (lent i k) o l v block n refl away in
+    ((n, away, ap (λ (x : AfterRoles). x .call .answer) all), ap {B = Day} (λ (x : AfterRoles). record { answer = r; disc = x .call .disc; roles = x .roles; ledger = x .call .ledger }) all)

@@ -7,3 +7,4 @@ pub mod Times
 pub mod Written
 pub mod Runs
 pub mod Closings
+pub mod Counted

@@ -26,6 +26,9 @@ use Rattle.recorder.specs.Calls.{Call, write, lookBack}
 use Rattle.recorder.specs.Refusals.{first, links, target, blockOf, notInUse, outcome}
 use Rattle.recorder.specs.Effects.{After, left, after}
 use Rattle.recorder.proofs.Done.{Writable, write-done}
+use Rattle.recorder.proofs.Answers.{done-small}
+use Rattle.roles.specs.Keeping.{AfterRoles, leftRoles, afterRoles}
+use Rattle.roles.proofs.Lent.{fit-same, call-same}
 use Rattle.run.specs.Entry.{extentsOf, totalLength, lies, laid, isEntry, entryAt, extentsAt, extentBytes, runBytes, entry}
 use Rattle.run.specs.View.{mostViewed, viewOutcome, shownFrom, view}
 use Rattle.run.proofs.Theorems.{reads-back}
@@ -37,8 +40,8 @@ use Rattle.archive.proofs.Theorem.{earlier-entries}
 use Rattle.history.proofs.Growth.{data-there}
 use Rattle.alike.specs.Alike.{Alike}
 use Rattle.alike.proofs.Views.{mean-nothing}
-use Rattle.client.specs.Day.{Day, ended, called, goingOn, day, AllDone, opening, savesAmong, filling, storing, viewed}
-use Rattle.client.proofs.Days.{first-done, called-done, done-first, rest-done, last-called, look-back-small}
+use Rattle.client.specs.Day.{Day, ended, goingOn, day, AllDone, opening, savesAmong, filling, storing, viewed}
+use Rattle.client.proofs.Days.{part-done, did, done-first, called-done, first-done, rest-done, first-fit}
 use Rattle.client.proofs.Claimed.{world, startHistory, start-kept, opened, remembered, claim-at}
 use Rattle.client.proofs.Since.{asEvents, Went, went, history-joined, saved, book, SavedThere}
 use Rattle.client.proofs.Written.{Wrote, write-told, write-small, written, names-block}
@@ -121,18 +124,18 @@ module _ {d d₁ d₂ : Disc} {v₀ : Volume} {l₁ l₂ : List ℕ} (v n t : �
 
 -- ---- a day that goes on with a view
 
-module _ (x : Day) (v offset : ℕ) (out : List ℕ) {r : ℕ} {i k l : List ℕ} (e : ended r i k l ≡ x) where
-  pub stops-unviewed : 4294967296 ≤ r → ended r i k l ≡ viewed x v offset out
+module _ (x : Day) (v offset : ℕ) (out : List ℕ) {r : ℕ} {i k o l : List ℕ} (e : ended r i k o l ≡ x) where
+  pub stops-unviewed : 4294967296 ≤ r → ended r i k o l ≡ viewed x v offset out
   stops-unviewed h =
-      let y : Day = ended r i k l in
-      let next : Day = ended (view (lent i k) l v offset out .answer) i k l in
+      let y : Day = ended r i k o l in
+      let next : Day = ended (view (lent i k) l v offset out .answer) i k o l in
       ap (λ (t : Bool). goingOn t y next) (sym (le-ltb r 4294967296 h)) ∙ ap (λ (z : Day). viewed z v offset out) e
 
-  pub goes-on-viewed : r < 4294967296 → {a : ℕ} {got : List ℕ} → left a i k l got ≡ view (lent i k) l v offset out → ended a i k l ≡ viewed x v offset out
+  pub goes-on-viewed : r < 4294967296 → {a : ℕ} {got : List ℕ} → left a i k l got ≡ view (lent i k) l v offset out → ended a i k o l ≡ viewed x v offset out
   goes-on-viewed h shown =
-      let y : Day = ended r i k l in
-      let next : Day = ended (view (lent i k) l v offset out .answer) i k l in
-      ap (λ (z : After). ended (z .answer) i k l) shown ∙ ap (λ (t : Bool). goingOn t y next) (sym (lt-ltb r 4294967296 h)) ∙ ap (λ (z : Day). viewed z v offset out) e
+      let y : Day = ended r i k o l in
+      let next : Day = ended (view (lent i k) l v offset out .answer) i k o l in
+      ap (λ (z : After). ended (z .answer) i k o l) shown ∙ ap (λ (t : Bool). goingOn t y next) (sym (lt-ltb r 4294967296 h)) ∙ ap (λ (z : Day). viewed z v offset out) e
 
 -- ---- a run that was stored
 
@@ -151,7 +154,8 @@ module _ (x : Day) (fresh : Bool) (ok : x .answer < 4294967296) (block : List �
     taken-target : taken ≡ target (unpack (opened x fresh .ledger))
     unfolding day
     taken-target =
-        ap (λ (y : Day). y .answer) (first-done x (opening fresh) (write none block ∷ []) ok ∙ first-done (opened x fresh) (write none block) [] opened-done)
+        let both : AllDone x (opening fresh ∷ write none block ∷ []) = part-done (opening fresh ∷ write none block ∷ []) cs x a in
+        ap (λ (y : Day). y .answer) (first-done x (opening fresh) (write none block ∷ []) ok both ∙ first-done (opened x fresh) (write none block) [] opened-done (rest-done x (opening fresh) (write none block ∷ []) ok both))
         ∙ write-told (opened x fresh .disc) (opened x fresh .ledger) none block write-is-done
 
     pub taken-small : taken < 400000
@@ -166,18 +170,19 @@ module _ (x : Day) (fresh : Bool) (ok : x .answer < 4294967296) (block : List �
         let o-done : o .answer < 4294967296 = opened-done (last ∷ []) a in
         let rest : AllDone o (write none block ∷ last ∷ []) = rest-done x (opening fresh) (write none block ∷ last ∷ []) ok a in
         let good : Proper (unpack (o .ledger)) = start-kept fresh (x .disc) (x .ledger) (done-first x (opening fresh) (write none block ∷ last ∷ []) ok a) .good .ledger-good in
-        let w : Day = called (o .disc) (o .ledger) (write none block) in
+        let w : Day = did o (write none block) in
         let w-done : w .answer < 4294967296 = called-done o (write none block) (last ∷ []) o-done rest in
-        let e : outcome (w .disc) (w .ledger) last ≡ 0 = done-first w last [] w-done (rest-done o (write none block) (last ∷ []) o-done rest) in
+        let w-rest : AllDone w (last ∷ []) = rest-done o (write none block) (last ∷ []) o-done rest in
+        let e : outcome (w .disc) (w .ledger) last ≡ 0 = done-first w last [] w-done w-rest in
         let p : Wrote (o .disc) (unpack (o .ledger)) none block (w .disc) (w .ledger) = written (o .disc) (o .ledger) good none block (write-is-done (last ∷ []) a) in
-        let same : day x (storing x fresh v block n) ≡ called (w .disc) (w .ledger) last =
-        first-done x (opening fresh) (write none block ∷ last ∷ []) ok ∙ first-done o (write none block) (last ∷ []) o-done ∙ first-done w last [] w-done in
+        let same : day x (storing x fresh v block n) ≡ did w last =
+        first-done x (opening fresh) (write none block ∷ last ∷ []) ok a ∙ first-done o (write none block) (last ∷ []) o-done rest ∙ first-done w last [] w-done w-rest in
         ap (λ (y : Day). seen (view (y .disc) (y .ledger) v offset out)) same
         ∙ entry-shows v n taken block some-bytes short (taken-target (last ∷ []) a) p (written (w .disc) (w .ledger) (p .proper) (some v) (entry (extent n taken ∷ []) (taken + 1)) e)
         (write-done (w .disc) (w .ledger) (some v) (entry (extent n taken ∷ []) (taken + 1)) e .writable) offset out inside room
 
     -- what a program is shown
-    pub stored-given : {r a : ℕ} {i k l got : List ℕ} → ended r i k l ≡ day x (storing x fresh v block n) → left a i k l got ≡ view (lent i k) l v offset out
+    pub stored-given : {r a : ℕ} {i k o l got : List ℕ} → ended r i k o l ≡ day x (storing x fresh v block n) → left a i k l got ≡ view (lent i k) l v offset out
         → showing a got ≡ filling (take (length out) (drop offset (take n block))) out
     stored-given e viewed = ap seen viewed ∙ ap (λ (y : Day). seen (view (y .disc) (y .ledger) v offset out)) e ∙ stored-shows
 
@@ -192,16 +197,12 @@ module _ (x : Day) (fresh : Bool) (ok : x .answer < 4294967296) (before since : 
   abbrev start : Day
   start = opened x fresh
 
-  -- the day that ends with the save
-  ends-there : day start (before ++ (c ∷ [])) ≡ saved x fresh before c
-  ends-there = last-called start before c (s .before-done)
-
   seen-later : SeenLater (world (saved x fresh before c)) (book x fresh before c)
   seen-later =
       let h : History = startHistory fresh (x .disc) in
-      let there : AllDone start (before ++ (c ∷ [])) = subst (λ (y : Day). y .answer < 4294967296) (sym ends-there) (s .saved-done) in
+      let there : AllDone start (before ++ (c ∷ [])) = subst (λ (y : Day). y .answer < 4294967296) (sym (s .ends-there)) (s .saved-done) in
       let w : Went start h (before ++ (c ∷ [])) = went (before ++ (c ∷ [])) start h (s .opened-done) there in
-      subst₂ SeenLater (w .ended ∙ ap world ends-there) (w .recalled ∙ history-joined before (c ∷ []) start h (s .opened-done) (s .before-done))
+      subst₂ SeenLater (w .ended ∙ ap world (s .ends-there)) (w .recalled ∙ history-joined before (c ∷ []) start h (s .opened-done) (s .before-done))
       (start-seen fresh (x .disc) (x .ledger) (s .start-done) (asEvents (before ++ (c ∷ []))) (w .allowed))
 
   pub seen-since : (now then : List ℕ) → length now ≡ ledgerLength → length then ≡ ledgerLength → (n offset : ℕ) (buffer : List ℕ)
@@ -209,7 +210,7 @@ module _ (x : Day) (fresh : Bool) (ok : x .answer < 4294967296) (before since : 
       ≡ seenBack (day x (opening fresh ∷ (before ++ (c ∷ []))) .disc) then 0 n offset buffer
   seen-since now then now-long then-long n offset buffer =
       let behind : saved x fresh before c .disc ≡ day x (opening fresh ∷ (before ++ (c ∷ []))) .disc =
-      ap (λ (y : Day). y .disc) (sym ends-there ∙ sym (first-done x (opening fresh) (before ++ (c ∷ [])) ok)) in
+      ap (λ (y : Day). y .disc) (sym (s .ends-there) ∙ sym (first-fit x (opening fresh) (before ++ (c ∷ [])) ok (s .roles-fit))) in
       let all : seenBack (runs (world (saved x fresh before c)) (asEvents since) .disc) now (savesAmong since + 0) n offset buffer ≡ seenBack (saved x fresh before c .disc) then 0 n offset buffer =
       seen-later (asEvents since) (s .went-since .allowed) (savesAmong since) (s .counted) 0 (omega (arith, s .a-page)) then now then-long now-long n offset buffer in
       ap (λ (d : Disc). seenBack d now (savesAmong since) n offset buffer) (sym (s .same-disc))
@@ -225,7 +226,7 @@ module _ (x : Day) (fresh : Bool) (ok : x .answer < 4294967296) (before since : 
       let hz : History = book x fresh before c in
       let pages : length (remembered x fresh (before ++ (c ∷ since)) .pages) ≡ savesAmong since + length (hz .pages) =
       ap (λ (g : History). length (g .pages)) (history-joined before (c ∷ since) start (startHistory fresh (x .disc)) (s .opened-done) (s .before-done) ∙ sym (s .went-since .recalled)) ∙ s .counted in
-      look-back-small d l (savesAmong since)
+      done-small d l (lookBack (savesAmong since))
       (claim-at x fresh ok (before ++ (c ∷ since)) a .looks l long (savesAmong since) (omega (arith, pages, s .a-page)) .is-done)
 
 -- ---- what a program is shown
@@ -236,7 +237,7 @@ seen-alike d e a l k n offset buffer =
     mean-nothing .views d e a (after d l (lookBack k) .ledger) n offset buffer
     ∙ ap (λ (m : List ℕ). seen (view e m n offset buffer)) (mean-nothing .calls d e a l (lookBack k) .same-ledger)
 
-pub seen-given : (i k l : List ℕ) (n v offset : ℕ) (out : List ℕ) {a r : ℕ} {l′ b got : List ℕ} → left a i k l′ b ≡ after (lent i k) l (lookBack n) → left r i k l′ got ≡ view (lent i k) l′ v offset out
-    → showing r got ≡ seenBack (lent i k) l n v offset out
-seen-given i k l n v offset out looked viewed =
-    ap seen viewed ∙ ap (λ (m : List ℕ). seen (view (lent i k) m v offset out)) (ap (λ (x : After). x .ledger) looked)
+pub seen-given : (i k o l : List ℕ) → length o ≡ length k → (n v offset : ℕ) (out : List ℕ) {a r : ℕ} {o′ l′ b got : List ℕ} → leftRoles a i k o′ l′ b ≡ afterRoles (lent i k) o l (lookBack n)
+    → left r i k l′ got ≡ view (lent i k) l′ v offset out → showing r got ≡ seenBack (lent i k) l n v offset out
+seen-given i k o l fit n v offset out looked viewed =
+    ap seen viewed ∙ ap (λ (m : List ℕ). seen (view (lent i k) m v offset out)) (ap (λ (x : AfterRoles). x .call .ledger) looked ∙ ap (λ (x : After). x .ledger) (call-same (lent i k) o l (lookBack n) (fit-same (lent i k) o l (lookBack n) fit)))

@@ -26,6 +26,7 @@ use Rattle.recorder.specs.Refusals.{outcome, links, target}
 use Rattle.recorder.specs.Effects.{Effect, effect, sectorsIf, after, secondNumber, sectorsOf}
 use Rattle.alike.specs.Alike.{Alike}
 use Rattle.recorder.proofs.Done.{begin-done, WriteDone, write-done, ledger-accepted, links-few}
+use Rattle.recorder.proofs.Answers.{answer-of, done-small}
 use Rattle.alike.proofs.Discs.{blank-bytes}
 use Rattle.alike.proofs.Ahead.{marked-call}
 use Rattle.history.specs.History.{unusedEntry, shows, Snapshot, History, Told, placed, savedIf, done, feed}
@@ -34,8 +35,8 @@ use Rattle.history.specs.Claim.{blockNumber, DoneShowing, Mounts, Claim}
 use Rattle.alike.specs.Scribbles.{event, scribble, AllHappen, ends, recalls}
 use Rattle.history.proofs.Saving.{told-save, unsaved, Saving, saving-done}
 use Rattle.history.proofs.Theorem.{Kept, saved-page, Remounted, remounts}
-use Rattle.client.specs.Day.{Day, ended, called, day, AllDone, opening, ShowsSave, backIf, oneBack, oneMoreIf, savesAmong, struck, OneSector, sectorsBehind, CutBehind, tableKept, readsOf, StoppedStoring, StoppedMarking}
-use Rattle.client.proofs.Days.{joined, first-done, part-done, called-done, done-first, rest-done, answer-of, last-called, mount-small}
+use Rattle.client.specs.Day.{Day, ended, day, AllDone, opening, ShowsSave, backIf, oneBack, savesAmong, struck, OneSector, sectorsBehind, CutBehind, tableKept, readsOf, StoppedStoring, StoppedMarking}
+use Rattle.client.proofs.Days.{joined, part-done, did, done-first, called-done, first-done, rest-done, last-done, Fit, first-fit, opening-fit, last-fit}
 use Rattle.client.proofs.Claimed.{world, not-lost, history, kept-next, startPage, startPages, opened, remembered, claim-behind, claim-at, kept-at}
 use Rattle.client.proofs.Shown.{Reads, mount-disc, mount-reads, mount-unused, look-reads}
 
@@ -123,9 +124,10 @@ module _ (x : Day) (fresh : Bool) (ok : x .answer < 4294967296) where
       go : (t : Bool) → outcome (x .disc) (x .ledger) (opening t) ≡ 0 → unpack (after (x .disc) (x .ledger) (opening t) .ledger) .size ≡ length (startPage t (x .disc))
       go true e = begun-size (x .disc) (x .ledger) e
       go false e =
-          let y : Day = record { answer = 0; disc = x .disc; ledger = x .ledger } in
-          subst (λ (d : Disc). unpack (after d (x .ledger) mount .ledger) .size ≡ length (startPage false (x .disc))) (mount-disc (x .disc) (x .ledger))
-          (claim-at y false (omega arith) [] (mount-small (x .disc) (x .ledger) e) .mounts (x .ledger) (ledger-accepted (x .disc) (x .ledger) mount e) .showing .size)
+          let y : Day = record { answer = 0; disc = x .disc; roles = x .disc .kinds; ledger = x .ledger } in
+          let mounted : day y (mount ∷ []) ≡ did y mount = first-fit y mount [] (omega arith) refl in
+          subst (λ (d : Disc). unpack (after d (x .ledger) mount .ledger) .size ≡ length (startPage false (x .disc))) (ap (λ (z : Day). z .disc) mounted ∙ mount-disc (x .disc) (x .ledger))
+          (claim-at y false (omega arith) [] (subst (λ (z : Day). z .answer < 4294967296) (sym mounted) (done-small (x .disc) (x .ledger) mount e)) .mounts (x .ledger) (ledger-accepted (x .disc) (x .ledger) mount e) .showing .size)
 
   -- number v is written first
   module _ (v : ℕ) (block : List ℕ) (cs : List Call) (a : AllDone x (opening fresh ∷ write (some v) block ∷ cs)) where
@@ -150,7 +152,8 @@ module _ (x : Day) (fresh : Bool) (ok : x .answer < 4294967296) where
     answered-taken : day x (opening fresh ∷ write (some v) block ∷ []) .answer ≡ taken x fresh v block
     unfolding day
     answered-taken =
-        ap (λ (y : Day). y .answer) (first-done x (opening fresh) (write (some v) block ∷ []) ok ∙ first-done (opened x fresh) (write (some v) block) [] opened-done)
+        let both : AllDone x (opening fresh ∷ write (some v) block ∷ []) = part-done (opening fresh ∷ write (some v) block ∷ []) cs x a in
+        ap (λ (y : Day). y .answer) (first-done x (opening fresh) (write (some v) block ∷ []) ok both ∙ first-done (opened x fresh) (write (some v) block) [] opened-done (rest-done x (opening fresh) (write (some v) block ∷ []) ok both))
         ∙ answer-of (opened x fresh .disc) (opened x fresh .ledger) (write (some v) block) write-is-done
 
   -- ---- a save
@@ -164,13 +167,16 @@ module _ (x : Day) (fresh : Bool) (ok : x .answer < 4294967296) where
 
     -- the write, as the history goes on from it
     abbrev written-first : Day
-    written-first = called (opened x fresh .disc) (opened x fresh .ledger) (write (some v) block)
+    written-first = did (opened x fresh) (write (some v) block)
 
     record-done : AllDone x (opening fresh ∷ write (some v) block ∷ [])
     record-done = part-done (opening fresh ∷ write (some v) block ∷ []) (c ∷ []) x a
 
-    save-called : saved-day ≡ called (recorded-day .disc) (recorded-day .ledger) c
-    save-called = last-called x (opening fresh ∷ write (some v) block ∷ []) c record-done
+    save-called : saved-day ≡ did recorded-day c
+    save-called = last-done x (opening fresh ∷ write (some v) block ∷ []) c a
+
+    saved-fit : Fit saved-day
+    saved-fit = opening-fit x fresh (write (some v) block ∷ c ∷ []) ok a
 
     save-is-done : outcome (recorded-day .disc) (recorded-day .ledger) c ≡ 0
     save-is-done = done-first recorded-day c [] record-done (subst (λ (y : Day). y .answer < 4294967296) (joined (opening fresh ∷ write (some v) block ∷ []) (c ∷ []) x) a)
@@ -205,31 +211,31 @@ module _ (x : Day) (fresh : Bool) (ok : x .answer < 4294967296) where
           entry = mounts .showing .entry v ∙ ap blockNumber (first-there v block (c ∷ []) a) ∙ sym (answered-taken v block (c ∷ []) a);
           size =
               mounts .showing .size ∙ length-written p v b block
-              ∙ ap (λ (k : ℕ). grown (eqb v k) k) (sym sized ∙ ap (λ (y : Day). unpack (y .ledger) .size) (sym (first-done x (opening fresh) [] ok)));
+              ∙ ap (λ (k : ℕ). grown (eqb v k) k) (sym sized ∙ ap (λ (y : Day). unpack (y .ledger) .size) (sym (first-done x (opening fresh) [] ok (part-done (opening fresh ∷ []) (write (some v) block ∷ c ∷ []) x a))));
         }
 
     -- what a program sees that mounts it
-    pub mounted-shows : {r : ℕ} {i k m : List ℕ} → ended r i k m ≡ day x (opening fresh ∷ write (some v) block ∷ c ∷ mount ∷ []) → ShowsSave x (opening fresh) v block c r m
+    pub mounted-shows : {r : ℕ} {i k o m : List ℕ} → ended r i k o m ≡ day x (opening fresh ∷ write (some v) block ∷ c ∷ mount ∷ []) → ShowsSave x (opening fresh) v block c r m
     mounted-shows e =
-        subst (λ (y : Day). ShowsSave x (opening fresh) v block c (y .answer) (y .ledger)) (sym (e ∙ last-called x (opening fresh ∷ write (some v) block ∷ c ∷ []) mount a)) saved-shows
+        subst (λ (y : Day). ShowsSave x (opening fresh) v block c (y .answer) (y .ledger)) (sym (e ∙ last-fit x (opening fresh ∷ write (some v) block ∷ c ∷ []) mount a saved-fit)) saved-shows
 
     pub saved-reads : (out : List ℕ) → length out ≡ sectorLength → Reads saved-day mount v out 0 block
-    saved-reads out long = mount-reads saved-day a v out long mounts (first-there v block (c ∷ []) a)
+    saved-reads out long = mount-reads saved-day a saved-fit v out long mounts (first-there v block (c ∷ []) a)
 
     -- one step back: the table that was last when the day was opened
-    pub saved-back : {r : ℕ} {i k m : List ℕ} → ended r i k m ≡ day x (opening fresh ∷ write (some v) block ∷ c ∷ lookBack 1 ∷ [])
+    pub saved-back : {r : ℕ} {i k o m : List ℕ} → ended r i k o m ≡ day x (opening fresh ∷ write (some v) block ∷ c ∷ lookBack 1 ∷ [])
         → r ≡ oneBack (unpack (day x (opening fresh ∷ []) .ledger) .last)
     unfolding day
     saved-back e =
         let o : Day = day x (opening fresh ∷ []) in
         let o-done : AllDone x (opening fresh ∷ []) = part-done (opening fresh ∷ []) (write (some v) block ∷ c ∷ []) x a in
         let same : unpack (recorded-day .ledger) .last ≡ unpack (o .ledger) .last =
-        ap (λ (y : Day). unpack (y .ledger) .last) (last-called x (opening fresh ∷ []) (write (some v) block) o-done)
+        ap (λ (y : Day). unpack (y .ledger) .last) (last-done x (opening fresh ∷ []) (write (some v) block) record-done)
         ∙ written-last (o .disc) (o .ledger) (kept-at x fresh ok [] o-done .good .ledger-good) v block
         (done-first o (write (some v) block) [] o-done (subst (λ (y : Day). y .answer < 4294967296) (joined (opening fresh ∷ []) (write (some v) block ∷ []) x) record-done)) in
         let here : after (saved-day .disc) (saved-day .ledger) (lookBack 1) .answer ≡ after (after (recorded-day .disc) (recorded-day .ledger) c .disc) (saved-day .ledger) (lookBack 1) .answer =
         ap (λ (d : Disc). after d (saved-day .ledger) (lookBack 1) .answer) saved-disc in
-        ap (λ (y : Day). y .answer) (e ∙ last-called x (opening fresh ∷ write (some v) block ∷ c ∷ []) (lookBack 1) a)
+        ap (λ (y : Day). y .answer) (e ∙ last-fit x (opening fresh ∷ write (some v) block ∷ c ∷ []) (lookBack 1) a saved-fit)
         ∙ here ∙ one-step (unpack (o .ledger) .last) (λ z. again .none-back (same ∙ z)) (λ used. again .one-back (λ z. used (sym same ∙ z)) ∙ same)
 
 -- ---- any calls behind a save
@@ -259,17 +265,18 @@ moved-back [] x h ok a k =
 moved-back (c ∷ cs) x h ok a k =
     let z : outcome (x .disc) (x .ledger) c ≡ 0 = done-first x c cs ok a in
     go (saves c) refl z
-    (moved-back cs (called (x .disc) (x .ledger) c) (done (told c) (secondNumber (x .disc) (x .ledger) c) h) (called-done x c cs ok a) (rest-done x c cs ok a)
+    (moved-back cs (did x c) (done (told c) (secondNumber (x .disc) (x .ledger) c) h) (called-done x c cs ok a) (rest-done x c cs ok a)
     (kept-next x c z h k))
   where
-    go : (t : Bool) → saves c ≡ t → outcome (x .disc) (x .ledger) c ≡ 0 → {qs : List Snapshot} → MovedBack (done (told c) (secondNumber (x .disc) (x .ledger) c) h .pages) qs (savesAmong cs) → MovedBack (h .pages) qs (oneMoreIf t (savesAmong cs))
+    go : (t : Bool) → saves c ≡ t → outcome (x .disc) (x .ledger) c ≡ 0 → {qs : List Snapshot} → MovedBack (done (told c) (secondNumber (x .disc) (x .ledger) c) h .pages) qs (savesAmong cs) → MovedBack (h .pages) qs (grown t (savesAmong cs))
     go true is e r = moved-on (saved-page (x .disc) (x .ledger) h k c is e (secondNumber (x .disc) (x .ledger) c)) r
     go false is e {qs} r = subst (λ (ps : List Snapshot). MovedBack ps qs (savesAmong cs)) (unsaved c is (secondNumber (x .disc) (x .ledger) c) h) r
 
--- a later day on the disc that the calls left, lent any 1,848 bytes as ledger and a block
+-- a later day on the disc that the calls left, lent any bytes as roles, one a sector, any 1,848 bytes as ledger and a block
 pub record Later (x : Day) (cs : List Call) (y : Day) (out : List ℕ) : Type 0 where
   pub ok : y .answer < 4294967296
   pub there : day x cs .disc ≡ y .disc
+  pub roles-fit : Fit y
   pub ledger-long : length (y .ledger) ≡ ledgerLength
   pub block-long : length out ≡ sectorLength
 
@@ -283,15 +290,16 @@ module _ (x : Day) (fresh : Bool) (ok : x .answer < 4294967296) (v : ℕ) where
   unfolding day
   long-ago-reads c is-save block since a y out g =
       let o : Day = opened x fresh in
-      let w : Day = called (o .disc) (o .ledger) (write (some v) block) in
-      let z : Day = called (w .disc) (w .ledger) c in
+      let w : Day = did o (write (some v) block) in
+      let z : Day = did w c in
       let h : History = remembered x fresh (write (some v) block ∷ c ∷ []) in
       let o-done : o .answer < 4294967296 = called-done x (opening fresh) (write (some v) block ∷ c ∷ since) ok a in
       let o-rest : AllDone o (write (some v) block ∷ c ∷ since) = rest-done x (opening fresh) (write (some v) block ∷ c ∷ since) ok a in
       let w-done : w .answer < 4294967296 = called-done o (write (some v) block) (c ∷ since) o-done o-rest in
       let w-rest : AllDone w (c ∷ since) = rest-done o (write (some v) block) (c ∷ since) o-done o-rest in
       let first : AllDone x (opening fresh ∷ write (some v) block ∷ c ∷ []) = part-done (opening fresh ∷ write (some v) block ∷ c ∷ []) since x a in
-      let same : day x (opening fresh ∷ write (some v) block ∷ c ∷ []) ≡ z = first-done x (opening fresh) (write (some v) block ∷ c ∷ []) ok ∙ first-done o (write (some v) block) (c ∷ []) o-done ∙ first-done w c [] w-done in
+      let o-first : AllDone o (write (some v) block ∷ c ∷ []) = rest-done x (opening fresh) (write (some v) block ∷ c ∷ []) ok first in
+      let same : day x (opening fresh ∷ write (some v) block ∷ c ∷ []) ≡ z = first-done x (opening fresh) (write (some v) block ∷ c ∷ []) ok first ∙ first-done o (write (some v) block) (c ∷ []) o-done o-first ∙ first-done w c [] w-done (rest-done o (write (some v) block) (c ∷ []) o-done o-first) in
       let k : Kept (world z) h = subst (λ (d : Day). Kept (world d) h) same (kept-at x fresh ok (write (some v) block ∷ c ∷ []) first) in
       let m : MovedBack (h .pages) (remembered x fresh (write (some v) block ∷ c ∷ since) .pages) (savesAmong since) =
       moved-back since z h (called-done w c since w-done w-rest) (rest-done w c since w-done w-rest) k in
@@ -300,7 +308,7 @@ module _ (x : Day) (fresh : Bool) (ok : x .answer < 4294967296) (v : ℕ) where
       let page : getD (remembered x fresh (write (some v) block ∷ c ∷ since) .pages) (savesAmong since) [] ≡ firstPage x fresh v block =
       ap (λ (n : ℕ). getD (remembered x fresh (write (some v) block ∷ c ∷ since) .pages) n []) (let e : savesAmong since ≡ 0 + savesAmong since = omega arith in e) ∙ m .page 0 ∙ ap (λ (ps : List Snapshot). getD ps 0 []) made in
       let some-page : length (h .pages) ≡ suc (length (startPages fresh (x .disc))) = ap length made in
-      look-reads y (g .ok) v out (g .block-long) (savesAmong since)
+      look-reads y (g .ok) (g .roles-fit) v out (g .block-long) (savesAmong since)
       (claim-later (write (some v) block ∷ c ∷ since) a g .looks (y .ledger) (g .ledger-long) (savesAmong since) (omega (arith, m .count, some-page)))
       (ap (λ (p : Snapshot). getD p v unusedEntry) page ∙ first-there x fresh ok v block (c ∷ since) a)
 
@@ -308,7 +316,7 @@ module _ (x : Day) (fresh : Bool) (ok : x .answer < 4294967296) (v : ℕ) where
   pub newer-reads : (old new : List ℕ) → (a : AllDone x (opening fresh ∷ write (some v) old ∷ commit none ∷ write (some v) new ∷ closePacket ∷ commit none ∷ []))
       → (y : Day) (out : List ℕ) → Later x (opening fresh ∷ write (some v) old ∷ commit none ∷ write (some v) new ∷ closePacket ∷ commit none ∷ []) y out → Reads y mount v out 0 new
   newer-reads old new a y out g =
-      mount-reads y (g .ok) v out (g .block-long) (claim-later (write (some v) old ∷ commit none ∷ write (some v) new ∷ closePacket ∷ commit none ∷ []) a g .mounts (y .ledger) (g .ledger-long))
+      mount-reads y (g .ok) (g .roles-fit) v out (g .block-long) (claim-later (write (some v) old ∷ commit none ∷ write (some v) new ∷ closePacket ∷ commit none ∷ []) a g .mounts (y .ledger) (g .ledger-long))
       (written-there (firstPage x fresh v old) v _ new (below-first x fresh ok v old (commit none ∷ write (some v) new ∷ closePacket ∷ commit none ∷ []) a))
 
 -- ---- a number released, and a disc without a save
@@ -316,7 +324,7 @@ module _ (x : Day) (fresh : Bool) (ok : x .answer < 4294967296) (v : ℕ) where
 pub released-reads : (x : Day) → x .answer < 4294967296 → (v : ℕ) → AllDone x (mount ∷ release v ∷ commit none ∷ [])
     → (y : Day) (out : List ℕ) → Later x (mount ∷ release v ∷ commit none ∷ []) y out → Reads y mount v out (10 * 4294967296) out
 released-reads x ok v a y out g =
-    mount-unused y (g .ok) v out (g .block-long) (claim-later x false ok v (release v ∷ commit none ∷ []) a g .mounts (y .ledger) (g .ledger-long)) (released-there (startPage false (x .disc)) v)
+    mount-unused y (g .ok) (g .roles-fit) v out (g .block-long) (claim-later x false ok v (release v ∷ commit none ∷ []) a g .mounts (y .ledger) (g .ledger-long)) (released-there (startPage false (x .disc)) v)
 
 refused-answer : (d : Disc) (l : List ℕ) (c : Call) (n : ℕ) → outcome d l c ≡ suc n → after d l c .answer ≡ suc n * 4294967296
 unfolding after
@@ -331,8 +339,8 @@ unfolding day
 nothing-mounts x ok a =
     let y : Day = day x (begin ∷ []) in
     let e : outcome (x .disc) (x .ledger) begin ≡ 0 = done-first x begin [] ok a in
-    let long : length (y .ledger) ≡ ledgerLength = ap (λ (z : Day). length (z .ledger)) (first-done x begin [] ok) ∙ begun-long (x .disc) (x .ledger) e in
-    ap (λ (z : Day). z .answer) (last-called x (begin ∷ []) mount a) ∙ refused-answer (y .disc) (y .ledger) mount 6 (claim-at x true ok [] a .mounts (y .ledger) long)
+    let long : length (y .ledger) ≡ ledgerLength = ap (λ (z : Day). length (z .ledger)) (first-done x begin [] ok a) ∙ begun-long (x .disc) (x .ledger) e in
+    ap (λ (z : Day). z .answer) (last-fit x (begin ∷ []) mount a (opening-fit x true [] ok a)) ∙ refused-answer (y .disc) (y .ledger) mount 6 (claim-at x true ok [] a .mounts (y .ledger) long)
 
 -- ---- a call that is cut
 
@@ -393,13 +401,13 @@ module _ (x : Day) (fresh : Bool) (ok : x .answer < 4294967296) (v : ℕ) (stamp
       (claim-behind x fresh ok before-cut (g .all-done) (event (cuts c [] j tear) ∷ scribble e ∷ [])
       ((λ z. absurd (not-lost (cut-day .ledger) z), g .within, torn-sector tear (g .one-sector)), (subst (λ (x : Disc). Alike x e) same alike, tt)))
 
-  pub cut-reads : (d : Disc) (y : Day) (out : List ℕ) → y .answer < 4294967296 → CutBehind x (opening fresh ∷ before-cut) c j tear d → Alike d (y .disc) → length (y .ledger) ≡ ledgerLength → length out ≡ sectorLength
+  pub cut-reads : (d : Disc) (y : Day) (out : List ℕ) → y .answer < 4294967296 → Fit y → CutBehind x (opening fresh ∷ before-cut) c j tear d → Alike d (y .disc) → length (y .ledger) ≡ ledgerLength → length out ≡ sectorLength
       → Reads y mount v out 0 (readsOf keeps old new)
-  cut-reads d y out y-ok g alike long whole = go keeps (cut-claim g alike)
+  cut-reads d y out y-ok fit g alike long whole = go keeps (cut-claim g alike)
     where
       go : (t : Bool) → Claim (y .disc) (record { pages = savedIf t (remembered x fresh before-cut .draft) (remembered x fresh before-cut .pages); draft = none }) → Reads y mount v out 0 (readsOf t old new)
-      go true claim = mount-reads y y-ok v out whole (claim .mounts (y .ledger) long) (written-there (firstPage x fresh v old) v _ new (below-first x fresh ok v old (commit stamp ∷ write (some v) new ∷ []) (g .all-done)))
-      go false claim = mount-reads y y-ok v out whole (claim .mounts (y .ledger) long) (first-there x fresh ok v old (commit stamp ∷ write (some v) new ∷ []) (g .all-done))
+      go true claim = mount-reads y y-ok fit v out whole (claim .mounts (y .ledger) long) (written-there (firstPage x fresh v old) v _ new (below-first x fresh ok v old (commit stamp ∷ write (some v) new ∷ []) (g .all-done)))
+      go false claim = mount-reads y y-ok fit v out whole (claim .mounts (y .ledger) long) (first-there x fresh ok v old (commit stamp ∷ write (some v) new ∷ []) (g .all-done))
 
 -- ---- a program that is stopped
 
@@ -407,7 +415,7 @@ unstruck : (t : Bool) (b : ℕ) (d : Disc) → struck t none b d ≡ d
 unstruck true b d = refl
 unstruck false b d = refl
 
-module _ (x : Day) (fresh : Bool) (ok : x .answer < 4294967296) (v : ℕ) (stamp : Option (List ℕ)) (old new : List ℕ) (y : Day) (out : List ℕ) (y-ok : y .answer < 4294967296) (long : length (y .ledger) ≡ ledgerLength) (whole : length out ≡ sectorLength) where
+module _ (x : Day) (fresh : Bool) (ok : x .answer < 4294967296) (v : ℕ) (stamp : Option (List ℕ)) (old new : List ℕ) (y : Day) (out : List ℕ) (y-ok : y .answer < 4294967296) (fit : Fit y) (long : length (y .ledger) ≡ ledgerLength) (whole : length out ≡ sectorLength) where
   abbrev written-day : Day
   written-day = day x (opening fresh ∷ write (some v) old ∷ commit stamp ∷ write (some v) new ∷ [])
 
@@ -419,7 +427,7 @@ module _ (x : Day) (fresh : Bool) (ok : x .answer < 4294967296) (v : ℕ) (stamp
       let ss : List Sector = sectorsBehind x (opening fresh ∷ write (some v) old ∷ commit stamp ∷ write (some v) new ∷ []) mount in
       let good : Sound d = kept-at x fresh ok (write (some v) old ∷ commit stamp ∷ write (some v) new ∷ []) (s .all-done) .good .sound-disc in
       let alike : Alike d (y .disc) = subst (λ (ks : List ℕ). Alike d (lent (y .disc .image) ks)) (s .same-kinds) (blank-bytes d good (y .disc .image) (s .same-length) (s .same-recorded)) in
-      cut-reads x fresh ok v stamp old new mount 0 none d y out y-ok
+      cut-reads x fresh ok v stamp old new mount 0 none d y out y-ok fit
       (record { all-done = s .all-done; within = omega arith; one-sector = tt; is-left = sym (unstruck (ltb 0 (length ss)) (recorded d + 0) d) }) alike long whole
 
   -- the first j sectors marked: as if the call had been cut after them
@@ -430,5 +438,5 @@ module _ (x : Day) (fresh : Bool) (ok : x .answer < 4294967296) (v : ℕ) (stamp
       let ss : List Sector = sectorsBehind x (opening fresh ∷ write (some v) old ∷ commit stamp ∷ write (some v) new ∷ []) c in
       let cut : Disc = puts d (recorded d) (take j ss) in
       let alike : Alike cut (y .disc) = subst₂ (λ (i ks : List ℕ). Alike cut (lent i ks)) (s .all-stored) (s .some-marked) (marked-call d (written-day .ledger) c j) in
-      cut-reads x fresh ok v stamp old new c j none cut y out y-ok
+      cut-reads x fresh ok v stamp old new c j none cut y out y-ok fit
       (record { all-done = s .all-done; within = s .within; one-sector = tt; is-left = sym (unstruck (ltb j (length ss)) (recorded d + j) cut) }) alike long whole

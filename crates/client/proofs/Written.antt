@@ -5,13 +5,13 @@
 use Prim.Native.Nat.{ℕ, zero, suc, _+_, _-_, _≤_, _<_}
 use native.Mathlib.Omega.{arith}
 use mathlib.Core.Path.{_≡_, refl, sym, ap, ap₂, _∙_, subst}
-use mathlib.Core.Bool.{Bool, true, false, _&&_, _||_, not}
-use mathlib.Core.List.{List, [], _∷_, _++_}
+use mathlib.Core.Bool.{Bool, true, false, _&&_, _||_}
+use mathlib.Core.List.{List, [], _∷_}
 use mathlib.Core.Option.{Option, none, some}
-use lib.Dec.{eqb, ltb, leb}
+use lib.Dec.{eqb}
 use lib.ListN.{length, getD, drop, set, replicate, length-replicate}
 use lib.Seq.{getD-set-same, drop-set-lt}
-use borrow.Author.Tests.{eq-eqb, ne-eqb, eqb-true, eqb-false, lt-ltb, lt-leb, le-leb, not-false}
+use borrow.Author.Tests.{eq-eqb, ne-eqb, eqb-false, lt-ltb, lt-leb, le-leb}
 use Rattle.le.specs.Bytes.{every}
 use Rattle.le.proofs.Rows.{and-left, and-right}
 use Rattle.vat.specs.Table.{limit, unused, unusedOrBelow, isTable}
@@ -20,39 +20,17 @@ use Rattle.disc.specs.Tables.{tableAt}
 use Rattle.disc.proofs.Recording.{Sound, leading-le}
 use Rattle.disc.proofs.Found.{table-recorded}
 use Rattle.volume.specs.declared.Volume.{Volume}
-use Rattle.volume.specs.Volume.{ledgerLength, packetOpen, readOnly, unpack, pack, mapOf, isUnused, fits, grown, entriesWith, sizeWith, wrote}
+use Rattle.volume.specs.Volume.{ledgerLength, unpack, pack, mapOf, isUnused, fits, grown, entriesWith, sizeWith, wrote}
 use Rattle.volume.proofs.State.{Proper, length-pack, unpack-pack, proper-wrote, grownMap, map-wrote}
 use Rattle.recorder.specs.Calls.{write}
-use Rattle.recorder.specs.Refusals.{Test, test, first, links, target, blockLent, gate, writeTests, blockOf, notInUse, tests, outcome}
+use Rattle.recorder.specs.Refusals.{links, target, blockOf, notInUse, outcome}
 use Rattle.recorder.specs.Effects.{effect, After, after}
 use Rattle.recorder.proofs.Sectors.{links-whole, behind, length-behind, behind-whole}
-use Rattle.recorder.proofs.Done.{Fits, basic-passed, links-few, Writable, WriteDone, write-done}
+use Rattle.recorder.proofs.Done.{Fits, links-few, Writable, size-fits, WriteDone, write-done}
 use Rattle.history.proofs.Log.{all-below-more, Extends}
 use Rattle.history.proofs.Growth.{F, data-there, all-below-of, all-below-to, NoTables, Grown, puts-plain, links-no-tables, behind-no-tables, behind-content, behind-counted}
 
 -- ---- the ledger fits
-
-not-four : (a : Bool) (ts : List Test) → first (test 4 a ∷ ts) ≡ 0 → a ≡ false
-unfolding first
-not-four true ts e = absurd (omega arith)
-not-four false ts e = refl
-
-write-fits : (d : Disc) (l : List ℕ) (n : Option ℕ) (block : List ℕ) → outcome d l (write n block) ≡ 0 → fits d (unpack l) ≡ true
-unfolding outcome tests
-write-fits d l n block e =
-    not-false (fits d (unpack l)) (not-four (not (fits d (unpack l))) _ (basic-passed d (blockLent l block) (gate d l ++ writeTests d (unpack l) n block) e .rest-passed))
-
-unused-behind : (d : Disc) (v : Volume) → fits d v ≡ true → every isUnused (drop (v .size) (v .entries)) ≡ true
-unfolding fits
-unused-behind d v e =
-    let a : Bool = leb (v .size) limit in
-    let b : Bool = every isUnused (drop (v .size) (v .entries)) in
-    let c : Bool =
-    every (unusedOrBelow (v .recorded)) (mapOf v)
-    && (eqb (v .recorded) (recorded d)
-    && ((isUnused (v .last) || tableAt d (v .last))
-    && (leb (v .mode) readOnly && (not (eqb (v .mode) packetOpen) || (ltb 0 (v .recorded) && eqb (kindAt d (v .recorded - 1)) 1))))) in
-    and-left b c (and-right a (b && c) e)
 
 module _ (f : ℕ → Bool) where
   every-behind : (k : ℕ) (xs : List ℕ) → every f (drop k xs) ≡ true → every f (drop (suc k) xs) ≡ true
@@ -71,14 +49,6 @@ module _ (f : ℕ → Bool) where
   every-placed false (y ∷ ys) (suc n) x e h = ap₂ (λ (p q : Bool). p && q) (and-left (f y) (every f ys) e) (every-placed false ys n x (and-right (f y) (every f ys) e) h)
 
 -- the entries and the size, with the number or without one
-size-fits : (v : Volume) (n : Option ℕ) → Writable v n → v .size ≤ limit → sizeWith n (v .size) ≤ limit
-size-fits v none w few = few
-size-fits v (some n) w few = go (eqb n (v .size)) refl
-  where
-    go : (t : Bool) → eqb n (v .size) ≡ t → grown t (v .size) ≤ limit
-    go true e = let same : n ≡ v .size = eqb-true n (v .size) e in omega (arith, w .0, same)
-    go false e = few
-
 behind-fits : (v : Volume) (n : Option ℕ) (b : ℕ) → Writable v n → every isUnused (drop (v .size) (v .entries)) ≡ true
     → every isUnused (drop (sizeWith n (v .size)) (entriesWith n b (v .entries))) ≡ true
 behind-fits v none b w e = e
@@ -114,12 +84,12 @@ last-fits d d′ ok more x e = go (eqb x unused) e
     go true e = refl
     go false e = more .tables x (table-recorded d ok x e) ∙ e
 
-wrote-fits : (d d′ : Disc) (v : Volume) (n : Option ℕ) (b : ℕ) → Sound d → fits d v ≡ true → Fits d v → Writable v n → length (v .entries) ≡ limit
+wrote-fits : (d d′ : Disc) (v : Volume) (n : Option ℕ) (b : ℕ) → Sound d → Fits d v → Writable v n → length (v .entries) ≡ limit
     → Extends F d d′ → recorded d ≤ b → recorded d′ ≡ b + 1 → eqb (kindAt d′ b) 1 ≡ true → fits d′ (wrote n b v) ≡ true
 unfolding fits wrote
-wrote-fits d d′ v n b ok e f w long more low counted holding =
+wrote-fits d d′ v n b ok f w long more low counted holding =
     let here : b + 1 - 1 ≡ b = omega arith in
-    rw (le-leb (sizeWith n (v .size)) limit (size-fits v n w (f .few)), behind-fits v n b w (unused-behind d v e), map-fits v n b w (f .few) long (omega (arith, f .same-recorded)) (f .entries-below), eq-eqb (b + 1) (recorded d′) (sym counted), last-fits d d′ ok more (v .last) (f .last-known), lt-ltb 0 (b + 1) (omega arith), here, holding)
+    rw (le-leb (sizeWith n (v .size)) limit (size-fits v n w (f .few)), behind-fits v n b w (f .rest-unused), map-fits v n b w (f .few) long (omega (arith, f .same-recorded)) (f .entries-below), eq-eqb (b + 1) (recorded d′) (sym counted), last-fits d d′ ok more (v .last) (f .last-known), lt-ltb 0 (b + 1) (omega arith), here, holding)
 
 -- ---- a write that is done
 
@@ -180,7 +150,7 @@ module _ (d : Disc) (l : List ℕ) (good : Proper (unpack l)) (n : Option ℕ) (
         proper = subst Proper (sym same) fine;
         fit =
             ap (fits d′) same
-            ∙ wrote-fits d d′ v n (target v) ok (write-fits d l n block e) (f .fit) (f .writable) (good .long) (g .plainly .extends) (omega (arith, here)) one-more (eq-eqb (kindAt d′ (target v)) 1 (data-there d′ (target v) block there .0));
+            ∙ wrote-fits d d′ v n (target v) ok (f .fit) (f .writable) (good .long) (g .plainly .extends) (omega (arith, here)) one-more (eq-eqb (kindAt d′ (target v)) 1 (data-there d′ (target v) block there .0));
       })
 
 -- what the ledger says of the number

@@ -12,27 +12,32 @@ use Rattle.disc.specs.Disc.{Disc, lent, Sector, torn, recorded, put, puts}
 use Rattle.volume.specs.Volume.{unpack, grown}
 use Rattle.recorder.specs.Calls.{Call, begin, mount, write, read, saves}
 use Rattle.recorder.specs.Effects.{after, sectorsOf}
+use Rattle.roles.specs.Keeping.{AfterRoles, afterRoles}
 use Rattle.run.specs.Entry.{entry}
 use Rattle.run.specs.View.{filledWith, view}
 use Rattle.history.specs.Events.{Event, runs}
 use Rattle.history.specs.Closed.{TurnedAway}
 use Rattle.archive.specs.Earlier.{Seen, showing}
 
--- What the last call answered, outcome × 4,294,967,296 + second number; and the disc and the ledger as it left them.
+-- What the last call answered, outcome × 4,294,967,296 + second number; and the disc, the roles and the ledger as it left them.
 pub record Day : Type 0 where
   pub answer : ℕ
   pub disc : Disc
+  pub roles : List ℕ
   pub ledger : List ℕ
 
-abbrev pub ended : ℕ → List ℕ → List ℕ → List ℕ → Day
-ended answer image kinds ledger = record { answer = answer; disc = lent image kinds; ledger = ledger }
+abbrev pub ended : ℕ → List ℕ → List ℕ → List ℕ → List ℕ → Day
+ended answer image kinds roles ledger = record { answer = answer; disc = lent image kinds; roles = roles; ledger = ledger }
 
 -- Before the first call.
-abbrev pub morning : List ℕ → List ℕ → List ℕ → Day
-morning image kinds ledger = ended 0 image kinds ledger
+abbrev pub morning : List ℕ → List ℕ → List ℕ → List ℕ → Day
+morning image kinds roles ledger = ended 0 image kinds roles ledger
 
-abbrev pub called : Disc → List ℕ → Call → Day
-called d l c = record { answer = after d l c .answer; disc = after d l c .disc; ledger = after d l c .ledger }
+-- A read and a question for a time are not lent the roles, and leave them.
+abbrev pub called : Disc → List ℕ → List ℕ → Call → Day
+called d roles l c =
+    let a : AfterRoles = afterRoles d roles l c in
+    record { answer = a .call .answer; disc = a .call .disc; roles = a .roles; ledger = a .call .ledger }
 
 -- The next call is made if all so far were done: an answer below 4,294,967,296 has the outcome 0.
 abbrev pub goingOn : Bool → Day → Day → Day
@@ -41,7 +46,7 @@ goingOn false x next = x
 
 unfoldable pub day : Day → List Call → Day
 day x [] = x
-day x (c ∷ cs) = day (goingOn (ltb (x .answer) 4294967296) x (called (x .disc) (x .ledger) c)) cs
+day x (c ∷ cs) = day (goingOn (ltb (x .answer) 4294967296) x (called (x .disc) (x .roles) (x .ledger) c)) cs
 
 abbrev pub AllDone : Day → List Call → Type 0
 AllDone x cs = day x cs .answer < 4294967296
@@ -74,13 +79,9 @@ abbrev pub oneBack : ℕ → ℕ
 oneBack last = backIf (eqb last unused) last
 
 -- How many saves are among the calls.
-abbrev pub oneMoreIf : Bool → ℕ → ℕ
-oneMoreIf true n = n + 1
-oneMoreIf false n = n
-
 abbrev pub savesAmong : List Call → ℕ
 savesAmong [] = 0
-savesAmong (c ∷ cs) = oneMoreIf (saves c) (savesAmong cs)
+savesAmong (c ∷ cs) = grown (saves c) (savesAmong cs)
 
 -- What a cut leaves at the call's next sector, if there is one: it stays as it was, or is torn to 2048 bytes of any kind.
 abbrev pub struck : Bool → Option (List ℕ) → ℕ → Disc → Disc
@@ -152,7 +153,7 @@ storing x fresh v block n =
     let t : ℕ = day x (opening fresh ∷ write none block ∷ []) .answer in
     opening fresh ∷ write none block ∷ write (some v) (entry (extent n t ∷ []) (t + 1)) ∷ []
 
--- A day that goes on with a view, if all so far was done: it leaves disc and ledger as they were.
+-- A day that goes on with a view, if all so far was done: it leaves disc, roles and ledger as they were.
 abbrev pub viewed : Day → ℕ → ℕ → List ℕ → Day
 viewed x n offset buffer =
-    goingOn (ltb (x .answer) 4294967296) x (record { answer = view (x .disc) (x .ledger) n offset buffer .answer; disc = x .disc; ledger = x .ledger })
+    goingOn (ltb (x .answer) 4294967296) x (record { answer = view (x .disc) (x .ledger) n offset buffer .answer; disc = x .disc; roles = x .roles; ledger = x .ledger })

@@ -13,27 +13,15 @@ use mathlib.Core.Path.{_≡_, refl, sym, ap, _∙_, subst}
 use lib.Dec.{T, eqb, leb, eqb→eq, leb→le}
 use lib.ListN.{length}
 use Rattle.disc.specs.Disc.{Disc}
-use Rattle.recorder.specs.Calls.{Call, begin, mount, write, release, closePacket, commit, closeSession, read, lookBack, timeOf, bufferOf}
+use Rattle.recorder.specs.Calls.{Call, bufferOf, restores, onlyTells}
 use Rattle.recorder.specs.Refusals.{outcome}
 use Rattle.recorder.specs.Effects.{Effect, effect, After, settled, after, ifDone, secondNumber, sectorsOf}
 use Rattle.history.specs.History.{Snapshot, History, answered, feed}
-use Rattle.history.specs.Events.{World, Event, calls, cuts, ledgerHeld, onlyTells, CountsAsDone, Restores, Torn, Allowed, cutDisc, ledgerAfter, next, told, fed, AllAllowed, runs, remembers, shown, afterCall}
+use Rattle.history.specs.Events.{World, Event, calls, cuts, ledgerHeld, CountsAsDone, Torn, Allowed, cutDisc, ledgerAfter, next, told, fed, AllAllowed, runs, remembers, shown, afterCall}
 use Rattle.bench.proofs.Starred.{opened, same, full}
 use Rattle.cuts.proofs.Pages.{reads-as, reads-page, shows-page, mounts-to, looks-to, same-entry, same-page, same-pages, both, pages-same}
 
 -- ---- whether an event is allowed
-
-unfoldable pub restores : Call → Bool
-restores begin = true
-restores mount = true
-restores (write n block) = false
-restores (release n) = false
-restores closePacket = false
-restores (commit stamp) = false
-restores (closeSession main reserve start) = false
-restores (read n block) = false
-restores (lookBack k) = true
-restores (timeOf k answer) = false
 
 -- With a state at hand every call may follow; with none, what is refused or only tells, and what makes one.
 unfoldable pub follows : Option (List ℕ) → Disc → Call → List ℕ → Bool
@@ -46,7 +34,7 @@ struck none = true
 struck (some bytes) = eqb (length bytes) 2048
 
 unfoldable pub allows : World → Event → Bool
-unfolding restores follows struck
+unfolding follows struck
 allows w (calls c junk) = follows (w .ledger) (w .disc) c junk
 allows w (cuts c junk j tear) =
     follows (w .ledger) (w .disc) c junk && (leb j (length (sectorsOf (w .disc) (ledgerHeld (w .ledger) junk) c)) && struck tear)
@@ -54,24 +42,15 @@ allows w (cuts c junk j tear) =
 pub some-none : {l : List ℕ} → _≡_ {A = Option (List ℕ)} (some l) none → ⊥
 some-none e = let z : _≡_ {A = ℕ} 0 1 = cc in omega arith
 
-restoring : (c : Call) → T (restores c) → Restores c
-unfolding restores
-restoring begin t = tt
-restoring mount t = tt
-restoring (write n block) t = t
-restoring (release n) t = t
-restoring closePacket t = t
-restoring (commit stamp) t = t
-restoring (closeSession main reserve start) t = t
-restoring (read n block) t = t
-restoring (lookBack k) t = tt
-restoring (timeOf k answer) t = t
-
-following : (o : Option (List ℕ)) (d : Disc) (c : Call) (junk : List ℕ) → T (follows o d c junk) → o ≡ none → CountsAsDone d junk c → Restores c
+following : (o : Option (List ℕ)) (d : Disc) (c : Call) (junk : List ℕ) → T (follows o d c junk) → o ≡ none → CountsAsDone d junk c → restores c ≡ true
 unfolding follows
 following (some l) d c junk t lost done = absurd (some-none lost)
 following none d c junk t lost done =
-    restoring c (subst (λ (u : Bool). T (u || restores c)) (done .1) (subst (λ (n : ℕ). T (not (eqb n 0) || (onlyTells c || restores c))) (done .0) t))
+    holds (restores c) (subst (λ (u : Bool). T (u || restores c)) (done .1) (subst (λ (n : ℕ). T (not (eqb n 0) || (onlyTells c || restores c))) (done .0) t))
+  where
+    holds : (t : Bool) → T t → t ≡ true
+    holds true u = refl
+    holds false u = absurd u
 
 struck-long : (tear : Option (List ℕ)) → T (struck tear) → Torn tear
 unfolding struck

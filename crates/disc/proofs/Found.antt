@@ -1,4 +1,5 @@
--- What a search or a walk finds is a table, and on a sound disc a table lies within what is recorded. Then what one sector, and one step, tells of them.
+-- What a search or a walk finds is a table, on a sound disc a table lies within what is recorded, and none behind the one that a search finds. Then what
+-- one sector, and one step, tells of them.
 -- Assumes nothing.
 use Prim.Native.Nat.{ℕ, zero, suc, _+_, _-_, _*_, _≤_, _<_}
 use native.Mathlib.Nat.{not-suc-le-zero, le-of-suc-le-suc, add-zero, zero-add, suc-add}
@@ -10,7 +11,7 @@ use mathlib.Core.Option.{Option, none, some}
 use lib.Dec.{eqb, ltb, lit≤}
 use lib.ListN.{length, getD, take, drop, length-drop}
 use lib.Seq.{length-take-le, drop-drop}
-use borrow.Author.Tests.{eq-eqb, ne-eqb, ltb-true, ltb-false}
+use borrow.Author.Tests.{eqb-true, eqb-false, eq-eqb, ne-eqb, ltb-true, ltb-false}
 use Rattle.le.specs.Bytes.{every}
 use Rattle.le.specs.Field.{readLe, holds, words}
 use Rattle.le.proofs.Bytes.{part-take}
@@ -18,13 +19,13 @@ use Rattle.le.proofs.Runs.{words-none, words-step}
 use Rattle.timestamp.specs.Timestamp.{stampLength}
 use Rattle.tag.specs.Tag.{sealed}
 use Rattle.vat.specs.Table.{sectorLength, unused, plainRows, unusedOrBelow, entriesOf, modifiedAt, modifiedOf, framed, isTable}
-use Rattle.vat.proofs.Theorems.{recognised}
+use Rattle.vat.proofs.Theorems.{recognised, of-kind-1}
 use Rattle.disc.specs.declared.Walk.{Walk}
 use Rattle.disc.specs.declared.Walk.the-variants.{Reached, Broken, Ended}
 use Rattle.disc.specs.Disc.{Disc, recorded, kindAt, sectorAt}
-use Rattle.disc.specs.Tables.{tableAt, timeAt, found, newestBelow, stepped, walk}
+use Rattle.disc.specs.Tables.{tableAt, timeAt, found, newestBelow, newest, stepped, walk}
 use Rattle.disc.proofs.Order.{and-false}
-use Rattle.disc.proofs.Recording.{Sized, Sound, kind-recorded}
+use Rattle.disc.proofs.Recording.{Sized, Sound, blank-kind, kind-recorded}
 
 pub table-recorded : (d : Disc) → Sound d → (b : ℕ) → tableAt d b ≡ true → b < recorded d
 table-recorded d ok b e = kind-recorded d ok b (λ z. let one : kindAt d b ≡ 1 = recognised (kindAt d b) (sectorAt d b) b e .data-kind in omega arith)
@@ -46,6 +47,34 @@ newest-below table (suc n) b e = go (table n) e (newest-below table n b)
     go : (t : Bool) → found t n (newestBelow table n) ≡ some b → (newestBelow table n ≡ some b → b < n) → b < suc n
     go true e ih = let same : n ≡ b = cc in omega arith
     go false e ih = let low : b < n = ih e in omega arith
+
+-- where the tables end that a search looks for
+abbrev pub endOf : Option ℕ → ℕ
+endOf none = 0
+endOf (some b) = b + 1
+
+pub newest-ends : (table : ℕ → Bool) (n b : ℕ) → endOf (newestBelow table n) ≤ b → b < n → table b ≡ false
+unfolding newestBelow
+newest-ends table zero b high low = absurd (not-suc-le-zero low)
+newest-ends table (suc n) b high low = go (table n) refl high (newest-ends table n b) (eqb b n) refl
+  where
+    go : (t : Bool) → table n ≡ t → endOf (found t n (newestBelow table n)) ≤ b → (endOf (newestBelow table n) ≤ b → b < n → table b ≡ false) → (u : Bool) → eqb b n ≡ u
+        → table b ≡ false
+    go true h high ih u e = absurd (omega arith)
+    go false h high ih true e = ap table (eqb-true b n e) ∙ h
+    go false h high ih false e = let other : b ≡ n → ⊥ = eqb-false b n e in ih high (omega arith)
+
+-- none stands behind what is recorded, nor behind the newest
+pub none-recorded : (d : Disc) → Sound d → (b : ℕ) → recorded d ≤ b → tableAt d b ≡ false
+none-recorded d ok b h =
+    of-kind-1 (kindAt d b) (sectorAt d b) b (λ one. let none : kindAt d b ≡ 0 = blank-kind (d .kinds) (recorded d) b (ok .blank) h in omega arith)
+
+pub none-newer : (d : Disc) → Sound d → (b : ℕ) → endOf (newest d) ≤ b → tableAt d b ≡ false
+none-newer d ok b h = go (ltb b (recorded d)) refl
+  where
+    go : (t : Bool) → ltb b (recorded d) ≡ t → tableAt d b ≡ false
+    go true e = newest-ends (tableAt d) (recorded d) b h (ltb-true b (recorded d) e)
+    go false e = none-recorded d ok b (ltb-false b (recorded d) e)
 
 pub walk-table : (table : ℕ → Bool) (previous : ℕ → ℕ) (k b t : ℕ) → walk table previous k b ≡ Reached t → table b ≡ true → table t ≡ true
 unfolding walk

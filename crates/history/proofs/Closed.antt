@@ -22,7 +22,7 @@ use Rattle.disc.specs.Session.{zeroSectors, zeroSector, closing, closingLength,
 use Rattle.disc.proofs.Recording.{Sound, Recorded, put-recorded, puts-append}
 use Rattle.volume.specs.Volume.{ledgerLength, readOnly, unpack, fits}
 use Rattle.volume.proofs.State.{Proper}
-use Rattle.recorder.specs.Calls.{Call, begin, mount, write, release, closePacket, commit, closeSession, read, lookBack, timeOf, bufferOf}
+use Rattle.recorder.specs.Calls.{Call, begin, mount, write, release, closePacket, commit, closeSession, read, lookBack, timeOf, bufferOf, mayRecord}
 use Rattle.recorder.specs.Refusals.{Test, test, first, basic, gate, links, target, ledgerLent, blockLent, stampLent, writeTests, commitTests, closingTests, notInUse, tests, outcome}
 use Rattle.recorder.specs.Effects.{settled, sectorsIf, effect, after, sectorsOf}
 use Rattle.recorder.proofs.Done.{ClosingDone, closing-done}
@@ -30,7 +30,7 @@ use Rattle.recorder.proofs.Sectors.{AllWhole, links-whole, closing-whole, lengt
 use Rattle.history.specs.History.{Snapshot, History, Fed, feed}
 use Rattle.history.specs.Events.{World, Event, calls, cuts, ledgerHeld, cutDisc, AllAllowed, next, fed, runs, remembers, afterCall, begunHistory, mountedHistory}
 use Rattle.history.specs.Claim.{DoneShowing, Mounts, Claim}
-use Rattle.history.specs.Closed.{ClosedShowing, Closes, mayRecord, TurnedAway, ClosedDiscs}
+use Rattle.history.specs.Closed.{ClosedShowing, Closes, TurnedAway, ClosedDiscs}
 use Rattle.history.proofs.Log.{none-some, Extends}
 use Rattle.history.proofs.Growth.{F, data-there, data-within, plain-content, NoTables, Grown, puts-plain, links-no-tables, closing-no-tables, behind-counted, behind-extends}
 use Rattle.history.proofs.Saving.{Saving, closing-saving, tableSector, beforeTable, length-before, before-whole, before-no-tables, room, sector-long, savedDisc, save}

@@ -10,7 +10,7 @@ use mathlib.Core.Path.{_≡_, refl, ap, _∙_, subst}
 use mathlib.Core.Bool.{Bool, true, false, _||_}
 use mathlib.Core.List.{List, [], _++_}
 use mathlib.Core.Logic.{inl, inr}
-use mathlib.Core.Option.{none, some}
+use mathlib.Core.Option.{Option, none, some}
 use lib.Dec.{eqb}
 use lib.ListN.{length, replicate, length-append, length-replicate}
 use borrow.Author.Tests.{eqb-true}
@@ -26,10 +26,10 @@ use Rattle.disc.proofs.Found.{table-recorded}
 use Rattle.volume.specs.declared.Volume.{Volume}
 use Rattle.volume.specs.Volume.{unpack, mapOf}
 use Rattle.volume.proofs.State.{Proper, length-map}
-use Rattle.recorder.specs.Calls.{Call, begin, mount, write, release, closePacket, commit, closeSession, read, lookBack, timeOf, bufferOf, saves}
+use Rattle.recorder.specs.Calls.{Call, begin, mount, write, release, closePacket, commit, closeSession, read, lookBack, timeOf, stampBuffer, bufferOf, saves}
 use Rattle.recorder.specs.Refusals.{links, target, outcome}
-use Rattle.recorder.specs.Effects.{saved, effect}
-use Rattle.recorder.proofs.Done.{Fits, SaveDone, commit-done, ClosingDone, closing-done}
+use Rattle.recorder.specs.Effects.{stampOf, saved, effect}
+use Rattle.recorder.proofs.Done.{Fits, SaveDone, CommitDone, commit-done, ClosingDone, closing-done}
 use Rattle.recorder.proofs.Sectors.{AllWhole, links-whole, whole-append, behind}
 use Rattle.history.specs.History.{History, Told, done}
 use Rattle.history.specs.Events.{told}
@@ -74,6 +74,13 @@ pub record Saving (d : Disc) (l : List ℕ) (c : Call) : Type 0 where
   pub no-tables : (b : ℕ) → NoTables b between
   pub leaves : effect d l c ≡ saved (unpack l) between (savedStamp c) (bufferOf c)
 
+pub commit-leaves : (d : Disc) (l : List ℕ) (stamp : Option (List ℕ)) → effect d l (commit stamp) ≡ saved (unpack l) [] (stampOf stamp) (stampBuffer stamp)
+unfolding effect
+commit-leaves d l stamp = refl
+
+abbrev pub commit-saving : (d : Disc) (l : List ℕ) (stamp : Option (List ℕ)) → CommitDone d l stamp → Saving d l (commit stamp)
+commit-saving d l stamp f = record { between = []; done = f .saving; no-tables = λ b. tt; leaves = commit-leaves d l stamp }
+
 pub closing-leaves : (d : Disc) (l : List ℕ) (main reserve : Extent) (start : ℕ)
     → effect d l (closeSession main reserve start) ≡ saved (unpack l) (closing main reserve start (target (unpack l))) noStamp []
 unfolding effect
@@ -89,13 +96,12 @@ closing-saving d l main reserve start f =
     }
 
 pub saving-done : (d : Disc) (l : List ℕ) (c : Call) → saves c ≡ true → outcome d l c ≡ 0 → Saving d l c
-unfolding effect
 saving-done d l begin s e = absurd (mathlib.Core.Bool.false≢true s)
 saving-done d l mount s e = absurd (mathlib.Core.Bool.false≢true s)
 saving-done d l (write n block) s e = absurd (mathlib.Core.Bool.false≢true s)
 saving-done d l (release n) s e = absurd (mathlib.Core.Bool.false≢true s)
 saving-done d l closePacket s e = absurd (mathlib.Core.Bool.false≢true s)
-saving-done d l (commit stamp) s e = record { between = []; done = commit-done d l stamp e .saving; no-tables = λ b. tt; leaves = refl }
+saving-done d l (commit stamp) s e = commit-saving d l stamp (commit-done d l stamp e)
 saving-done d l (closeSession main reserve start) s e = closing-saving d l main reserve start (closing-done d l main reserve start e)
 saving-done d l (read n block) s e = absurd (mathlib.Core.Bool.false≢true s)
 saving-done d l (lookBack k) s e = absurd (mathlib.Core.Bool.false≢true s)
@@ -147,7 +153,7 @@ module _ (d : Disc) (l : List ℕ) (sound : Sound d) (good : Proper (unpack l)) 
     leaves-behind = ap (λ e. e .sectors) (s .leaves)
 
     -- it is a table of the working map there
-    read-back : ReadsBack (mapOf (unpack l)) (unpack l .last) (savedStamp c) (target (unpack l) + length (s .between))
+    pub read-back : ReadsBack (mapOf (unpack l)) (unpack l .last) (savedStamp c) (target (unpack l) + length (s .between))
     read-back =
         let v : Volume = unpack l in
         let b : ℕ = target v + length (s .between) in

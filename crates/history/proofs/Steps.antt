@@ -15,19 +15,19 @@ use Rattle.le.proofs.Runs.{Words}
 use Rattle.vat.specs.Table.{limit, unused, isTable}
 use Rattle.vat.proofs.Theorems.{Named, Tells, tells}
 use Rattle.disc.specs.Disc.{Disc, recorded, kindAt, sectorAt, content, Sector, link, puts}
-use Rattle.disc.specs.declared.Walk.the-variants.{Reached}
-use Rattle.disc.specs.Tables.{tableAt, mapAt, previousAt, newest, blockFound}
+use Rattle.disc.specs.Tables.{tableAt, mapAt, newest, blockFound}
 use Rattle.disc.proofs.Recording.{Sound, leading-le}
-use Rattle.disc.proofs.Found.{table-recorded, newest-table, walk-table}
+use Rattle.disc.proofs.Found.{table-recorded, newest-table}
 use Rattle.volume.specs.declared.Volume.{Volume}
 use Rattle.volume.specs.Volume.{idle, readOnly, unpack, pack, mapOf, begun, filled, wrote, released, closed, committed}
 use Rattle.volume.proofs.State.{Proper, unpack-pack, proper-begun, proper-filled, proper-wrote, proper-released, proper-closed, proper-committed, grownMap, map-filled, map-wrote, map-released, length-map}
-use Rattle.recorder.specs.Calls.{Call, begin, mount, write, release, closePacket, commit, closeSession, read, lookBack, timeOf, saves}
-use Rattle.recorder.specs.Refusals.{links, target, walkFrom, walked, outcome}
+use Rattle.recorder.specs.Calls.{Call, begin, mount, write, release, closePacket, commit, closeSession, read, lookBack, timeOf, restores, saves, onlyTells}
+use Rattle.recorder.specs.Refusals.{links, target, walked, outcome}
 use Rattle.recorder.specs.Effects.{Effect, blockReached, effect, settled, after, secondNumber, sectorsIf, sectorsOf}
 use Rattle.recorder.proofs.Done.{Writable, WriteDone, begin-done, mount-done, write-done, release-done, close-done, look-back-done}
+use Rattle.recorder.proofs.Answers.{walked-table}
 use Rattle.history.specs.History.{History, Told, Fed, answered, cut, cutCommit, feed}
-use Rattle.history.specs.Events.{World, Event, calls, cuts, ledgerHeld, onlyTells, CountsAsDone, Restores, Follows, Torn, Allowed, cutDisc, ledgerAfter, next, told, kept, cutShort, fed}
+use Rattle.history.specs.Events.{World, Event, calls, cuts, ledgerHeld, CountsAsDone, Follows, Torn, Allowed, cutDisc, ledgerAfter, next, told, kept, cutShort, fed}
 use Rattle.history.proofs.Log.{AllBelow, writtenMap, View, State, Step, plain-same, at, working}
 use Rattle.recorder.proofs.Sectors.{links-whole, whole-take, behind, length-behind, behind-whole}
 use Rattle.history.proofs.Growth.{F, names-below, NoTables, Grown, puts-plain, links-no-tables, no-tables-take, behind-no-tables, behind-content, behind-counted, Left, cut-left, cut-before-left, cut-all, cut-none}
@@ -156,15 +156,6 @@ mount-step w l g e =
           subst (λ (u : View). Step F (stateOf w) (answered Told.mount 0 (effect d l mount .second)) (at F d (some u))) (sym view)
           (Step.mounted (effect d l mount .second) b (facts .1 .1));
     })
-
--- what look back reaches is a table
-pub walked-table : (d : Disc) (k t : ℕ) → walked d k ≡ Reached t → tableAt d t ≡ true
-unfolding walked
-walked-table d k t e = go (newest d) refl e
-  where
-    go : (o : Option ℕ) → newest d ≡ o → walkFrom d k o ≡ Reached t → tableAt d t ≡ true
-    go none n e = absurd (let z : _≡_ {A = ℕ} 0 1 = cc in omega arith)
-    go (some b) n e = walk-table (tableAt d) (previousAt d) k b t e (newest-table (tableAt d) (recorded d) b n)
 
 looking-view : (map : List ℕ) (b r : ℕ) → viewIs (filled map b r readOnly) .looking ≡ true
 unfolding filled
@@ -316,12 +307,12 @@ done-step d o begin junk t g f e = begin-step (record { disc = d; ledger = o }) 
 done-step d o mount junk t g f e = mount-step (record { disc = d; ledger = o }) (ledgerHeld o junk) g e
 done-step d o (lookBack k) junk t g f e = look-back-step (record { disc = d; ledger = o }) (ledgerHeld o junk) k g e
 done-step d o (timeOf k answer) junk t g f e = absurd (mathlib.Core.Bool.true≢false t)
-done-step d none (write n block) junk t g f e = absurd (f refl (e, refl))
-done-step d none (release n) junk t g f e = absurd (f refl (e, refl))
-done-step d none closePacket junk t g f e = absurd (f refl (e, refl))
-done-step d none (commit stamp) junk t g f e = absurd (f refl (e, refl))
-done-step d none (closeSession main reserve start) junk t g f e = absurd (f refl (e, refl))
-done-step d none (read n block) junk t g f e = absurd (f refl (e, refl))
+done-step d none (write n block) junk t g f e = absurd (mathlib.Core.Bool.false≢true (f refl (e, refl)))
+done-step d none (release n) junk t g f e = absurd (mathlib.Core.Bool.false≢true (f refl (e, refl)))
+done-step d none closePacket junk t g f e = absurd (mathlib.Core.Bool.false≢true (f refl (e, refl)))
+done-step d none (commit stamp) junk t g f e = absurd (mathlib.Core.Bool.false≢true (f refl (e, refl)))
+done-step d none (closeSession main reserve start) junk t g f e = absurd (mathlib.Core.Bool.false≢true (f refl (e, refl)))
+done-step d none (read n block) junk t g f e = absurd (mathlib.Core.Bool.false≢true (f refl (e, refl)))
 done-step d (some l) (write n block) junk t g f e = write-step d l (g .sound-disc) (g .ledger-good) n block e
 done-step d (some l) (release n) junk t g f e = release-step d l (g .sound-disc) (g .ledger-good) n e
 done-step d (some l) closePacket junk t g f e = close-step d l (g .sound-disc) (g .ledger-good) e
@@ -409,7 +400,7 @@ cut-write-left : (d : Disc) (o : Option (List ℕ)) (n : Option ℕ) (block junk
     → (m : ℕ) → outcome d (ledgerHeld o junk) (write n block) ≡ m → Left d (cutDisc d (sectorsOf d (ledgerHeld o junk) (write n block)) j tear)
 cut-write-left d o n block junk j tear g f h t (suc m) e =
     nothing-left d (g .sound-disc) (sectorsOf d (ledgerHeld o junk) (write n block)) j tear (refused-records-none d (ledgerHeld o junk) (write n block) m e) h
-cut-write-left d none n block junk j tear g f h t zero e = absurd (f refl (e, refl))
+cut-write-left d none n block junk j tear g f h t zero e = absurd (mathlib.Core.Bool.false≢true (f refl (e, refl)))
 cut-write-left d (some l) n block junk j tear g f h t zero e =
     let w : WriteDone d l n block = write-done d l n block e in
     let m : ℕ = links (unpack l) in
@@ -422,15 +413,15 @@ cut-write-left d (some l) n block junk j tear g f h t zero e =
     (no-tables-take j ss (recorded d) (written-no-tables d l n block w)) t)
 
 -- a save does not bring a lost ledger back
-pub no-save-follows : (d : Disc) (l : List ℕ) (c : Call) → saves c ≡ true → (CountsAsDone d l c → Restores c) → outcome d l c ≡ 0 → ⊥
+pub no-save-follows : (d : Disc) (l : List ℕ) (c : Call) → saves c ≡ true → (CountsAsDone d l c → restores c ≡ true) → outcome d l c ≡ 0 → ⊥
 no-save-follows d l begin s f e = mathlib.Core.Bool.false≢true s
 no-save-follows d l mount s f e = mathlib.Core.Bool.false≢true s
-no-save-follows d l (write n block) s f e = f (e, refl)
-no-save-follows d l (release n) s f e = f (e, refl)
-no-save-follows d l closePacket s f e = f (e, refl)
-no-save-follows d l (commit stamp) s f e = f (e, refl)
-no-save-follows d l (closeSession main reserve start) s f e = f (e, refl)
-no-save-follows d l (read n block) s f e = f (e, refl)
+no-save-follows d l (write n block) s f e = mathlib.Core.Bool.false≢true (f (e, refl))
+no-save-follows d l (release n) s f e = mathlib.Core.Bool.false≢true (f (e, refl))
+no-save-follows d l closePacket s f e = mathlib.Core.Bool.false≢true (f (e, refl))
+no-save-follows d l (commit stamp) s f e = mathlib.Core.Bool.false≢true (f (e, refl))
+no-save-follows d l (closeSession main reserve start) s f e = mathlib.Core.Bool.false≢true (f (e, refl))
+no-save-follows d l (read n block) s f e = mathlib.Core.Bool.false≢true (f (e, refl))
 no-save-follows d l (lookBack k) s f e = mathlib.Core.Bool.false≢true s
 no-save-follows d l (timeOf k answer) s f e = mathlib.Core.Bool.false≢true s
 

@@ -26,18 +26,19 @@ use Rattle.le.proofs.Runs.{AllBytes}
 use Rattle.volume.specs.declared.Volume.{Volume}
 use Rattle.volume.specs.Volume.{ledgerLength, idle, readOnly, unpack, pack, mapOf, filled}
 use Rattle.volume.proofs.State.{Proper, unpack-pack, proper-unpack, map-filled, length-map}
-use Rattle.recorder.specs.Calls.{Call, begin, mount, lookBack, saves}
+use Rattle.recorder.specs.Calls.{Call, begin, mount, lookBack, saves, onlyTells}
 use Rattle.recorder.specs.Refusals.{test, ledgerLent, isSome, walkFrom, walked, isBroken, isEnded, walkTests, tests, outcome, target}
 use Rattle.recorder.specs.Effects.{effect, blockReached, cleanNumber, after}
 use Rattle.recorder.proofs.Done.{skip, stop, none-left, skip-basic, skip-walk, begin-done, mount-done, SaveDone}
+use Rattle.recorder.proofs.Answers.{walked-table}
 use Rattle.history.specs.History.{Snapshot, History, Told, saved, done, feed}
-use Rattle.history.specs.Events.{World, Event, calls, onlyTells, AllAllowed, next, told, fed, runs, remembers, shown, pageOf, afterCall, begunHistory, mountedHistory}
+use Rattle.history.specs.Events.{World, Event, calls, ledgerHeld, AllAllowed, next, told, fed, runs, remembers, shown, pageOf, afterCall, begunHistory, mountedHistory}
 use Rattle.history.specs.Times.{savedStamp}
 use Rattle.history.specs.Claim.{Shows, DoneShowing, Mounts, Claim, PowerCuts}
 use Rattle.history.proofs.Log.{Extends, extends-same, extends-on, HeldIf, Inv, Pages, Saved, pageFrom, newest-saved, kept, head-link, working}
 use Rattle.history.proofs.Back.{step-extends, way-walk, Behind, page-behind, Since, since-kept}
 use Rattle.history.proofs.Growth.{F, names-below}
-use Rattle.history.proofs.Steps.{Good, GoodStep, stateOf, event-step, walked-table, proper-table}
+use Rattle.history.proofs.Steps.{Good, GoodStep, stateOf, event-step, proper-table}
 use Rattle.history.proofs.Saving.{told-save, Saving, saving-done, beforeTable, at-table, leaves-behind, savedDisc, save, save-sound}
 use Rattle.history.proofs.Shown.{shows-table}
 
@@ -161,23 +162,25 @@ claimed w h r =
 
 -- ---- the start
 
-abbrev lostWorld : Disc → World
+abbrev pub lostWorld : Disc → World
 lostWorld d = record { disc = d; ledger = none }
 
-started : (d : Disc) (l : List ℕ) (c : Call) → onlyTells c ≡ false → outcome d l c ≡ 0 → next (lostWorld d) (calls c l) ≡ afterCall d l c
+-- a call that is done leaves a ledger, lost or not before
+pub started : (w : World) (l : List ℕ) (c : Call) → onlyTells c ≡ false → outcome (w .disc) (ledgerHeld (w .ledger) l) c ≡ 0
+    → next w (calls c l) ≡ afterCall (w .disc) (ledgerHeld (w .ledger) l) c
 unfolding next
-started d l c t e = rw (t, e)
+started w l c t e = rw (t, e)
 
 pub begun-kept : (d : Disc) (l : List ℕ) → outcome d l begin ≡ 0 → Kept (afterCall d l begin) begunHistory
 unfolding feed fed
 begun-kept d l e =
     let facts = begin-done d l e in
     let g : Good (lostWorld d) = record { sound-disc = facts .0; ledger-good = tt } in
-    let s : GoodStep (lostWorld d) (fed (lostWorld d) (calls begin l)) (next (lostWorld d) (calls begin l)) = event-step (lostWorld d) (calls begin l) g (λ z y. tt) in
+    let s : GoodStep (lostWorld d) (fed (lostWorld d) (calls begin l)) (next (lostWorld d) (calls begin l)) = event-step (lostWorld d) (calls begin l) g (λ z y. refl) in
     let h : History = record { pages = []; draft = none } in
     let i : Inv F (stateOf (lostWorld d)) h = record { pages = facts .1; draft = refl } in
     let fed-begin : feed h (fed (lostWorld d) (calls begin l)) ≡ begunHistory = rw e in
-    subst₂ (λ (w : World) (k : History). Kept w k) (started d l begin refl e) fed-begin (record { good = s .good; inv = kept F names-below h (s .step) i })
+    subst₂ (λ (w : World) (k : History). Kept w k) (started (lostWorld d) l begin refl e) fed-begin (record { good = s .good; inv = kept F names-below h (s .step) i })
 
 pub mounted-kept : (d : Disc) (l : List ℕ) → outcome d l mount ≡ 0 → Kept (afterCall d l mount) (mountedHistory d)
 unfolding feed fed shown
@@ -187,14 +190,14 @@ mounted-kept d l e =
     let n : newest d ≡ some b = facts .1 .1 in
     let table : tableAt d b ≡ true = newest-table (tableAt d) (recorded d) b n in
     let g : Good (lostWorld d) = record { sound-disc = facts .0; ledger-good = tt } in
-    let s : GoodStep (lostWorld d) (fed (lostWorld d) (calls mount l)) (next (lostWorld d) (calls mount l)) = event-step (lostWorld d) (calls mount l) g (λ z y. tt) in
+    let s : GoodStep (lostWorld d) (fed (lostWorld d) (calls mount l)) (next (lostWorld d) (calls mount l)) = event-step (lostWorld d) (calls mount l) g (λ z y. refl) in
     let p : Snapshot = pageOf d (mapAt d (blockFound (newest d))) in
     let same : p ≡ pageFrom F d (mapAt d b) = ap (λ (o : Option ℕ). pageFrom F d (mapAt d (blockFound o))) n in
     let h : History = record { pages = p ∷ []; draft = none } in
     let i : Inv F (stateOf (lostWorld d)) h =
     record { pages = (b, n, record { is-table = table; inside = table-recorded d (facts .0) b table; page = same }); draft = refl } in
     let fed-mount : feed h (fed (lostWorld d) (calls mount l)) ≡ mountedHistory d = rw e in
-    subst₂ (λ (w : World) (k : History). Kept w k) (started d l mount refl e) fed-mount (record { good = s .good; inv = kept F names-below h (s .step) i })
+    subst₂ (λ (w : World) (k : History). Kept w k) (started (lostWorld d) l mount refl e) fed-mount (record { good = s .good; inv = kept F names-below h (s .step) i })
 
 pub power-cuts : PowerCuts
 power-cuts =

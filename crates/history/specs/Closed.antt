@@ -1,6 +1,6 @@
 -- Closed discs (document 02, R-5): a closing that is done leaves one, and on a closed disc nothing is recorded any more.
 use Prim.Native.Nat.{ℕ, _≤_, _<_}
-use mathlib.Core.Bool.{Bool, true, false}
+use mathlib.Core.Bool.{true}
 use mathlib.Core.List.{List}
 use mathlib.Core.Logic.{_⊎_}
 use mathlib.Core.Option.{some}
@@ -10,7 +10,7 @@ use Rattle.anchor.specs.declared.Extent.{Extent}
 use Rattle.disc.specs.Disc.{Disc}
 use Rattle.disc.specs.Session.{sessionClosed}
 use Rattle.volume.specs.Volume.{ledgerLength}
-use Rattle.recorder.specs.Calls.{Call, begin, mount, write, release, closePacket, commit, closeSession, read, lookBack, timeOf}
+use Rattle.recorder.specs.Calls.{Call, begin, mount, closeSession, mayRecord}
 use Rattle.recorder.specs.Refusals.{outcome}
 use Rattle.recorder.specs.Effects.{after}
 use Rattle.history.specs.History.{Snapshot, History}
@@ -28,19 +28,6 @@ abbrev pub Closes : World → History → Type 0
 Closes w h =
     (l : List ℕ) → w .ledger ≡ some l → (main reserve : Extent) (start : ℕ) → outcome (w .disc) l (closeSession main reserve start) ≡ 0
     → (p : Snapshot) × (h .draft ≡ some p) × ClosedShowing (after (w .disc) l (closeSession main reserve start) .disc) p
-
--- The calls that 17 turns away: "write, release, commit, close packet or closing".
-abbrev pub mayRecord : Call → Bool
-mayRecord begin = false
-mayRecord mount = false
-mayRecord (write n block) = true
-mayRecord (release n) = true
-mayRecord closePacket = true
-mayRecord (commit stamp) = true
-mayRecord (closeSession main reserve start) = true
-mayRecord (read n block) = false
-mayRecord (lookBack k) = false
-mayRecord (timeOf k answer) = false
 
 -- 17, unless one of 1 to 5 comes first.
 abbrev pub TurnedAway : ℕ → Type 0

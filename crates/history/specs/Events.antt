@@ -9,7 +9,7 @@ use lib.ListN.{length, take}
 use Rattle.vat.specs.Table.{sectorLength, unused}
 use Rattle.disc.specs.Disc.{Disc, Sector, torn, recorded, content, put, puts}
 use Rattle.disc.specs.Tables.{mapAt, newest, blockFound}
-use Rattle.recorder.specs.Calls.{Call, begin, mount, write, release, closePacket, commit, closeSession, read, lookBack, timeOf, saves}
+use Rattle.recorder.specs.Calls.{Call, begin, mount, write, release, closePacket, commit, closeSession, read, lookBack, timeOf, restores, saves, onlyTells}
 use Rattle.recorder.specs.Refusals.{outcome}
 use Rattle.recorder.specs.Effects.{after, secondNumber, sectorsOf}
 use Rattle.history.specs.History.{Entry, unusedEntry, shows, Snapshot, History, Told, Fed, answered, cut, cutCommit, feed}
@@ -30,37 +30,13 @@ abbrev pub ledgerHeld : Option (List ℕ) → List ℕ → List ℕ
 ledgerHeld none junk = junk
 ledgerHeld (some l) junk = l
 
--- "In the cut rule this and any later call that only tells counts as a refused one" (document 02, R-3): which calls only tell.
-abbrev pub onlyTells : Call → Bool
-onlyTells begin = false
-onlyTells mount = false
-onlyTells (write n block) = false
-onlyTells (release n) = false
-onlyTells closePacket = false
-onlyTells (commit stamp) = false
-onlyTells (closeSession main reserve start) = false
-onlyTells (read n block) = false
-onlyTells (lookBack k) = false
-onlyTells (timeOf k answer) = true
-
+-- "In the cut rule this and any later call that only tells counts as a refused one" (document 02, R-3).
 abbrev pub CountsAsDone : Disc → List ℕ → Call → Type 0
 CountsAsDone d l c = (outcome d l c ≡ 0) × (onlyTells c ≡ false)
 
 -- "until a begin, mount or look back is done, only these three and refused calls follow."
-abbrev pub Restores : Call → Type 0
-Restores begin = Unit
-Restores mount = Unit
-Restores (write n block) = ⊥
-Restores (release n) = ⊥
-Restores closePacket = ⊥
-Restores (commit stamp) = ⊥
-Restores (closeSession main reserve start) = ⊥
-Restores (read n block) = ⊥
-Restores (lookBack k) = Unit
-Restores (timeOf k answer) = ⊥
-
 abbrev pub Follows : World → Call → List ℕ → Type 0
-Follows w c junk = (w .ledger ≡ none) → (CountsAsDone (w .disc) junk c → Restores c)
+Follows w c junk = (w .ledger ≡ none) → (CountsAsDone (w .disc) junk c → restores c ≡ true)
 
 -- "A cut keeps the first j of them, for any j from 0 to all; the call's next sector, if there is one, stays blank or has kind 3 with arbitrary bytes."
 abbrev pub Torn : Option (List ℕ) → Type 0

@@ -26,7 +26,7 @@ use Rattle.disc.specs.Session.{closing, closingLength, sessionClosed}
 use Rattle.disc.proofs.Recording.{sized-tells, Sound, sound, sound-sized, sound-order}
 use Rattle.disc.proofs.Found.{sector-end, table-within}
 use Rattle.volume.specs.declared.Volume.{Volume}
-use Rattle.volume.specs.Volume.{ledgerLength, idle, packetOpen, readOnly, mapOf, unpack, isUnused, fits}
+use Rattle.volume.specs.Volume.{ledgerLength, idle, packetOpen, readOnly, mapOf, unpack, isUnused, fits, grown, sizeWith}
 use Rattle.recorder.specs.Calls.{Call, begin, mount, write, release, closePacket, commit, closeSession, read, lookBack, timeOf}
 use Rattle.recorder.specs.Refusals.{Test, test, orElse, first, linkCount, linksIf, links, target, reserve, basic, ledgerLent, blockLent, stampLong, stampLent, answerLent, unfit, gate, forbiddenAt, numberTests, writeTests, stampWrong, commitTests, closingTests, blockOf, notInUse, numberedTests, isSome, walked, isBroken, isEnded, walkTests, timeBack, timeWrong, tests, outcome}
 use Rattle.recorder.specs.Effects.{stampOf}
@@ -71,6 +71,20 @@ stopped (t ∷ ts) ys h = go (t .applies) (t .number) h (stopped ts ys)
 abbrev pub coded : List Test → Bool
 coded [] = true
 coded (t ∷ ts) = ltb 0 (t .number) && coded ts
+
+-- tests that are passed: none of them applies
+abbrev pub NoneApplies : List Test → Type 0
+NoneApplies [] = Unit
+NoneApplies (t ∷ ts) = (t .applies ≡ false) × NoneApplies ts
+
+pub none-applies : (ts : List Test) → coded ts ≡ true → first ts ≡ 0 → NoneApplies ts
+unfolding first
+none-applies [] k e = tt
+none-applies (t ∷ ts) k e = go (t .applies) (t .number) (and-left (ltb 0 (t .number)) (coded ts) k) e (none-applies ts (and-right (ltb 0 (t .number)) (coded ts) k))
+  where
+    go : (a : Bool) (n : ℕ) → ltb 0 n ≡ true → orElse a n (first ts) ≡ 0 → (first ts ≡ 0 → NoneApplies ts) → (a ≡ false) × NoneApplies ts
+    go true n k e ih = absurd (let above : 0 < n = ltb-true 0 n k in omega (arith, e))
+    go false n k e ih = (refl, ih e)
 
 -- tests that are passed leave those that follow
 pub resumed : (xs ys : List Test) → coded xs ≡ true → first xs ≡ 0 → first (xs ++ ys) ≡ first ys
@@ -129,6 +143,7 @@ skip-basic d lengths rest s h =
 
 pub record Fits (d : Disc) (v : Volume) : Type 0 where
   pub few : v .size ≤ limit
+  pub rest-unused : every isUnused (drop (v .size) (v .entries)) ≡ true
   pub entries-below : every (unusedOrBelow (v .recorded)) (mapOf v) ≡ true
   pub same-recorded : v .recorded ≡ recorded d
   pub last-known : (eqb (v .last) unused || tableAt d (v .last)) ≡ true
@@ -149,6 +164,7 @@ fitting d v e =
     let e₄ : (g && (h && i)) ≡ true = and-right f (g && (h && i)) e₃ in
     record {
       few = leb-true (v .size) limit (and-left a (b && (c && (f && (g && (h && i))))) e);
+      rest-unused = and-left b (c && (f && (g && (h && i)))) e₁;
       entries-below = and-left c (f && (g && (h && i))) e₂;
       same-recorded = eqb-true (v .recorded) (recorded d) (and-left f (g && (h && i)) e₃);
       last-known = and-left g (h && i) e₄;
@@ -303,6 +319,14 @@ mount-done d l e =
 abbrev pub Writable : Volume → Option ℕ → Type 0
 Writable v none = Unit
 Writable v (some n) = (n < limit) × (n ≤ v .size)
+
+pub size-fits : (v : Volume) (n : Option ℕ) → Writable v n → v .size ≤ limit → sizeWith n (v .size) ≤ limit
+size-fits v none w few = few
+size-fits v (some n) w few = go (eqb n (v .size)) refl
+  where
+    go : (t : Bool) → eqb n (v .size) ≡ t → grown t (v .size) ≤ limit
+    go true e = let same : n ≡ v .size = eqb-true n (v .size) e in omega (arith, w .0, same)
+    go false e = few
 
 pub record WriteDone (d : Disc) (l : List ℕ) (n : Option ℕ) (block : List ℕ) : Type 0 where
   pub sound-disc : Sound d

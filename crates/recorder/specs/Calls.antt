@@ -34,15 +34,36 @@ bufferOf (read v block) = block
 bufferOf (lookBack k) = []
 bufferOf (timeOf k answer) = answer
 
--- The calls that save: "In the cut rule a closing counts as a commit."
+-- What the rules about lists of calls ask of a call.
+pub record Manner : Type 0 where
+  pub restores : Bool  -- "until a begin, mount or look back is done"
+  pub mayRecord : Bool  -- what 17 turns away: "write, release, commit, close packet or closing"
+  pub saves : Bool  -- "In the cut rule a closing counts as a commit."
+  pub onlyTells : Bool  -- "this and any later call that only tells counts as a refused one"
+
+abbrev pub manner : Bool → Bool → Bool → Bool → Manner
+manner restores mayRecord saves onlyTells = record { restores = restores; mayRecord = mayRecord; saves = saves; onlyTells = onlyTells }
+
+abbrev pub mannerOf : Call → Manner
+mannerOf begin = manner true false false false
+mannerOf mount = manner true false false false
+mannerOf (write n block) = manner false true false false
+mannerOf (release v) = manner false true false false
+mannerOf closePacket = manner false true false false
+mannerOf (commit stamp) = manner false true true false
+mannerOf (closeSession main reserve start) = manner false true true false
+mannerOf (read v block) = manner false false false false
+mannerOf (lookBack k) = manner true false false false
+mannerOf (timeOf k answer) = manner false false false true
+
+abbrev pub restores : Call → Bool
+restores c = mannerOf c .restores
+
+abbrev pub mayRecord : Call → Bool
+mayRecord c = mannerOf c .mayRecord
+
 abbrev pub saves : Call → Bool
-saves begin = false
-saves mount = false
-saves (write n block) = false
-saves (release v) = false
-saves closePacket = false
-saves (commit stamp) = true
-saves (closeSession main reserve start) = true
-saves (read v block) = false
-saves (lookBack k) = false
-saves (timeOf k answer) = false
+saves c = mannerOf c .saves
+
+abbrev pub onlyTells : Call → Bool
+onlyTells c = mannerOf c .onlyTells

@@ -1,5 +1,5 @@
 -- The entry of a run, for all kinds, sectors, blocks and lists of extents:
---     recognised     what an entry tells: 1 to 100 extents, laid on data below its block, and the run's length, which is their total
+--     recognised     what an entry tells: at most 100 extents, laid on data below its block, and the run's length, which is their total
 --     laid-tells     of laid extents each is not empty, shorter than 1 GiB, and lies wholly on data below the block; whole sectors but the last
 --     bytes-below    so its bytes end where the entry's sector begins, or before
 --     reads-back     the entry recorded for laid extents at block b is an entry at b, of exactly these
@@ -23,7 +23,7 @@ use Rattle.tag.specs.Tag.{sealed}
 use Rattle.tag.proofs.Sums.{sealRows, seal-lays, sealed-seal}
 use Rattle.vat.specs.Table.{sectorLength, unused, entryRows, lengthRows, allocationType}
 use Rattle.vat.specs.Sector.{ownRows, stationAt, stationName}
-use Rattle.vat.proofs.Frame.{lengths, located}
+use Rattle.vat.proofs.Frame.{lengths}
 use Rattle.anchor.specs.declared.Extent.{Extent}
 use Rattle.anchor.specs.Anchor.{extent}
 use Rattle.run.specs.Entry.{mostExtents, descriptorsAt, descriptorsLength, extentCount, extentsFrom, extentsOf, totalLength, sectorsFor, lies, wholeBefore, laid, fileType, isEntry, descriptors, totalSectors, fileRows, entry}
@@ -77,12 +77,9 @@ bytes-below kinds b e l = omega arith
 
 pub record Recognised (kinds s : List ℕ) (b : ℕ) : Type 0 where
   pub whole : length s ≡ sectorLength
-  pub at-block : readLe 4 s 12 ≡ b
-  pub some : 1 ≤ extentCount s
   pub few : extentCount s ≤ mostExtents
   pub information : readLe 8 s 56 ≡ totalLength (extentsOf s)
   pub extents-laid : laid kinds b (extentsOf s) ≡ true
-  pub sums : sealed s ≡ true
 
 pub recognised : (kinds s : List ℕ) (b : ℕ) → isEntry kinds s b ≡ true → Recognised kinds s b
 unfolding isEntry
@@ -105,12 +102,9 @@ recognised kinds s b e =
     let e₆ : (y && sealed s) ≡ true = and-right x (y && sealed s) e₅ in
     record {
       whole = eqb-true (length s) sectorLength (and-left p (q && (r && (t && (u && (x && (y && sealed s)))))) e);
-      at-block = located s fileType b (and-left q (r && (t && (u && (x && (y && sealed s))))) e₁);
-      some = leb-true 1 m (and-left t (u && (x && (y && sealed s))) e₃);
       few = leb-true m mostExtents (and-left u (x && (y && sealed s)) e₄);
       information = lengths s 0 d n (and-left x (y && sealed s) e₅) .information;
       extents-laid = and-left y (sealed s) e₆;
-      sums = and-right y (sealed s) e₆;
     }
 
 -- ---- what was recorded

@@ -1,5 +1,5 @@
 // The calls and the archive's viewer as C functions for the host program, and nothing else: an archive has only the exported functions of the crate that it
-// is made of. Each slice is a pointer and then a length. The promises are those of the log and of the viewer, word for word.
+// is made of. Each slice is a pointer and then a length. The promises are those of the keeper, the log and the viewer, word for word.
 use anchor::Extent;
 ghost use mathlib.Core.Path.{_≡_};
 ghost use mathlib.Core.List.{[]};
@@ -8,84 +8,115 @@ ghost use Rattle.anchor.specs.Anchor.{extent};
 ghost use Rattle.disc.specs.Disc.{lent};
 ghost use Rattle.recorder.specs.Calls.{begin, mount, write, release, closePacket, commit, closeSession, read, lookBack, timeOf};
 ghost use Rattle.recorder.specs.Effects.{left, after};
+ghost use Rattle.roles.specs.Keeping.{leftRoles, afterRoles};
 ghost use Rattle.run.specs.View.{view};
 
 #[no_mangle]
-pub extern "C" fn station_begin(image: &[u8], kinds: &[u8], ledger: &mut [u8]) -> u64
-    ensures { λ r. ⌜ left r (now (image .entry)) (now (kinds .entry)) (now (ledger .exit)) [] ≡ after (lent (now (image .entry)) (now (kinds .entry))) (now (ledger .entry)) begin ⌝ }
+pub extern "C" fn station_begin_roles(
+    image: &[u8],
+    kinds: &[u8],
+    roles: &mut [u8],
+    ledger: &mut [u8],
+) -> u64
+    ensures { λ r. ⌜ leftRoles r (now (image .entry)) (now (kinds .entry)) (now (roles .exit)) (now (ledger .exit)) [] ≡ afterRoles (lent (now (image .entry)) (now (kinds .entry))) (now (roles .entry)) (now (ledger .entry)) begin ⌝ }
 {
-    log::begin(image, kinds, ledger)
+    keeper::begin(image, kinds, roles, ledger)
 }
 
 #[no_mangle]
-pub extern "C" fn station_mount(image: &[u8], kinds: &[u8], ledger: &mut [u8]) -> u64
-    ensures { λ r. ⌜ left r (now (image .entry)) (now (kinds .entry)) (now (ledger .exit)) [] ≡ after (lent (now (image .entry)) (now (kinds .entry))) (now (ledger .entry)) mount ⌝ }
+pub extern "C" fn station_mount_roles(
+    image: &[u8],
+    kinds: &[u8],
+    roles: &mut [u8],
+    ledger: &mut [u8],
+) -> u64
+    ensures { λ r. ⌜ leftRoles r (now (image .entry)) (now (kinds .entry)) (now (roles .exit)) (now (ledger .exit)) [] ≡ afterRoles (lent (now (image .entry)) (now (kinds .entry))) (now (roles .entry)) (now (ledger .entry)) mount ⌝ }
 {
-    log::mount(image, kinds, ledger)
+    keeper::mount(image, kinds, roles, ledger)
 }
 
 #[no_mangle]
-pub extern "C" fn station_write(
+pub extern "C" fn station_write_roles(
     image: &mut [u8],
     kinds: &mut [u8],
+    roles: &mut [u8],
     ledger: &mut [u8],
     v: u32,
     block: &[u8],
 ) -> u64
-    ensures { λ r. ⌜ left r (now (image .exit)) (now (kinds .exit)) (now (ledger .exit)) (now (block .entry)) ≡ after (lent (now (image .entry)) (now (kinds .entry))) (now (ledger .entry)) (write (some v) (now (block .entry))) ⌝ }
+    ensures { λ r. ⌜ leftRoles r (now (image .exit)) (now (kinds .exit)) (now (roles .exit)) (now (ledger .exit)) (now (block .entry)) ≡ afterRoles (lent (now (image .entry)) (now (kinds .entry))) (now (roles .entry)) (now (ledger .entry)) (write (some v) (now (block .entry))) ⌝ }
 {
-    log::write(image, kinds, ledger, v, block)
+    keeper::write(image, kinds, roles, ledger, v, block)
 }
 
 #[no_mangle]
-pub extern "C" fn station_write_unnumbered(
+pub extern "C" fn station_write_unnumbered_roles(
     image: &mut [u8],
     kinds: &mut [u8],
+    roles: &mut [u8],
     ledger: &mut [u8],
     block: &[u8],
 ) -> u64
-    ensures { λ r. ⌜ left r (now (image .exit)) (now (kinds .exit)) (now (ledger .exit)) (now (block .entry)) ≡ after (lent (now (image .entry)) (now (kinds .entry))) (now (ledger .entry)) (write none (now (block .entry))) ⌝ }
+    ensures { λ r. ⌜ leftRoles r (now (image .exit)) (now (kinds .exit)) (now (roles .exit)) (now (ledger .exit)) (now (block .entry)) ≡ afterRoles (lent (now (image .entry)) (now (kinds .entry))) (now (roles .entry)) (now (ledger .entry)) (write none (now (block .entry))) ⌝ }
 {
-    log::write_unnumbered(image, kinds, ledger, block)
+    keeper::write_unnumbered(image, kinds, roles, ledger, block)
 }
 
 #[no_mangle]
-pub extern "C" fn station_release(image: &[u8], kinds: &[u8], ledger: &mut [u8], v: u32) -> u64
-    ensures { λ r. ⌜ left r (now (image .entry)) (now (kinds .entry)) (now (ledger .exit)) [] ≡ after (lent (now (image .entry)) (now (kinds .entry))) (now (ledger .entry)) (release v) ⌝ }
+pub extern "C" fn station_release_roles(
+    image: &[u8],
+    kinds: &[u8],
+    roles: &mut [u8],
+    ledger: &mut [u8],
+    v: u32,
+) -> u64
+    ensures { λ r. ⌜ leftRoles r (now (image .entry)) (now (kinds .entry)) (now (roles .exit)) (now (ledger .exit)) [] ≡ afterRoles (lent (now (image .entry)) (now (kinds .entry))) (now (roles .entry)) (now (ledger .entry)) (release v) ⌝ }
 {
-    log::release(image, kinds, ledger, v)
+    keeper::release(image, kinds, roles, ledger, v)
 }
 
 #[no_mangle]
-pub extern "C" fn station_close_packet(image: &[u8], kinds: &[u8], ledger: &mut [u8]) -> u64
-    ensures { λ r. ⌜ left r (now (image .entry)) (now (kinds .entry)) (now (ledger .exit)) [] ≡ after (lent (now (image .entry)) (now (kinds .entry))) (now (ledger .entry)) closePacket ⌝ }
+pub extern "C" fn station_close_packet_roles(
+    image: &[u8],
+    kinds: &[u8],
+    roles: &[u8],
+    ledger: &mut [u8],
+) -> u64
+    ensures { λ r. ⌜ leftRoles r (now (image .entry)) (now (kinds .entry)) (now (roles .entry)) (now (ledger .exit)) [] ≡ afterRoles (lent (now (image .entry)) (now (kinds .entry))) (now (roles .entry)) (now (ledger .entry)) closePacket ⌝ }
 {
-    log::close_packet(image, kinds, ledger)
+    keeper::close_packet(image, kinds, roles, ledger)
 }
 
 #[no_mangle]
-pub extern "C" fn station_commit(image: &mut [u8], kinds: &mut [u8], ledger: &mut [u8]) -> u64
-    ensures { λ r. ⌜ left r (now (image .exit)) (now (kinds .exit)) (now (ledger .exit)) [] ≡ after (lent (now (image .entry)) (now (kinds .entry))) (now (ledger .entry)) (commit none) ⌝ }
-{
-    log::commit(image, kinds, ledger)
-}
-
-#[no_mangle]
-pub extern "C" fn station_commit_at(
+pub extern "C" fn station_commit_roles(
     image: &mut [u8],
     kinds: &mut [u8],
+    roles: &mut [u8],
+    ledger: &mut [u8],
+) -> u64
+    ensures { λ r. ⌜ leftRoles r (now (image .exit)) (now (kinds .exit)) (now (roles .exit)) (now (ledger .exit)) [] ≡ afterRoles (lent (now (image .entry)) (now (kinds .entry))) (now (roles .entry)) (now (ledger .entry)) (commit none) ⌝ }
+{
+    keeper::commit(image, kinds, roles, ledger)
+}
+
+#[no_mangle]
+pub extern "C" fn station_commit_at_roles(
+    image: &mut [u8],
+    kinds: &mut [u8],
+    roles: &mut [u8],
     ledger: &mut [u8],
     stamp: &[u8],
 ) -> u64
-    ensures { λ r. ⌜ left r (now (image .exit)) (now (kinds .exit)) (now (ledger .exit)) (now (stamp .entry)) ≡ after (lent (now (image .entry)) (now (kinds .entry))) (now (ledger .entry)) (commit (some (now (stamp .entry)))) ⌝ }
+    ensures { λ r. ⌜ leftRoles r (now (image .exit)) (now (kinds .exit)) (now (roles .exit)) (now (ledger .exit)) (now (stamp .entry)) ≡ afterRoles (lent (now (image .entry)) (now (kinds .entry))) (now (roles .entry)) (now (ledger .entry)) (commit (some (now (stamp .entry)))) ⌝ }
 {
-    log::commit_at(image, kinds, ledger, stamp)
+    keeper::commit_at(image, kinds, roles, ledger, stamp)
 }
 
 #[no_mangle]
-pub extern "C" fn station_close_session(
+pub extern "C" fn station_close_session_roles(
     image: &mut [u8],
     kinds: &mut [u8],
+    roles: &mut [u8],
     ledger: &mut [u8],
     main_length: u32,
     main_location: u32,
@@ -93,7 +124,7 @@ pub extern "C" fn station_close_session(
     reserve_location: u32,
     partition_start: u32,
 ) -> u64
-    ensures { λ r. ⌜ left r (now (image .exit)) (now (kinds .exit)) (now (ledger .exit)) [] ≡ after (lent (now (image .entry)) (now (kinds .entry))) (now (ledger .entry)) (closeSession (extent «main_length» «main_location») (extent «reserve_length» «reserve_location») «partition_start») ⌝ }
+    ensures { λ r. ⌜ leftRoles r (now (image .exit)) (now (kinds .exit)) (now (roles .exit)) (now (ledger .exit)) [] ≡ afterRoles (lent (now (image .entry)) (now (kinds .entry))) (now (roles .entry)) (now (ledger .entry)) (closeSession (extent «main_length» «main_location») (extent «reserve_length» «reserve_location») «partition_start») ⌝ }
 {
     let main = Extent {
         length: main_length,
@@ -103,7 +134,7 @@ pub extern "C" fn station_close_session(
         length: reserve_length,
         location: reserve_location,
     };
-    log::close_session(image, kinds, ledger, main, reserve, partition_start)
+    keeper::close_session(image, kinds, roles, ledger, main, reserve, partition_start)
 }
 
 #[no_mangle]
@@ -120,10 +151,16 @@ pub extern "C" fn station_read(
 }
 
 #[no_mangle]
-pub extern "C" fn station_look_back(image: &[u8], kinds: &[u8], ledger: &mut [u8], k: u32) -> u64
-    ensures { λ r. ⌜ left r (now (image .entry)) (now (kinds .entry)) (now (ledger .exit)) [] ≡ after (lent (now (image .entry)) (now (kinds .entry))) (now (ledger .entry)) (lookBack k) ⌝ }
+pub extern "C" fn station_look_back_roles(
+    image: &[u8],
+    kinds: &[u8],
+    roles: &mut [u8],
+    ledger: &mut [u8],
+    k: u32,
+) -> u64
+    ensures { λ r. ⌜ leftRoles r (now (image .entry)) (now (kinds .entry)) (now (roles .exit)) (now (ledger .exit)) [] ≡ afterRoles (lent (now (image .entry)) (now (kinds .entry))) (now (roles .entry)) (now (ledger .entry)) (lookBack k) ⌝ }
 {
-    log::look_back(image, kinds, ledger, k)
+    keeper::look_back(image, kinds, roles, ledger, k)
 }
 
 #[no_mangle]

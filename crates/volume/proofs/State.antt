@@ -30,24 +30,32 @@ pub record Proper (v : Volume) : Type 0 where
   pub last-word : v .last < 4294967296
   pub mode-word : v .mode < 4294967296
 
-module _ (v : Volume) (ok : Proper v) where
-  pub length-pack : length (pack v) ≡ ledgerLength
+-- with 458 entries the state fills its bytes, and its numbers can be read back
+module _ (v : Volume) (long : length (v .entries) ≡ limit) where
+  packed-long : length (pack v) ≡ ledgerLength
   unfolding pack
-  length-pack =
+  packed-long =
       let a : List ℕ = le 4 (v .size) in
       let b : List ℕ = le 4 (v .recorded) in
       let c : List ℕ = le 4 (v .last) in
       let d : List ℕ = le 4 (v .mode) in
       rw (length-append (leWords (v .entries)) (a ++ (b ++ (c ++ d))), length-append a (b ++ (c ++ d)), length-append b (c ++ d), length-append c d, length-le 4 (v .size), length-le 4 (v .recorded), length-le 4 (v .last), length-le 4 (v .mode))
-      (omega (arith, length-leWords (v .entries), ok .long))
+      (omega (arith, length-leWords (v .entries), long))
 
-  -- the fields, each where it stands
   at-size : drop entriesLength (pack v) ≡ le 4 (v .size) ++ (le 4 (v .recorded) ++ (le 4 (v .last) ++ le 4 (v .mode)))
   unfolding pack
   at-size =
       drop-on (pack v) (leWords (v .entries)) (le 4 (v .size) ++ (le 4 (v .recorded) ++ (le 4 (v .last) ++ le 4 (v .mode)))) 0 entriesLength refl
-      (length-leWords (v .entries) ∙ ap (λ (n : ℕ). 4 * n) (ok .long))
+      (length-leWords (v .entries) ∙ ap (λ (n : ℕ). 4 * n) long)
 
+  packed-size : v .size < 4294967296 → readLe 4 (pack v) entriesLength ≡ v .size
+  packed-size small = read-le 4 (v .size) (pack v) (le 4 (v .recorded) ++ (le 4 (v .last) ++ le 4 (v .mode))) entriesLength at-size small
+
+  pub size-kept : v .size ≤ limit → unpack (pack v) .size ≤ limit
+  unfolding unpack
+  size-kept few = rw (packed-size (omega arith)) few
+
+  -- the other fields, each where it stands
   at-recorded : drop (entriesLength + 4) (pack v) ≡ le 4 (v .recorded) ++ (le 4 (v .last) ++ le 4 (v .mode))
   at-recorded = drop-on (pack v) (le 4 (v .size)) (le 4 (v .recorded) ++ (le 4 (v .last) ++ le 4 (v .mode))) entriesLength 4 at-size (length-le 4 (v .size))
 
@@ -56,6 +64,18 @@ module _ (v : Volume) (ok : Proper v) where
 
   at-mode : drop (entriesLength + 12) (pack v) ≡ le 4 (v .mode) ++ []
   at-mode = drop-on (pack v) (le 4 (v .last)) (le 4 (v .mode)) (entriesLength + 8) 4 at-last (length-le 4 (v .last)) ∙ sym (append-nil (le 4 (v .mode)))
+
+  pub recorded-kept : v .recorded < 4294967296 → unpack (pack v) .recorded ≡ v .recorded
+  unfolding unpack
+  recorded-kept small = read-le 4 (v .recorded) (pack v) (le 4 (v .last) ++ le 4 (v .mode)) (entriesLength + 4) at-recorded small
+
+  pub last-kept : v .last < 4294967296 → unpack (pack v) .last ≡ v .last
+  unfolding unpack
+  last-kept small = read-le 4 (v .last) (pack v) (le 4 (v .mode)) (entriesLength + 8) at-last small
+
+module _ (v : Volume) (ok : Proper v) where
+  pub length-pack : length (pack v) ≡ ledgerLength
+  length-pack = packed-long v (ok .long)
 
   packed-entries : words limit (pack v) 0 ≡ v .entries
   unfolding pack
@@ -66,10 +86,10 @@ module _ (v : Volume) (ok : Proper v) where
   pub unpack-pack : unpack (pack v) ≡ v
   unfolding unpack
   unpack-pack =
-      let size : readLe 4 (pack v) entriesLength ≡ v .size = read-le 4 (v .size) (pack v) (le 4 (v .recorded) ++ (le 4 (v .last) ++ le 4 (v .mode))) entriesLength at-size (ok .size-word) in
-      let recorded : readLe 4 (pack v) (entriesLength + 4) ≡ v .recorded = read-le 4 (v .recorded) (pack v) (le 4 (v .last) ++ le 4 (v .mode)) (entriesLength + 4) at-recorded (ok .recorded-word) in
-      let last : readLe 4 (pack v) (entriesLength + 8) ≡ v .last = read-le 4 (v .last) (pack v) (le 4 (v .mode)) (entriesLength + 8) at-last (ok .last-word) in
-      let mode : readLe 4 (pack v) (entriesLength + 12) ≡ v .mode = read-le 4 (v .mode) (pack v) [] (entriesLength + 12) at-mode (ok .mode-word) in
+      let size : readLe 4 (pack v) entriesLength ≡ v .size = packed-size v (ok .long) (ok .size-word) in
+      let recorded : readLe 4 (pack v) (entriesLength + 4) ≡ v .recorded = recorded-kept v (ok .long) (ok .recorded-word) in
+      let last : readLe 4 (pack v) (entriesLength + 8) ≡ v .last = last-kept v (ok .long) (ok .last-word) in
+      let mode : readLe 4 (pack v) (entriesLength + 12) ≡ v .mode = read-le 4 (v .mode) (pack v) [] (entriesLength + 12) (at-mode v (ok .long)) (ok .mode-word) in
       λ i. record { entries = packed-entries i; size = size i; recorded = recorded i; last = last i; mode = mode i }
 
 -- five parts of a list, each joined to what follows it
@@ -120,11 +140,20 @@ proper-begun r h =
       mode-word = lit< tt;
     }
 
+pub long-unpack : (l : List ℕ) → length (unpack l .entries) ≡ limit
+unfolding unpack
+long-unpack l = length-words limit l 0
+
+pub long-filled : (map : List ℕ) (b r mode : ℕ) → length map ≤ limit → length (filled map b r mode .entries) ≡ limit
+unfolding filled
+long-filled map b r mode few =
+    length-append map (replicate (limit - length map) unused) ∙ ap (λ (k : ℕ). length map + k) (length-replicate {A = ℕ} (limit - length map) unused) ∙ omega arith
+
 pub proper-filled : (map : List ℕ) (b r mode : ℕ) → length map ≤ limit → Words map → b < 4294967296 → r < 4294967296 → mode < 4294967296 → Proper (filled map b r mode)
 unfolding filled
 proper-filled map b r mode few ok hb hr hm =
     record {
-      long = length-append map (replicate (limit - length map) unused) ∙ ap (λ (k : ℕ). length map + k) (length-replicate {A = ℕ} (limit - length map) unused) ∙ omega arith;
+      long = long-filled map b r mode few;
       entry-words = words-append map (replicate (limit - length map) unused) ok (words-replicate (limit - length map) unused (lit< tt));
       size-word = omega arith;
       recorded-word = hr;
@@ -149,7 +178,7 @@ pub proper-unpack : (l : List ℕ) → AllBytes l → Proper (unpack l)
 unfolding unpack
 proper-unpack l a =
     record {
-      long = length-words limit l 0;
+      long = long-unpack l;
       entry-words = words-of-bytes limit l 0 a;
       size-word = read-lt 4 l entriesLength a;
       recorded-word = read-lt 4 l (entriesLength + 4) a;

@@ -24,6 +24,7 @@ const MODE: usize = 1844;
 pub struct Buffers {
     pub image: Vec<u8>,
     pub kinds: Vec<u8>,
+    pub roles: Vec<u8>,
     pub ledger: Vec<u8>,
     pub block: Vec<u8>,
     pub answer: [u8; TIME],
@@ -50,6 +51,7 @@ impl Buffers {
         Buffers {
             image,
             kinds: vec![0; sectors],
+            roles: vec![0xA5; sectors],
             ledger: vec![0xA5; LEDGER],
             block: vec![0x5A; SECTOR],
             answer: [0x5A; TIME],
@@ -113,9 +115,16 @@ impl Buffers {
 
     /// The ledger as mount leaves it, with the mode given.
     pub fn mount(&mut self, mode: u32) {
-        let answer = tuned::mount(&self.image, &self.kinds, &mut self.ledger);
+        let answer = tuned::mount(&self.image, &self.kinds, &mut self.roles, &mut self.ledger);
         assert_eq!(answer >> 32, 0, "the prepared disc has a table");
         self.set_mode(mode);
+        self.keep_ledger();
+    }
+
+    /// Changes the entries of the ledger's map, one after another.
+    pub fn edit_map(&mut self, edit: impl Fn(usize, &mut [[u8; 4]])) {
+        let map = &mut self.ledger.as_chunks_mut().0[..LIMIT];
+        (0..LIMIT).for_each(|v| edit(v, map));
         self.keep_ledger();
     }
 
@@ -144,7 +153,8 @@ impl Buffers {
     }
 
     /// Sets back what a batch changed: ledger and kinds. The image bytes of
-    /// blank sectors mean nothing, and the next batch records them anew.
+    /// blank sectors mean nothing, and the next batch records them anew; the roles
+    /// decide nothing, and it sets the same.
     pub fn set_back(&mut self) {
         self.ledger.copy_from_slice(&self.prepared);
         let window = self.sectors().min(self.recorded + WINDOW);
@@ -156,9 +166,11 @@ impl Buffers {
         }
     }
 
-    /// Sets back the image bytes, the block, the answer and the bytes viewed too.
+    /// Sets back the image bytes, the roles, the block, the answer and the bytes viewed
+    /// too. Roles are then such as no call sets, so that each one set shows.
     pub fn set_back_all(&mut self) {
         self.set_back();
+        self.roles.fill(0xA5);
         self.block.fill(0x5A);
         self.answer.fill(0x5A);
         self.viewed.fill(0x5A);
@@ -173,6 +185,7 @@ impl Buffers {
         let parts = [
             &self.image,
             &self.kinds,
+            &self.roles,
             &self.ledger,
             &self.block,
             &self.viewed,

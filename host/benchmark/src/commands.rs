@@ -16,6 +16,9 @@ use crate::report::thousands;
 /// which a write leaves 264 sectors.
 const ROUNDS: usize = 12;
 
+/// Bytes of the run that is stored and viewed.
+const RUN: usize = 65_536;
+
 /// Copies come last: they leave the disk much to write.
 const COPIES: usize = 5;
 const COPY: &str = "`cp` of the disc file";
@@ -23,13 +26,20 @@ const COPY: &str = "`cp` of the disc file";
 /// The lines of one round, in order, with what a row calls them. A disc is mounted
 /// after a look back and after a cut, and saved before a mount that is to find it
 /// clean.
-const LINES: [(&str, &str); 18] = [
+const LINES: [(&str, &str); 23] = [
     ("new", "new blank.disc SECTORS"),
     ("begin, blank disc", "begin blank.disc"),
     (
         "close-session, blank disc",
         "close-session blank.disc --main 32768,96 --reserve 32768,240 --start 257",
     ),
+    ("", "new stored.disc SECTORS"),
+    ("", "begin stored.disc"),
+    (
+        "store, 65,536 bytes, blank disc",
+        "store stored.disc 0 --from run",
+    ),
+    ("view, 65,536 bytes", "view stored.disc 0 --to /dev/null"),
     ("write, after a mount", "write run.disc 0 --from block"),
     ("write, packet open", "write run.disc 1 --from block"),
     ("release", "release run.disc 2"),
@@ -43,6 +53,7 @@ const LINES: [(&str, &str); 18] = [
     ("look-back 1", "look-back run.disc 1"),
     ("list", "list run.disc"),
     ("mount, clean", "mount run.disc"),
+    ("space", "space run.disc"),
     ("cut 0 commit", "cut 0 commit run.disc"),
     ("", "mount run.disc"),
 ];
@@ -50,7 +61,7 @@ const LINES: [(&str, &str); 18] = [
 pub const HOW: &str = "\
 Each command is the whole program, from its start to its end, on a disc that is half full, with 458 numbers in use; the file is in
 memory from the round before. Milliseconds, minimum and median of 12 rounds, each on the three discs in turn; then 5 copies of each disc file by `cp`,
-which flushes nothing. `list` shows between 5 and 38 saves.
+which flushes nothing. `list` shows between 5 and 38 saves. `new`, `begin`, `close-session`, `store` and `view` are of blank discs made in each round.
 ";
 
 /// A row of the table, with the times of each size.
@@ -115,8 +126,12 @@ impl Disc {
             let mut command = Command::new(program);
             note(name, timed(command.args(line.split(' ')), &self.folder)?);
         }
-        fs::remove_file(self.folder.join("blank.disc"))?;
-        fs::remove_file(self.folder.join("blank.disc.ledger"))
+        for disc in ["blank.disc", "stored.disc"] {
+            for beside in ["", ".ledger", ".roles"] {
+                fs::remove_file(self.folder.join(format!("{disc}{beside}")))?;
+            }
+        }
+        Ok(())
     }
 
     fn copy(&self) -> io::Result<Duration> {
@@ -147,18 +162,18 @@ fn timed(command: &mut Command, folder: &Path) -> io::Result<Duration> {
 }
 
 /// A disc whose first half is recorded: all numbers written, over and over, and
-/// saved twice; its ledger; and a block.
+/// saved twice; its ledger and roles; a block, and the bytes of a run.
 fn store_half_full(folder: &Path, sectors: usize) -> io::Result<()> {
-    let (mut image, mut kinds) = (vec![0; sectors * SECTOR], vec![0; sectors]);
-    let mut ledger = [0; LEDGER];
+    let (image, kinds) = (&mut vec![0; sectors * SECTOR], &mut vec![0; sectors]);
+    let (roles, ledger) = (&mut vec![0; sectors], &mut [0; LEDGER]);
     let refused = |refusal: station::Refusal| io::Error::other(refusal.to_string());
-    station::begin(&image, &kinds, &mut ledger).map_err(refused)?;
+    station::begin(image, kinds, roles, ledger).map_err(refused)?;
     let half = sectors / 2;
     for v in (0..LIMIT).cycle().take(half - 2) {
-        station::write(&mut image, &mut kinds, &mut ledger, v, &[0x5A; SECTOR]).map_err(refused)?;
+        station::write(image, kinds, roles, ledger, v, &[0x5A; SECTOR]).map_err(refused)?;
     }
     for _ in 0..2 {
-        station::commit(&mut image, &mut kinds, &mut ledger).map_err(refused)?;
+        station::commit(image, kinds, roles, ledger).map_err(refused)?;
     }
     let digits: Vec<u8> = kinds.iter().map(|kind| kind + b'0').collect();
     let mut file = File::create(folder.join("run.disc"))?;
@@ -168,8 +183,10 @@ fn store_half_full(folder: &Path, sectors: usize) -> io::Result<()> {
     file.write_all(&image[..half * SECTOR])?;
     file.set_len((9 + sectors + 1 + image.len()) as u64)?;
     file.sync_all()?;
-    fs::write(folder.join("run.disc.ledger"), ledger)?;
-    fs::write(folder.join("block"), [0xC3; SECTOR])
+    fs::write(folder.join("run.disc.ledger"), &ledger)?;
+    fs::write(folder.join("run.disc.roles"), [&ledger[..], roles].concat())?;
+    fs::write(folder.join("block"), [0xC3; SECTOR])?;
+    fs::write(folder.join("run"), [0xC3; RUN])
 }
 
 fn table(rows: &[Row], sizes: &[usize]) -> String {

@@ -31,13 +31,14 @@ const SIZES: [usize; 3] = [1000, 36_000, 360_000];
 const HOW: &str = "\
 Both versions are called on the same prepared buffers in one run, in turn (core, tuned, core, tuned ..), through
 function pointers. Before a row is timed, both must give the same answers and leave the same bytes of image, kinds,
-ledger, block, time told and part of a run viewed. A round is one batch of each, of up to 64 calls; one of close session, since it closes the
+roles, ledger, block, time told and part of a run viewed. A round is one batch of each, of up to 64 calls; one of close session, since it closes the
 disc. Ledger and kinds are set back between batches, outside the measured time. The bytes that a call reads were read in
 the round before. Unless a row says otherwise, half of the disc is recorded, the ledger has 458 numbers in use and the
 last table has 458 entries, so that its CRC of 2,028 bytes is part of each call that reads the ledger. `no table yet`:
-the ledger has no last table. `image swept`: the whole image was read since the round before, ending at block 0. Before
-each write with links, four bytes of the ledger are set to mode 0 within the measured time. Tables of `dirty by all` and
-`look back to the first` have no entries: a CRC of 196 bytes. A view is of a number whose block is a run's entry; it fills
+the ledger has no last table. A number written was in use, so that a write and a release let its block go; `named twice`:
+another number has that block too; `unused`: the number had none. `image swept`: the whole image was read since the round before, ending at block 0. Before
+each write with links, four bytes of the ledger are set to mode 0 within the measured time. Tables of `dirty by all`, `all
+tables` and `look back to the first` have no entries: a CRC of 196 bytes. A view is of a number whose block is a run's entry; it fills
 its buffer, of so many bytes, each call of a batch from another offset within 614,400 bytes. `1 extent` and `100 extents`:
 a run of 300 sectors. `of 32 sectors` and `of nearly all sectors`: one extent, on a full disc; of the latter each call
 passes over the kinds.
@@ -49,10 +50,16 @@ const KINDS_PASS: &str = "\
 Close packet with no table yet, beside `kinds.iter().map(|kind| u64::from(*kind)).sum()` over the same bytes; minima.
 ";
 
-const EVERY_SECTOR: &str = "\
-## Over every sector
+const SCAN: &str = "\
+## The scan of the roles
 
-GB/s counts 2,048 bytes a sector, of which a scan reads the first 64 and a walk the first 256.
+A clean mount less `time of 0`, which finds the same table and makes no roles; minima.
+";
+
+const EVERY_SECTOR: &str = "\
+## Over every recorded sector
+
+GB/s counts 2,048 bytes a sector, of which a search and a scan read the first 64 and a walk the first 256.
 ";
 
 const GROWTH: &str = "\
@@ -97,6 +104,7 @@ fn run(sizes: &[usize]) {
         .map(|sectors| on_disc(*sectors, &caches))
         .collect();
     println!("{KINDS_PASS}\n{}", report::kinds_table(&all));
+    println!("{SCAN}\n{}", report::scan_table(&all));
     println!("{EVERY_SECTOR}\n{}", report::sector_table(&all));
     println!("{GROWTH}\n{}", report::growth_table(&all));
     println!("{}", report::noted_rows(&all));
@@ -128,8 +136,12 @@ fn on_disc(sectors: usize, caches: &[Cache]) -> Measured {
 fn warm(sectors: usize, caches: &[Cache]) -> String {
     let parts = [
         ("kinds", sectors),
+        ("roles", sectors),
         ("image", SECTOR * sectors),
-        ("the 64 bytes a sector that a scan reads", 64 * sectors),
+        (
+            "the 64 bytes a sector that a search or a scan reads",
+            64 * sectors,
+        ),
         (
             "the 256 that a walk over tables of no numbers reads",
             256 * sectors,

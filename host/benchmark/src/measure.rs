@@ -45,8 +45,8 @@ pub fn measure(row: &Row, buffers: &mut Buffers) -> [Times; 2] {
 }
 
 /// "both numbers and every byte of image, kinds, ledger and block buffer
-/// afterwards" are the same, and of the answer and what is viewed, and no call of the
-/// batch is refused.
+/// afterwards" are the same, and of the roles, the answer and what is viewed, and no
+/// call of the batch is refused.
 fn compare(row: &Row, buffers: &mut Buffers, batch: usize) {
     let mut run = |version: &Version| {
         buffers.set_back_all();

@@ -1,7 +1,7 @@
 //! Markdown tables of what was measured.
 
 use crate::measure::Times;
-use crate::rows::{Work, ROWS};
+use crate::rows::{MOUNT, ROWS, TIME_OF};
 
 /// Rows with a larger ratio of minima are named at the end.
 const NOTED: f64 = 1.2;
@@ -11,6 +11,14 @@ pub struct Measured {
     pub sectors: usize,
     pub rows: Vec<[Times; 2]>,
     pub kinds_pass: [Times; 3],
+}
+
+impl Measured {
+    fn times_of(&self, name: &str) -> &[Times; 2] {
+        let mut rows = ROWS.iter().zip(&self.rows);
+        let found = rows.find(|(row, _)| row.name == name);
+        found.expect("a row of this name is measured").1
+    }
 }
 
 fn ratio(times: &[Times; 2]) -> f64 {
@@ -59,15 +67,41 @@ pub fn kinds_table(all: &[Measured]) -> String {
     text
 }
 
-/// The calls that go over every sector, for each sector.
+/// What a mount pays for the roles.
+pub fn scan_table(all: &[Measured]) -> String {
+    let mut text = String::from(
+        "| sectors | core ns | ns a recorded sector | tuned ns | ns a recorded sector |\n\
+         |--:|--:|--:|--:|--:|\n",
+    );
+    for measured in all {
+        let [mount, time_of] = [MOUNT, TIME_OF].map(|name| measured.times_of(name));
+        let scan = |version: usize| mount[version].min() - time_of[version].min();
+        let [core, tuned] = [0, 1].map(scan);
+        let recorded = measured.sectors as f64 / 2.0;
+        text += &format!(
+            "| {} | {} | {:.2} | {} | {:.2} |\n",
+            thousands(measured.sectors),
+            nanoseconds(core),
+            core / recorded,
+            nanoseconds(tuned),
+            tuned / recorded,
+        );
+    }
+    text
+}
+
+/// The calls that go over every recorded sector, for each of them.
 pub fn sector_table(all: &[Measured]) -> String {
     let mut text = String::from(
         "| call | sectors | core ns a sector | GB/s | tuned ns a sector | GB/s |\n\
          |---|--:|--:|--:|--:|--:|\n",
     );
     for (at, row) in ROWS.iter().enumerate() {
-        for measured in all.iter().filter(|_| row.work == Work::EverySector) {
-            let each = |times: &Times| times.min() / measured.sectors as f64;
+        for measured in all {
+            let Some(recorded) = row.work.recorded(measured.sectors) else {
+                continue;
+            };
+            let each = |times: &Times| times.min() / recorded as f64;
             let [core, tuned] = measured.rows[at].each_ref().map(each);
             text += &format!(
                 "| {} | {} | {core:.2} | {:.1} | {tuned:.2} | {:.1} |\n",

@@ -16,8 +16,21 @@ const ROOM: usize = 500 - 264;
 pub enum Work {
     /// The kinds, the ledger and a few sectors.
     Few,
-    /// Every sector, so the batch is smaller on large discs.
+    /// Every recorded sector of a disc that is half full.
+    HalfOfThem,
+    /// Every sector of a full one.
     EverySector,
+}
+
+impl Work {
+    /// The recorded sectors that it goes over, if it does.
+    pub fn recorded(self, sectors: usize) -> Option<usize> {
+        match self {
+            Work::Few => None,
+            Work::HalfOfThem => Some(sectors / 2),
+            Work::EverySector => Some(sectors),
+        }
+    }
 }
 
 /// Call i of a batch.
@@ -37,12 +50,18 @@ impl Row {
         match self.work {
             Work::Few if self.records > 0 => BATCH.min(ROOM / self.records).max(1),
             Work::Few => BATCH,
-            Work::EverySector => (BATCH * 1000 / sectors).max(1),
+            // Smaller on large discs.
+            Work::HalfOfThem | Work::EverySector => (BATCH * 1000 / sectors).max(1),
         }
     }
 
     const fn over_every_sector(mut self) -> Row {
         self.work = Work::EverySector;
+        self
+    }
+
+    const fn over_half_of_them(mut self) -> Row {
+        self.work = Work::HalfOfThem;
         self
     }
 
@@ -65,18 +84,28 @@ const fn row(name: &'static str, prepare: fn(&mut Buffers), call: Call) -> Row {
 /// Close packet before the first commit: kinds and ledger, and no table.
 pub const CLOSE_PACKET: &str = "close packet, no table yet";
 
-pub static ROWS: [Row; 28] = [
+/// A mount that finds its table at once, and a call that goes the same way without
+/// the scan of the roles.
+pub const MOUNT: &str = "mount, clean";
+pub const TIME_OF: &str = "time of 0";
+
+pub static ROWS: [Row; 33] = [
     row("begin, blank disc", blank, begin),
     row("begin, all data, no table", all_plain, begin).over_every_sector(),
-    row("mount, clean", clean, mount),
-    row("mount, dirty by one", dirty_by_one, mount),
+    row(MOUNT, clean, mount).over_half_of_them(),
+    row("mount, clean, image swept", clean_swept, mount).over_half_of_them(),
+    row("mount, dirty by one", dirty_by_one, mount).over_half_of_them(),
     row("mount, dirty by all", dirty_by_all, mount).over_every_sector(),
     row("mount, dirty by all, image swept", swept, mount).over_every_sector(),
+    row("mount, all tables", all_vats, mount).over_every_sector(),
     row("write, mode 1, no table yet", open_without_vat, write).recording(1),
     row("write, mode 1", open, write).recording(1),
+    row("write, mode 1, named twice", open_twice, write).recording(1),
+    row("write, mode 1, unused", open_unused, write).recording(1),
     row("write, mode 0 with links", open, write_links).recording(8),
     row("write unnumbered, mode 1", open, write_unnumbered).recording(1),
     row("release", open, release),
+    row("release, named twice", open_twice, release),
     row(CLOSE_PACKET, open_without_vat, close_packet),
     row("close packet", open, close_packet),
     row("commit, 0 numbers", open_empty, commit).recording(1),
@@ -84,9 +113,9 @@ pub static ROWS: [Row; 28] = [
     row("commit at, 458 numbers", open, commit_at).recording(1),
     row("read, no table yet", open_without_vat, read),
     row("read", open, read),
-    row("look back 1", two_vats, look_back_one),
+    row("look back 1", two_vats, look_back_one).over_half_of_them(),
     row("look back to the first", all_vats, look_back_all).over_every_sector(),
-    row("time of 0", clean, time_of_newest),
+    row(TIME_OF, clean, time_of_newest),
     row("close session", open, close_session).recording(257),
     row("view 4,096, 1 extent", one_extent, view_some),
     row("view 65,536, 1 extent", one_extent, view_most),
@@ -111,6 +140,12 @@ fn clean(buffers: &mut Buffers) {
     buffers.plant_vat(half - 1, LIMIT, NONE);
 }
 
+/// The same with the caches full of other sectors.
+fn clean_swept(buffers: &mut Buffers) {
+    clean(buffers);
+    buffers.sweep();
+}
+
 fn dirty_by_one(buffers: &mut Buffers) {
     let half = buffers.sectors() / 2;
     buffers.record_plain(half);
@@ -133,6 +168,22 @@ fn swept(buffers: &mut Buffers) {
 fn open(buffers: &mut Buffers) {
     clean(buffers);
     buffers.mount(1);
+}
+
+/// The same, and each block is that of two numbers.
+fn open_twice(buffers: &mut Buffers) {
+    open(buffers);
+    buffers.edit_map(|v, map| map[v] = map[v % (LIMIT / 2)]);
+}
+
+/// The same, and the numbers that are written are not in use.
+fn open_unused(buffers: &mut Buffers) {
+    open(buffers);
+    buffers.edit_map(|v, map| {
+        if v < BATCH {
+            map[v] = NONE.to_le_bytes();
+        }
+    });
 }
 
 fn open_without_vat(buffers: &mut Buffers) {
@@ -201,17 +252,24 @@ fn run_on_a_full_disc(buffers: &mut Buffers, sectors: usize) {
 }
 
 fn begin(version: &Version, b: &mut Buffers, _: usize) -> u64 {
-    (version.begin)(&b.image, &b.kinds, &mut b.ledger)
+    (version.begin)(&b.image, &b.kinds, &mut b.roles, &mut b.ledger)
 }
 
 fn mount(version: &Version, b: &mut Buffers, _: usize) -> u64 {
-    (version.mount)(&b.image, &b.kinds, &mut b.ledger)
+    (version.mount)(&b.image, &b.kinds, &mut b.roles, &mut b.ledger)
 }
 
 /// Each call of a batch takes the next sector, for another number.
 fn write(version: &Version, b: &mut Buffers, i: usize) -> u64 {
     let v = i as u32;
-    (version.write)(&mut b.image, &mut b.kinds, &mut b.ledger, v, &b.block)
+    (version.write)(
+        &mut b.image,
+        &mut b.kinds,
+        &mut b.roles,
+        &mut b.ledger,
+        v,
+        &b.block,
+    )
 }
 
 /// Mode 0 is set before each call of the batch, within the measured time.
@@ -222,27 +280,39 @@ fn write_links(version: &Version, b: &mut Buffers, i: usize) -> u64 {
 
 /// Each call of a batch takes the next sector.
 fn write_unnumbered(version: &Version, b: &mut Buffers, _: usize) -> u64 {
-    (version.write_unnumbered)(&mut b.image, &mut b.kinds, &mut b.ledger, &b.block)
+    (version.write_unnumbered)(
+        &mut b.image,
+        &mut b.kinds,
+        &mut b.roles,
+        &mut b.ledger,
+        &b.block,
+    )
 }
 
 /// Another number each time.
 fn release(version: &Version, b: &mut Buffers, i: usize) -> u64 {
-    (version.release)(&b.image, &b.kinds, &mut b.ledger, i as u32)
+    (version.release)(&b.image, &b.kinds, &mut b.roles, &mut b.ledger, i as u32)
 }
 
 /// Closing a closed packet does the same work but for one kind.
 fn close_packet(version: &Version, b: &mut Buffers, _: usize) -> u64 {
-    (version.close_packet)(&b.image, &b.kinds, &mut b.ledger)
+    (version.close_packet)(&b.image, &b.kinds, &b.roles, &mut b.ledger)
 }
 
 /// Each commit of a batch finds the one before as its last table.
 fn commit(version: &Version, b: &mut Buffers, _: usize) -> u64 {
-    (version.commit)(&mut b.image, &mut b.kinds, &mut b.ledger)
+    (version.commit)(&mut b.image, &mut b.kinds, &mut b.roles, &mut b.ledger)
 }
 
 /// The same with a timestamp.
 fn commit_at(version: &Version, b: &mut Buffers, _: usize) -> u64 {
-    (version.commit_at)(&mut b.image, &mut b.kinds, &mut b.ledger, &STAMP)
+    (version.commit_at)(
+        &mut b.image,
+        &mut b.kinds,
+        &mut b.roles,
+        &mut b.ledger,
+        &STAMP,
+    )
 }
 
 /// 64 numbers in turn, whose sectors stay in the cache.
@@ -251,13 +321,13 @@ fn read(version: &Version, b: &mut Buffers, i: usize) -> u64 {
 }
 
 fn look_back_one(version: &Version, b: &mut Buffers, _: usize) -> u64 {
-    (version.look_back)(&b.image, &b.kinds, &mut b.ledger, 1)
+    (version.look_back)(&b.image, &b.kinds, &mut b.roles, &mut b.ledger, 1)
 }
 
 /// "follows the previous entry k times", as far as it goes.
 fn look_back_all(version: &Version, b: &mut Buffers, _: usize) -> u64 {
     let k = b.sectors() as u32 - 1;
-    (version.look_back)(&b.image, &b.kinds, &mut b.ledger, k)
+    (version.look_back)(&b.image, &b.kinds, &mut b.roles, &mut b.ledger, k)
 }
 
 /// The time of the table that a mount finds at once.
@@ -268,8 +338,9 @@ fn time_of_newest(version: &Version, b: &mut Buffers, _: usize) -> u64 {
 /// In an open packet: the pointer, zeros and a table of 458 numbers.
 fn close_session(version: &Version, b: &mut Buffers, _: usize) -> u64 {
     let (length, start) = (32_768, 257);
-    let (image, kinds, ledger) = (&mut b.image, &mut b.kinds, &mut b.ledger);
-    (version.close_session)(image, kinds, ledger, length, 96, length, 240, start)
+    let (image, kinds, roles) = (&mut b.image, &mut b.kinds, &mut b.roles);
+    let ledger = &mut b.ledger;
+    (version.close_session)(image, kinds, roles, ledger, length, 96, length, 240, start)
 }
 
 fn view_some(version: &Version, b: &mut Buffers, i: usize) -> u64 {

@@ -3,20 +3,21 @@
 use crate::tuned;
 use station::raw;
 
-type Plain = fn(&[u8], &[u8], &mut [u8]) -> u64;
-type Numbered = fn(&[u8], &[u8], &mut [u8], u32) -> u64;
-type Committing = fn(&mut [u8], &mut [u8], &mut [u8]) -> u64;
-type Lending = fn(&mut [u8], &mut [u8], &mut [u8], &[u8]) -> u64;
-type Writing = fn(&mut [u8], &mut [u8], &mut [u8], u32, &[u8]) -> u64;
-type Closing = fn(&mut [u8], &mut [u8], &mut [u8], u32, u32, u32, u32, u32) -> u64;
+type Scanning = fn(&[u8], &[u8], &mut [u8], &mut [u8]) -> u64;
+type Plain = fn(&[u8], &[u8], &[u8], &mut [u8]) -> u64;
+type Numbered = fn(&[u8], &[u8], &mut [u8], &mut [u8], u32) -> u64;
+type Committing = fn(&mut [u8], &mut [u8], &mut [u8], &mut [u8]) -> u64;
+type Lending = fn(&mut [u8], &mut [u8], &mut [u8], &mut [u8], &[u8]) -> u64;
+type Writing = fn(&mut [u8], &mut [u8], &mut [u8], &mut [u8], u32, &[u8]) -> u64;
+type Closing = fn(&mut [u8], &mut [u8], &mut [u8], &mut [u8], u32, u32, u32, u32, u32) -> u64;
 type Reading = fn(&[u8], &[u8], &[u8], u32, &mut [u8]) -> u64;
 type Viewing = fn(&[u8], &[u8], &[u8], u32, u64, &mut [u8]) -> u64;
 
 /// Thirteen functions. They are called through pointers, so that neither version
 /// is compiled into the loop that measures it.
 pub struct Version {
-    pub begin: Plain,
-    pub mount: Plain,
+    pub begin: Scanning,
+    pub mount: Scanning,
     pub write: Writing,
     pub write_unnumbered: Lending,
     pub release: Numbered,

@@ -17,6 +17,10 @@ const NO_ROOM_TO_CLOSE: &str =
 const NO_SUCH_TIME: &str =
     "Give a real date from 1970 to 2099, a time up to 23:59:59 and a zone up to 24:00, or save without a time.";
 
+/// The advice where no refusal is told, but where the space went is asked for.
+pub const ROLES_UNKNOWN: &str =
+    "Mount the disc, or begin it if it has no save yet, and ask again. Commit first, if something is written: a mount leaves out what is not saved.";
+
 /// The advice where the call makes no difference.
 pub fn of(refusal: Refusal) -> &'static str {
     match refusal {

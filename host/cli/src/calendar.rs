@@ -108,9 +108,10 @@ mod tests {
     /// What the core tells of a save that carries this time, if one can.
     fn told(stamp: Timestamp) -> Option<i64> {
         let (mut image, mut kinds) = ([0; SECTOR], [0]);
-        let mut ledger = [0; LEDGER];
-        station::begin(&image, &kinds, &mut ledger).expect("begin");
-        station::commit_at(&mut image, &mut kinds, &mut ledger, &stamp.to_bytes()).ok()?;
+        let (mut roles, mut ledger) = ([0; 1], [0; LEDGER]);
+        station::begin(&image, &kinds, &mut roles, &mut ledger).expect("begin");
+        let (i, k, r, l) = (&mut image, &mut kinds, &mut roles, &mut ledger);
+        station::commit_at(i, k, r, l, &stamp.to_bytes()).ok()?;
         let told = station::time_of(&image, &kinds, &ledger, 0);
         Some(told.expect("a time").minutes.into())
     }

@@ -5,8 +5,8 @@ use crate::arguments::Arguments;
 use crate::closing::{self, Closing};
 use crate::failure::Done;
 use crate::form::counted;
+use crate::ledger::Map;
 use crate::making::make_disc;
-use crate::map::Map;
 use crate::session::{Lent, Session};
 use crate::storing::Storing;
 use crate::surroundings::{say, Surroundings};
@@ -24,16 +24,16 @@ pub fn new(given: &Arguments, around: &mut Surroundings) -> Done {
 
 pub fn begin(given: &Arguments, around: &mut Surroundings) -> Done {
     let mut session = Session::open(given.path(0), Lent::New, around)?;
-    let (image, kinds) = session.disc.lent();
-    station::begin(image, kinds, &mut session.ledger)?;
+    let (image, kinds, roles, ledger) = session.lent();
+    station::begin(image, kinds, roles, ledger)?;
     session.keep_ledger()?;
     say(around, "begun, size 0\n")
 }
 
 pub fn mount(given: &Arguments, around: &mut Surroundings) -> Done {
     let mut session = Session::open(given.path(0), Lent::New, around)?;
-    let (image, kinds) = session.disc.lent();
-    let clean = station::mount(image, kinds, &mut session.ledger)?;
+    let (image, kinds, roles, ledger) = session.lent();
+    let clean = station::mount(image, kinds, roles, ledger)?;
     let map = Map::of(&session.ledger);
     let closed = closing::told(&session.disc);
     session.keep_ledger()?;
@@ -67,16 +67,16 @@ pub fn store(given: &Arguments, around: &mut Surroundings) -> Done {
 pub fn release(given: &Arguments, around: &mut Surroundings) -> Done {
     let v = given.number(1)?;
     let mut session = Session::open(given.path(0), Lent::Kept, around)?;
-    let (image, kinds) = session.disc.lent();
-    station::release(image, kinds, &mut session.ledger, v)?;
+    let (image, kinds, roles, ledger) = session.lent();
+    station::release(image, kinds, roles, ledger, v)?;
     session.keep_ledger()?;
     say(around, format!("released {v}\n"))
 }
 
 pub fn close(given: &Arguments, around: &mut Surroundings) -> Done {
     let mut session = Session::open(given.path(0), Lent::Kept, around)?;
-    let (image, kinds) = session.disc.lent();
-    station::close_packet(image, kinds, &mut session.ledger)?;
+    let (image, kinds, roles, ledger) = session.lent();
+    station::close_packet(image, kinds, roles, ledger)?;
     session.keep_ledger()?;
     say(around, "packet closed\n")
 }
@@ -110,21 +110,21 @@ pub fn close_session(given: &Arguments, around: &mut Surroundings) -> Done {
 pub fn look_back(given: &Arguments, around: &mut Surroundings) -> Done {
     let k = given.number(1)?;
     let mut session = Session::open(given.path(0), Lent::New, around)?;
-    let (image, kinds) = session.disc.lent();
-    let table = station::look_back(image, kinds, &mut session.ledger, k)?;
+    let (image, kinds, roles, ledger) = session.lent();
+    let table = station::look_back(image, kinds, roles, ledger, k)?;
     let map = Map::of(&session.ledger);
     session.keep_ledger()?;
     let text = format!("looking only, {k} back, table at block {table}\n{map}\n");
     say(around, text)
 }
 
-/// The ledger is the command's own, and no file is changed.
+/// Roles and ledger are the command's own, and no file is changed.
 pub fn time(given: &Arguments, around: &mut Surroundings) -> Done {
     let k = given.number(1)?;
     let mut session = Session::open(given.path(0), Lent::New, around)?;
-    let (image, kinds) = session.disc.lent();
-    let told = station::time_of(image, kinds, &session.ledger, k)?;
-    let table = station::look_back(image, kinds, &mut session.ledger, k)?;
+    let (image, kinds, roles, ledger) = session.lent();
+    let told = station::time_of(image, kinds, ledger, k)?;
+    let table = station::look_back(image, kinds, roles, ledger, k)?;
     let time = Time::of(&session.disc, table, told);
     drop(session);
     say(around, format!("{k} back: {time}\n"))

@@ -35,10 +35,9 @@ impl Closing {
 
     /// The table's block.
     pub fn record(&self, session: &mut Session) -> Result<u32, Failure> {
-        let (image, kinds) = session.disc.lent_to_record();
-        let ledger = &mut session.ledger;
+        let (image, kinds, roles, ledger) = session.lent_to_record();
         let (main, reserve, start) = (self.main, self.reserve, self.partition_start);
-        station::close_session(image, kinds, ledger, main, reserve, start)
+        station::close_session(image, kinds, roles, ledger, main, reserve, start)
             .map_err(|refusal| Failure::Refused(refusal, advice::of_closing(refusal)))
     }
 }

@@ -11,6 +11,7 @@ use crate::help;
 use crate::images::{export, import};
 use crate::listing::list;
 use crate::nearly::nearest;
+use crate::space;
 use crate::surroundings::{say, Surroundings};
 use crate::syntax::{self, Syntax};
 use crate::viewing::{read, view};
@@ -27,7 +28,7 @@ const fn command(
     Command { syntax, run }
 }
 
-static COMMANDS: [Command; 18] = [
+static COMMANDS: [Command; 20] = [
     command(&syntax::NEW, calls::new),
     command(&syntax::BEGIN, calls::begin),
     command(&syntax::MOUNT, calls::mount),
@@ -42,6 +43,8 @@ static COMMANDS: [Command; 18] = [
     command(&syntax::LOOK_BACK, calls::look_back),
     command(&syntax::TIME, calls::time),
     command(&syntax::LIST, list),
+    command(&syntax::SPACE, space::space),
+    command(&syntax::MAP, space::map),
     command(&syntax::IMPORT, import),
     command(&syntax::EXPORT, export),
     command(&syntax::CUT, cut),

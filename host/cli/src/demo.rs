@@ -37,7 +37,7 @@ enum Step {
 
 use Step::{Plain, Read, Remark, Store, View, Write};
 
-static STEPS: [Step; 44] = [
+static STEPS: [Step; 46] = [
     Remark("A blank disc of 31 sectors; two runs, three saves."),
     Plain("new run.disc 31"),
     Plain("begin run.disc"),
@@ -79,6 +79,8 @@ static STEPS: [Step; 44] = [
     Store(2000),
     Plain("commit long.disc"),
     View,
+    Remark("Where the space of this disc went; the first run still takes its part."),
+    Plain("space long.disc"),
     Remark("The save before still shows the first run."),
     Plain("look-back long.disc 1"),
     View,
@@ -132,6 +134,7 @@ impl Step {
         let mut inner = Surroundings {
             input: &mut input.as_bytes(),
             output: &mut shown,
+            screen: around.screen,
             aside: around.aside,
             watched: around.watched,
             disk: around.disk,

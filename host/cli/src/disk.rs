@@ -3,63 +3,69 @@
 
 use std::fs::{File, OpenOptions};
 use std::os::unix::fs::{FileExt, MetadataExt};
+use std::path::PathBuf;
 
 use crate::failure::{Done, Failure};
 use crate::files::{flush_folder, remove, Part, Place};
 
+/// A file of a disc that is changed in place.
+#[derive(Clone, Copy, Debug, PartialEq, Eq)]
+pub enum InPlace {
+    Disc,
+    Roles,
+}
+
+/// A file beside a disc, which a new one may replace as a whole.
+#[derive(Clone, Copy, Debug, PartialEq, Eq)]
+pub enum Beside {
+    Ledger,
+    Roles,
+}
+
 /// Until a flush, what was written may be on the disk or not, each piece of 512
-/// bytes by itself, and so may a ledger's new name or its removal.
+/// bytes by itself, and so may a file's new name or its removal.
 pub trait Disk {
-    /// Says whether the disc file can be written, and changes nothing.
-    fn open_disc(&mut self) -> Done;
-    /// Bytes of the disc file, at their place.
-    fn write_disc(&mut self, place: u64, bytes: &[u8]) -> Done;
-    fn flush_disc(&mut self) -> Done;
-    /// A new ledger file, beside the one that it is to replace.
-    fn write_ledger(&mut self, bytes: &[u8]) -> Done;
-    fn flush_ledger(&mut self) -> Done;
-    /// The new ledger takes the name of the old one.
-    fn name_ledger(&mut self) -> Done;
-    fn remove_ledger(&mut self) -> Done;
+    /// Says whether the file can be written, and changes nothing.
+    fn open(&mut self, file: InPlace) -> Done;
+    /// Bytes of the file, at their place.
+    fn write(&mut self, file: InPlace, place: u64, bytes: &[u8]) -> Done;
+    fn flush(&mut self, file: InPlace) -> Done;
+    /// A new file, beside the one that it is to replace.
+    fn make(&mut self, file: Beside, bytes: &[u8]) -> Done;
+    fn flush_made(&mut self, file: Beside) -> Done;
+    /// The new file takes the name of the old one.
+    fn name(&mut self, file: Beside) -> Done;
+    fn remove(&mut self, file: Beside) -> Done;
     fn flush_folder(&mut self) -> Done;
 }
 
-/// The files of one disc, in their folder.
-pub struct Files {
-    place: Place,
-    /// The disc file that was loaded, locked, and the length that it had.
-    loaded: File,
+/// A file that was loaded, and the length that it had.
+pub struct Loaded {
+    path: PathBuf,
+    file: File,
     length: u64,
     /// The same, once it is open for writing.
-    disc: Option<File>,
-    ledger: Option<Part>,
+    opened: Option<File>,
 }
 
-impl Files {
-    pub fn of(place: Place, loaded: File, length: u64) -> Files {
-        Files {
-            place,
-            loaded,
+impl Loaded {
+    pub fn of(path: PathBuf, file: File, length: u64) -> Loaded {
+        let opened = None;
+        Loaded {
+            path,
+            file,
             length,
-            disc: None,
-            ledger: None,
+            opened,
         }
     }
 
-    fn disc(&self) -> Result<&File, Failure> {
-        let closed = || Failure::unwritable(&self.place.disc, "it is not open");
-        self.disc.as_ref().ok_or_else(closed)
-    }
-}
-
-impl Disk for Files {
-    /// A disc file that its owner protected is not to change, even where the
-    /// system would allow it; and what is written belongs to the file that was
-    /// loaded, of the length that it had.
-    fn open_disc(&mut self) -> Done {
-        let path = &self.place.disc;
+    /// A file that its owner protected is not to change, even where the system would
+    /// allow it; and what is written belongs to the file that was loaded, of the
+    /// length that it had.
+    fn open(&mut self) -> Done {
+        let path = &self.path;
         let unwritable = |error| Failure::unwritable(path, error);
-        let loaded = self.loaded.metadata().map_err(unwritable)?;
+        let loaded = self.file.metadata().map_err(unwritable)?;
         if loaded.permissions().readonly() {
             return Err(Failure::unwritable(path, "it is write-protected"));
         }
@@ -73,36 +79,96 @@ impl Disk for Files {
         if about.len() != self.length {
             return Err(Failure::unwritable(path, "its length changed meanwhile"));
         }
-        self.disc = Some(file);
+        self.opened = Some(file);
         Ok(())
     }
 
-    fn write_disc(&mut self, place: u64, bytes: &[u8]) -> Done {
-        let written = self.disc()?.write_all_at(bytes, place);
-        written.map_err(|error| Failure::unwritable(&self.place.disc, error))
+    fn opened(&self) -> Result<&File, Failure> {
+        let closed = || Failure::unwritable(&self.path, "it is not open");
+        self.opened.as_ref().ok_or_else(closed)
     }
 
-    fn flush_disc(&mut self) -> Done {
-        let flushed = self.disc()?.sync_data();
-        flushed.map_err(|error| Failure::unwritable(&self.place.disc, error))
+    fn write(&self, place: u64, bytes: &[u8]) -> Done {
+        let written = self.opened()?.write_all_at(bytes, place);
+        written.map_err(|error| Failure::unwritable(&self.path, error))
     }
 
-    fn write_ledger(&mut self, bytes: &[u8]) -> Done {
-        let part = Part::make(&self.place.ledger, |part| part.write(bytes))?;
-        self.ledger = Some(part);
+    fn flush(&self) -> Done {
+        let flushed = self.opened()?.sync_data();
+        flushed.map_err(|error| Failure::unwritable(&self.path, error))
+    }
+}
+
+/// The files of one disc, in their folder.
+pub struct Files {
+    place: Place,
+    /// Locked.
+    disc: Loaded,
+    /// If there is one.
+    roles: Option<Loaded>,
+    new_ledger: Option<Part>,
+    new_roles: Option<Part>,
+}
+
+impl Files {
+    pub fn of(place: Place, disc: Loaded, roles: Option<Loaded>) -> Files {
+        Files {
+            place,
+            disc,
+            roles,
+            new_ledger: None,
+            new_roles: None,
+        }
+    }
+
+    fn loaded(&mut self, file: InPlace) -> Result<&mut Loaded, Failure> {
+        let missing = Failure::unwritable(&self.place.roles, "it was not loaded");
+        match file {
+            InPlace::Disc => Ok(&mut self.disc),
+            InPlace::Roles => self.roles.as_mut().ok_or(missing),
+        }
+    }
+
+    /// The file's path, and the new one without a name yet.
+    fn beside(&mut self, file: Beside) -> (&PathBuf, &mut Option<Part>) {
+        match file {
+            Beside::Ledger => (&self.place.ledger, &mut self.new_ledger),
+            Beside::Roles => (&self.place.roles, &mut self.new_roles),
+        }
+    }
+}
+
+impl Disk for Files {
+    fn open(&mut self, file: InPlace) -> Done {
+        self.loaded(file)?.open()
+    }
+
+    fn write(&mut self, file: InPlace, place: u64, bytes: &[u8]) -> Done {
+        self.loaded(file)?.write(place, bytes)
+    }
+
+    fn flush(&mut self, file: InPlace) -> Done {
+        self.loaded(file)?.flush()
+    }
+
+    fn make(&mut self, file: Beside, bytes: &[u8]) -> Done {
+        let (path, new) = self.beside(file);
+        *new = Some(Part::make(path, |part| part.write(bytes))?);
         Ok(())
     }
 
-    fn flush_ledger(&mut self) -> Done {
-        self.ledger.as_ref().map_or(Ok(()), Part::flush)
+    fn flush_made(&mut self, file: Beside) -> Done {
+        let (_, new) = self.beside(file);
+        new.as_ref().map_or(Ok(()), Part::flush)
     }
 
-    fn name_ledger(&mut self) -> Done {
-        self.ledger.take().map_or(Ok(()), Part::put_in_place)
+    fn name(&mut self, file: Beside) -> Done {
+        let (_, new) = self.beside(file);
+        new.take().map_or(Ok(()), Part::put_in_place)
     }
 
-    fn remove_ledger(&mut self) -> Done {
-        remove(&self.place.ledger)
+    fn remove(&mut self, file: Beside) -> Done {
+        remove(self.beside(file).0)
     }
 
     fn flush_folder(&mut self) -> Done {
@@ -116,8 +182,8 @@ mod tests {
     use std::fs::{self, File};
     use std::process;
 
-    use super::{Disk, Files};
-    use crate::files::{ledger_beside, Place};
+    use super::{Disk, Files, InPlace, Loaded};
+    use crate::files::Place;
 
     /// A disc file that changed since it was loaded is not written.
     #[test]
@@ -125,12 +191,11 @@ mod tests {
         let disc = env::temp_dir().join(format!("station-another-{}", process::id()));
         let new = disc.with_extension("new");
         let loaded = |length| {
-            let ledger = ledger_beside(&disc);
-            let disc = disc.clone();
+            let place = Place::named(disc.clone());
             let file = File::open(&disc).expect("the file");
-            Files::of(Place { disc, ledger }, file, length)
+            Files::of(place, Loaded::of(disc.clone(), file, length), None)
         };
-        let told = |mut files: Files| files.open_disc().err().map(|told| told.to_string());
+        let told = |mut files: Files| files.open(InPlace::Disc).err().map(|told| told.to_string());
         fs::write(&disc, "disc").expect("a file");
         assert!(told(loaded(4)).is_none());
         let longer = told(loaded(3)).expect("refused");

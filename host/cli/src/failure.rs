@@ -29,6 +29,8 @@ pub enum Failure {
     /// The answer cannot be written to standard output, or what is told beside it
     /// to standard error.
     Output(io::Error),
+    /// The disc's roles are not known.
+    RolesUnknown(PathBuf),
     /// The core refused, and what to do.
     Refused(Refusal, &'static str),
 }
@@ -47,6 +49,7 @@ impl Failure {
             Failure::Usage(..) => 64,
             Failure::NoDisc(..) | Failure::NoImage(..) | Failure::NoRun(..) => 65,
             Failure::Unreadable(..) => 66,
+            Failure::RolesUnknown(_) => 69,
             Failure::Unwritable(..) => 73,
             Failure::Output(_) => 74,
             Failure::Refused(refusal, _) => refusal.number() as u8,
@@ -88,6 +91,11 @@ impl fmt::Display for Failure {
                     "station: {} cannot be written: {reason}",
                     file.display()
                 )
+            }
+            Failure::RolesUnknown(disc) => {
+                let disc = disc.display();
+                writeln!(out, "station: where the space of {disc} went is not known")?;
+                writeln!(out, "{}", advice::ROLES_UNKNOWN)
             }
             // Whoever closed the pipe has seen enough.
             Failure::Output(error) if error.kind() == ErrorKind::BrokenPipe => Ok(()),

@@ -1,4 +1,4 @@
-//! Files: where the ledger lies, one command at a time on a disc, what may be
+//! Files: where ledger and roles lie, one command at a time on a disc, what may be
 //! opened, and replacing a file in one step.
 
 use std::ffi::OsString;
@@ -11,35 +11,39 @@ use std::process;
 use crate::failure::{Done, Failure};
 use crate::lock;
 
-/// A disc file and its ledger, by their real names: a link to a disc file stays
-/// a link, and the ledger is the same whichever name the operator types.
+/// A disc file, its ledger and its roles, by their real names: a link to a disc file
+/// stays a link, and the others are the same whichever name the operator types.
 #[derive(Clone)]
 pub struct Place {
     pub disc: PathBuf,
     pub ledger: PathBuf,
+    pub roles: PathBuf,
 }
 
 impl Place {
     pub fn of(disc: &Path) -> Result<Place, Failure> {
         let real = fs::canonicalize(disc).map_err(|error| Failure::unreadable(disc, error))?;
-        let ledger = ledger_beside(&real);
-        Ok(Place { disc: real, ledger })
+        Ok(Place::named(real))
     }
 
-    /// Whether a file is one of the two, by whatever name, or would be if it were
+    /// The disc file's name, and that with `.ledger` and with `.roles`.
+    pub fn named(disc: PathBuf) -> Place {
+        Place {
+            ledger: with_suffix(&disc, ".ledger"),
+            roles: with_suffix(&disc, ".roles"),
+            disc,
+        }
+    }
+
+    /// Whether a file is one of the three, by whatever name, or would be if it were
     /// there.
     pub fn has(&self, file: &Path) -> bool {
         let real = fs::canonicalize(file).or_else(|_| {
             let folder = fs::canonicalize(folder_of(file));
             folder.map(|folder| folder.join(file.file_name().unwrap_or_default()))
         });
-        real.is_ok_and(|real| real == self.disc || real == self.ledger)
+        real.is_ok_and(|real| [&self.disc, &self.ledger, &self.roles].contains(&&real))
     }
-}
-
-/// The disc file's name and `.ledger`.
-pub fn ledger_beside(disc: &Path) -> PathBuf {
-    with_suffix(disc, ".ledger")
 }
 
 fn with_suffix(path: &Path, suffix: &str) -> PathBuf {

@@ -19,6 +19,8 @@ Usage: station COMMAND DISC ...
   look-back DISC K      show the save K before the newest, looking only
   time DISC K           when the save K before the newest was made
   list DISC             every save, newest first
+  space DISC            where the space went: sectors in use, superseded, ..
+  map DISC              the same, drawn sector by sector
   import IMAGE DISC     make a disc file of another deck's raw image
   export DISC IMAGE     give the raw sectors back
   cut J COMMAND ...     what a power cut leaves of a command that records
@@ -26,12 +28,13 @@ Usage: station COMMAND DISC ...
 
 'station COMMAND --help' tells more. '--version' tells the version.
 
-DISC is a file; its ledger is kept beside it in DISC.ledger. Until a commit,
-only the ledger knows where a written block lies.
+DISC is a file; its ledger is kept beside it in DISC.ledger, and the roles of
+its sectors in DISC.roles. Until a commit, only the ledger knows where a written
+block lies.
 
 Exit status: 0 done; 1 to 20 the refusal's number; 64 wrong command line; 65
-the file is no disc, no raw image or no run; 66 a file cannot be read; 73 a
-file cannot be written; 74 the answer cannot be told.
+the file is no disc, no raw image or no run; 66 a file cannot be read; 69 the
+roles are not known; 73 a file cannot be written; 74 the answer cannot be told.
 ";
 
 pub const NEW: &str = "\
@@ -182,6 +185,38 @@ and the number. If the disc is closed, standard error says so. Changes nothing.
             UTC; 'no zone' where none was given, 'no time' where it has none
 ";
 
+pub const SPACE: &str = "\
+Usage: station space DISC
+
+Where the space went: how many sectors have each role, their share of the disc,
+and what took the most. Changes nothing.
+
+  in use             a number names the block
+  superseded         no number names it: written again or released; after a
+                     mount, also what is not in the save, and blocks of runs
+  without a number   blocks of runs, and those of a closing before its table,
+                     recorded since the last begin, mount or look-back
+  table              one for each save
+  link               seven where recording goes on after a close or a mount
+  unreadable         left by a power cut, or damaged
+  blank              not recorded yet
+
+The roles are kept beside the disc, in DISC.roles. They are not known (exit
+status 69) after a power cut and where that file is missing or not up to date:
+begin, mount and look-back work them out anew.
+";
+
+pub const MAP: &str = "\
+Usage: station map DISC [--svg FILE]
+
+The disc drawn from block 0 on, by the role of each sector; 'station space
+--help' tells what the roles mean. In colours on a terminal, else, and where
+NO_COLOR is set, in letters. Changes nothing of the disc.
+
+  --svg FILE   make a picture in FILE instead, which a browser shows; overwrites
+               nothing; - is standard output
+";
+
 pub const IMPORT: &str = "\
 Usage: station import IMAGE DISC --start N [--sectors M]
 
@@ -212,9 +247,9 @@ Usage: station cut J [--torn] write DISC V [--from FILE] [--pad]
                       --reserve LENGTH,LOCATION --start N
 
 What a power cut leaves of this write, store, commit or closing: the first J of
-the sectors that it would record, and no ledger. Changes the disc file; try it
-on a copy. A command that would be refused is refused, and then nothing is
-changed.
+the sectors that it would record, and neither ledger nor roles. Changes the disc
+file; try it on a copy. A command that would be refused is refused, and then
+nothing is changed.
 
   --torn   leave the next sector unreadable instead of blank
 ";
@@ -223,7 +258,8 @@ pub const DEMO: &str = "\
 Usage: station demo [--keep FOLDER]
 
 Records a disc of 31 sectors, cuts the power inside a commit, and shows that the
-last finished save is there; then a run longer than a block on another disc.
+last finished save is there; then a run longer than a block on another disc, and
+where that one's space went.
 Each step as an operator types it, with its output.
 
   --keep FOLDER   work in FOLDER and leave the files there

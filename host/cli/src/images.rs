@@ -104,7 +104,7 @@ pub fn export(given: &Arguments, around: &mut Surroundings) -> Done {
     let path = given.path(1);
     let session = Session::open(given.path(0), Lent::New, around)?;
     if session.place.has(path) {
-        return Err(given.wrong("IMAGE names the disc or its ledger".into()));
+        return Err(given.wrong("IMAGE names the disc, its ledger or its roles".into()));
     }
     let (image, kinds) = session.disc.lent();
     let sectors = session.disc.used();

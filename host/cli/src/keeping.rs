@@ -18,10 +18,23 @@
 //! A ledger that is ahead of its disc would be refused with 4 as well, but as soon
 //! as other sectors were recorded there, it might fit and name them for what they
 //! are not. One that is behind never fits again: a disc's recorded only grows.
+//!
+//! The roles are on the disk, with a copy of the new ledger, before that ledger takes
+//! its name; what they are until then is believed by no command:
+//!
+//! - Of a call that recorded, the few bytes that changed are written in place, since
+//!   a whole file would cost a byte for each sector of the disc. They wait until the
+//!   sectors are recorded: from then on the old ledger is behind its disc, and only
+//!   begin, mount and look back are done, which make the roles anew.
+//! - Of a release or a closed packet, whose old ledger still fits, the copy is written
+//!   first, and a flush. From then on the file belongs to no ledger that is there.
+//! - Begin, mount and look back make a whole new file, which takes its name first.
+//! - A file that is not believed already is removed first: half written, it might
+//!   belong to a ledger that comes later.
 
 use station::Sector;
 
-use crate::disk::Disk;
+use crate::disk::{Beside, Disk, InPlace};
 use crate::failure::Done;
 use crate::form::{digit, Disc};
 
@@ -70,18 +83,18 @@ impl<'a> Recording<'a> {
 
     fn keep(&self, disk: &mut dyn Disk) -> Done {
         for (place, bytes) in &self.data {
-            disk.write_disc(*place, bytes)?;
+            disk.write(InPlace::Disc, *place, bytes)?;
         }
         if !self.data.is_empty() {
-            disk.flush_disc()?;
+            disk.flush(InPlace::Disc)?;
         }
         let mut place = self.digits_place;
         let mut left = &self.digits[..];
         while !left.is_empty() {
             let room = (PIECE - place % PIECE) as usize;
             let (digits, behind) = left.split_at(room.min(left.len()));
-            disk.write_disc(place, digits)?;
-            disk.flush_disc()?;
+            disk.write(InPlace::Disc, place, digits)?;
+            disk.flush(InPlace::Disc)?;
             place += digits.len() as u64;
             left = behind;
         }
@@ -89,30 +102,85 @@ impl<'a> Recording<'a> {
     }
 }
 
+/// What is to become of the role file.
+pub enum Roles<'a> {
+    /// A new one, with these roles.
+    Anew(&'a [u8]),
+    /// The one that is there is right but for these stretches, each at its place.
+    Changed(Vec<(u64, &'a [u8])>),
+    /// The one that is there is not believed, and the roles stay unknown.
+    Stale,
+    /// There is none, and the roles stay unknown.
+    Missing,
+}
+
+impl Roles<'_> {
+    /// Says whether the file can be written, and changes nothing.
+    fn open(&self, disk: &mut dyn Disk) -> Done {
+        match self {
+            Roles::Changed(_) => disk.open(InPlace::Roles),
+            _ => Ok(()),
+        }
+    }
+
+    /// Before the ledger takes its name. `behind` says that the old one does not fit
+    /// any more.
+    fn keep(&self, disk: &mut dyn Disk, ledger: &[u8], behind: bool) -> Done {
+        match self {
+            Roles::Anew(roles) => {
+                disk.make(Beside::Roles, &[ledger, roles].concat())?;
+                disk.flush_made(Beside::Roles)?;
+                disk.name(Beside::Roles)?;
+                disk.flush_folder()
+            }
+            Roles::Changed(stretches) => {
+                disk.write(InPlace::Roles, 0, ledger)?;
+                if !behind && !stretches.is_empty() {
+                    disk.flush(InPlace::Roles)?;
+                }
+                for (place, roles) in stretches {
+                    disk.write(InPlace::Roles, *place, roles)?;
+                }
+                disk.flush(InPlace::Roles)
+            }
+            Roles::Stale => {
+                disk.remove(Beside::Roles)?;
+                disk.flush_folder()
+            }
+            Roles::Missing => Ok(()),
+        }
+    }
+}
+
 /// After a call that records nothing: the disc file is left alone.
-pub fn keep_ledger(disk: &mut dyn Disk, ledger: &[u8]) -> Done {
-    disk.write_ledger(ledger)?;
-    disk.flush_ledger()?;
-    disk.name_ledger()?;
+pub fn keep_ledger(disk: &mut dyn Disk, ledger: &[u8], roles: &Roles) -> Done {
+    roles.open(disk)?;
+    disk.make(Beside::Ledger, ledger)?;
+    disk.flush_made(Beside::Ledger)?;
+    roles.keep(disk, ledger, false)?;
+    disk.name(Beside::Ledger)?;
     disk.flush_folder()
 }
 
 /// After a call that recorded. The ledger is whole before the first sector is
 /// recorded, so that a full disk is met while nothing is changed.
-pub fn keep_both(disk: &mut dyn Disk, recording: &Recording, ledger: &[u8]) -> Done {
-    disk.open_disc()?;
-    disk.write_ledger(ledger)?;
-    disk.flush_ledger()?;
+pub fn keep_both(disk: &mut dyn Disk, recording: &Recording, ledger: &[u8], roles: &Roles) -> Done {
+    disk.open(InPlace::Disc)?;
+    roles.open(disk)?;
+    disk.make(Beside::Ledger, ledger)?;
+    disk.flush_made(Beside::Ledger)?;
     recording.keep(disk)?;
-    disk.name_ledger()?;
+    roles.keep(disk, ledger, true)?;
+    disk.name(Beside::Ledger)?;
     disk.flush_folder()
 }
 
-/// After a cut. The ledger goes first: a crash between the two leaves what a cut
-/// before the first sector leaves.
+/// After a cut. Ledger and roles go first: a crash between them and the disc leaves
+/// what a cut before the first sector leaves.
 pub fn keep_cut(disk: &mut dyn Disk, recording: &Recording) -> Done {
-    disk.open_disc()?;
-    disk.remove_ledger()?;
+    disk.open(InPlace::Disc)?;
+    disk.remove(Beside::Ledger)?;
+    disk.remove(Beside::Roles)?;
     disk.flush_folder()?;
     recording.keep(disk)
 }

@@ -7,7 +7,7 @@ use crate::arguments::Arguments;
 use crate::closing;
 use crate::failure::{Done, Failure};
 use crate::form::Disc;
-use crate::map::Map;
+use crate::saves::{each_save, Counted};
 use crate::session::{Lent, Session};
 use crate::surroundings::{say, say_aside, Surroundings};
 use crate::times::Time;
@@ -22,8 +22,7 @@ fn refused(number: u32) -> String {
     format!("refused{number:4}\n")
 }
 
-/// Prints the listing, and ends with the refusal that it tells, if any. The
-/// ledger is the listing's own, and no file is changed. That a disc is closed is told
+/// Prints the listing, and ends with the refusal that it tells, if any. That a disc is closed is told
 /// beside the listing, since document 01 has every line of it, down to the last one.
 pub fn list(given: &Arguments, around: &mut Surroundings) -> Done {
     let session = match Session::open(given.path(0), Lent::New, around) {
@@ -44,52 +43,32 @@ pub fn list(given: &Arguments, around: &mut Surroundings) -> Done {
 
 /// The text, and the refusal if mount is refused or the saves are broken.
 pub fn listing(disc: &Disc, times: bool) -> (String, Option<Refusal>) {
-    let mut ledger = [0; LEDGER];
-    let (image, kinds) = disc.lent();
-    let clean = match station::mount(image, kinds, &mut ledger) {
-        Ok(clean) => clean,
-        Err(refusal) => return (refused(refusal.number()), Some(refusal)),
-    };
     let behind = if times { HEADING_OF_TIMES } else { "" };
     let mut text = format!("{HEADING}{behind}\n");
-    for k in 0.. {
-        let map = Map::of(&ledger);
+    let mut k = 0;
+    let counted = each_save(disc, |map| {
         let (block, size, used) = (map.table, map.size, map.used.len());
         text += &format!("{k:4}{block:8}{size:6}{used:6}");
         if times {
             text += &time_columns(disc, block);
         }
         text += "\n";
-        match step_back(disc, block, &mut ledger) {
-            Ok(_) => {}
-            // "refusal 9 ends the rows"
-            Err(Refusal::ChainEnded) => break,
-            Err(refusal) => return (text + "broken\n", Some(refusal)),
-        }
+        k += 1;
+    });
+    match counted {
+        Err(refusal) => return (refused(refusal.number()), Some(refusal)),
+        Ok(Counted { broken, .. }) if broken.is_some() => return (text + "broken\n", broken),
+        Ok(Counted { clean, .. }) => text += if clean { "clean\n" } else { "dirty\n" },
     }
-    text += if clean { "clean\n" } else { "dirty\n" };
     (text, None)
 }
 
-/// The disc that ends with this table. Mount would find the table there, so what
-/// is counted back from it is what the whole disc has further back; counting from
-/// the newest table for every row would make long listings slow.
-fn ending_with(disc: &Disc, table: u32) -> (&[u8], &[u8]) {
+/// When the save was made whose table stands at this block: the newest one of the
+/// disc that ends with it.
+fn time_columns(disc: &Disc, table: u32) -> String {
     let sectors = table as usize + 1;
     let (image, kinds) = disc.lent();
-    (&image[..sectors * SECTOR], &kinds[..sectors])
-}
-
-/// From the table at this block to its previous one: the step that look back k + 1
-/// takes last on the whole disc.
-fn step_back(disc: &Disc, table: u32, ledger: &mut [u8]) -> Result<u32, Refusal> {
-    let (image, kinds) = ending_with(disc, table);
-    station::look_back(image, kinds, ledger, 1)
-}
-
-/// When the save was made whose table stands at this block.
-fn time_columns(disc: &Disc, table: u32) -> String {
-    let (image, kinds) = ending_with(disc, table);
+    let (image, kinds) = (&image[..sectors * SECTOR], &kinds[..sectors]);
     match station::time_of(image, kinds, &[0; LEDGER], 0) {
         Ok(told) => {
             let time = Time::of(disc, table, told);

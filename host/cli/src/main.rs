@@ -1,24 +1,28 @@
 //! `station`: a disc kept in a file, and on it the calls of the recording core,
-//! runs longer than a block, the listing, a simulated power cut, and raw images for
-//! other decks.
+//! runs longer than a block, the listing, where the space went, a simulated power
+//! cut, and raw images for other decks.
 //!
 //! The program keeps no rule of the disc itself: it lends files to the core and
 //! tells what the core answers. Each room uses only those below it:
 //!
 //! - `commands`: the command line;
-//! - `calls`, `cut`, `demo`, `images`, `listing`, `viewing`: what the commands do;
+//! - `calls`, `cut`, `demo`, `images`, `listing`, `space`, `viewing`: what the commands
+//!   do;
 //! - `storing`, `writing`, `closing`: the calls that record, whole or to be cut;
-//! - `session`: disc and ledger of one command;
+//! - `session`: disc, roles and ledger of one command;
 //! - `keeping`: the order in which they are kept;
 //! - `surroundings`: the streams and the disk that a command is given;
 //! - `disk`: the steps of keeping, on files;
 //! - `making`: a file where there is none, a disc's or another;
 //! - `files`: names, locks, and replacing a file in one step;
 //! - `times`: when a save was made, in words;
-//! - `form`: the disc file's form; `map`: what the ledger says;
+//! - `saves`: every save of a disc, newest first;
+//! - `drawing`: a disc drawn, by the roles of its sectors;
+//! - `form`: the disc file's form; `roles`: the role file's;
+//! - `ledger`: what the ledger says;
 //! - `arguments`, `syntax`, `help`, `nearly`: the words of a command line;
 //! - `stamps`: the time that a save is to carry; `calendar`: dates;
-//! - `mapping`, `lock`, `clock`: what is asked of the system;
+//! - `mapping`, `lock`, `clock`, `screen`: what is asked of the system;
 //! - `failure`, `advice`: what can go wrong, in words and as an exit status.
 
 #![deny(unsafe_code)]
@@ -36,21 +40,27 @@ mod crashes;
 mod cut;
 mod demo;
 mod disk;
+mod drawing;
 mod failure;
 mod files;
 mod form;
 mod help;
 mod images;
 mod keeping;
+mod ledger;
 mod listing;
 #[allow(unsafe_code)]
 mod lock;
 mod making;
-mod map;
 #[allow(unsafe_code)]
 mod mapping;
 mod nearly;
+mod roles;
+mod saves;
+#[allow(unsafe_code)]
+mod screen;
 mod session;
+mod space;
 mod stamps;
 mod storing;
 mod surroundings;
@@ -65,6 +75,7 @@ use std::io::{self, IsTerminal, Write};
 use std::process::ExitCode;
 
 use failure::Failure;
+use screen::Screen;
 use surroundings::Surroundings;
 
 fn main() -> ExitCode {
@@ -72,6 +83,7 @@ fn main() -> ExitCode {
     let mut around = Surroundings {
         input: &mut io::stdin(),
         output: &mut io::stdout(),
+        screen: Screen::of_output(),
         aside: &mut io::stderr(),
         watched: io::stderr().is_terminal(),
         disk: &|files| Box::new(files),

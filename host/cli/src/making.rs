@@ -6,7 +6,7 @@ use std::io::ErrorKind;
 use std::path::Path;
 
 use crate::failure::{Done, Failure};
-use crate::files::{folder_of, ledger_beside, lock_folder, replace, Part};
+use crate::files::{folder_of, lock_folder, replace, Part, Place};
 use crate::form;
 
 /// Makes a disc file whose first sectors are data, for `fill` to write, and the
@@ -18,8 +18,9 @@ pub fn make_disc(
     fill: impl FnOnce(&Part) -> Done,
 ) -> Done {
     let _lock = lock_folder(folder_of(path))?;
-    // It would be lent to the new disc, and belongs to another.
-    if ledger_beside(path).exists() {
+    // It would be lent to the new disc, and belongs to another. Roles without their
+    // ledger are believed by no command.
+    if Place::named(path.to_path_buf()).ledger.exists() {
         return Err(Failure::unwritable(path, "its ledger is there already"));
     }
     make(path, form::whole_length(sectors), |part| {

@@ -1,4 +1,4 @@
-//! Disc and ledger of one command: lent from their files, and kept.
+//! Disc, roles and ledger of one command: lent from their files, and kept.
 
 use std::fs::File;
 use std::io::ErrorKind;
@@ -6,28 +6,43 @@ use std::path::Path;
 
 use station::LEDGER;
 
-use crate::disk::{Disk, Files};
+use crate::disk::{Disk, Files, Loaded};
 use crate::failure::{Done, Failure};
 use crate::files::{folder_of, lock, lock_folder, open, read_at_most, unlock, Place};
 use crate::form::Disc;
-use crate::keeping::{self, Recording};
+use crate::keeping::{self, Recording, Roles};
+use crate::roles;
 use crate::surroundings::Surroundings;
 
-/// Which ledger a call is lent.
+/// Which ledger and which roles a call is lent.
 pub enum Lent {
-    /// The one in the file. It may be of another length or hold anything: the
-    /// core tests it.
+    /// Those in the files. The ledger may be of another length or hold anything: the
+    /// core tests it. Roles that are not believed are not lent, but others, which no
+    /// call reads and which are not kept.
     Kept,
-    /// A new one, for begin, mount and look back, which do not read it: so they
-    /// are done whatever a power cut left of the file.
+    /// New ones, for begin, mount and look back, which do not read them: so they
+    /// are done whatever a power cut left of the files.
     New,
 }
 
-/// The two files are locked until the session ends.
+/// What is known of the role file.
+enum RoleFile {
+    /// It does not matter: there are new roles.
+    Replaced,
+    /// These roles are in it, and are right.
+    Right(Vec<u8>),
+    Stale,
+    Missing,
+}
+
+/// The files are locked until the session ends.
 pub struct Session {
     pub place: Place,
     pub disc: Disc,
+    /// As many as the disc has sectors.
+    pub roles: Vec<u8>,
     pub ledger: Vec<u8>,
+    role_file: RoleFile,
     disk: Box<dyn Disk>,
     /// The disc file, by which its lock can be given back.
     file: File,
@@ -44,15 +59,27 @@ impl Session {
         let disc = Disc::load(&file, name)?;
         let same = file.try_clone();
         let same = same.map_err(|error| Failure::unreadable(name, error))?;
-        let ledger = match lent {
-            Lent::Kept => kept_ledger(&place.ledger)?,
-            Lent::New => vec![0; LEDGER],
+        let (_, kinds) = disc.lent();
+        let (ledger, role_file, opened) = match lent {
+            Lent::Kept => {
+                let ledger = kept_ledger(&place.ledger)?;
+                let (role_file, opened) = kept_roles(&place.roles, &ledger, kinds);
+                (ledger, role_file, opened)
+            }
+            Lent::New => (vec![0; LEDGER], RoleFile::Replaced, None),
         };
-        let files = Files::of(place.clone(), file, disc.length());
+        let roles = match &role_file {
+            RoleFile::Right(roles) => roles.clone(),
+            _ => vec![0; kinds.len()],
+        };
+        let loaded = Loaded::of(place.disc.clone(), file, disc.length());
+        let files = Files::of(place.clone(), loaded, opened);
         Ok(Session {
             place,
             disc,
+            roles,
             ledger,
+            role_file,
             disk: (around.disk)(files),
             file: same,
             _lock: folder,
@@ -67,15 +94,34 @@ impl Session {
         Ok((self.disc, self.ledger))
     }
 
+    /// Image, kinds, roles and ledger, for a call that records.
+    pub fn lent_to_record(&mut self) -> (&mut [u8], &mut [u8], &mut [u8], &mut [u8]) {
+        let (image, kinds) = self.disc.lent_to_record();
+        (image, kinds, &mut self.roles, &mut self.ledger)
+    }
+
+    /// The same, for a call that alters only the last two.
+    pub fn lent(&mut self) -> (&[u8], &[u8], &mut [u8], &mut [u8]) {
+        let (image, kinds) = self.disc.lent();
+        (image, kinds, &mut self.roles, &mut self.ledger)
+    }
+
+    /// Whether the roles that are lent are those that the call before left.
+    pub fn knows_roles(&self) -> bool {
+        matches!(self.role_file, RoleFile::Right(_))
+    }
+
     /// After a call that records nothing.
     pub fn keep_ledger(mut self) -> Done {
-        keeping::keep_ledger(&mut *self.disk, &self.ledger)
+        let roles = kept(&self.role_file, &self.roles);
+        keeping::keep_ledger(&mut *self.disk, &self.ledger, &roles)
     }
 
     /// After a call that recorded.
     pub fn keep_both(mut self) -> Done {
         let recording = Recording::whole(&self.disc);
-        keeping::keep_both(&mut *self.disk, &recording, &self.ledger)
+        let roles = kept(&self.role_file, &self.roles);
+        keeping::keep_both(&mut *self.disk, &recording, &self.ledger, &roles)
     }
 
     /// After a call that recorded: so many of its sectors are kept, and perhaps
@@ -98,5 +144,38 @@ fn kept_ledger(path: &Path) -> Result<Vec<u8>, Failure> {
     match opened {
         Err(error) if error.kind() == ErrorKind::NotFound => Ok(vec![0; LEDGER]),
         read => read.map_err(|error| Failure::unreadable(path, error)),
+    }
+}
+
+/// What is known of the roles in the file, and the file if they are right. One that
+/// cannot be read is not believed: no command needs the roles to read or record. Of a
+/// file that is longer, one byte too many says so.
+fn kept_roles(path: &Path, ledger: &[u8], kinds: &[u8]) -> (RoleFile, Option<Loaded>) {
+    let length = roles::whole_length(kinds.len());
+    let read = File::open(path).and_then(|mut file| {
+        let bytes = read_at_most(&mut file, length + 1)?;
+        Ok((file, bytes))
+    });
+    let (file, bytes) = match read {
+        Err(error) if error.kind() == ErrorKind::NotFound => return (RoleFile::Missing, None),
+        Err(_) => return (RoleFile::Stale, None),
+        Ok(read) => read,
+    };
+    match roles::known(&bytes, ledger, kinds) {
+        None => (RoleFile::Stale, None),
+        Some(right) => {
+            let loaded = Loaded::of(path.to_path_buf(), file, length as u64);
+            (RoleFile::Right(right.to_vec()), Some(loaded))
+        }
+    }
+}
+
+/// What is to become of the file, now that these are the roles.
+fn kept<'a>(file: &RoleFile, now: &'a [u8]) -> Roles<'a> {
+    match file {
+        RoleFile::Replaced => Roles::Anew(now),
+        RoleFile::Right(before) => Roles::Changed(roles::changed(before, now)),
+        RoleFile::Stale => Roles::Stale,
+        RoleFile::Missing => Roles::Missing,
     }
 }

@@ -70,8 +70,8 @@ impl Storing {
         let (image, kinds) = session.disc.lent_to_record();
         let sectors = kinds.len().saturating_sub(self.blocks()).max(used).max(1);
         let (image, kinds) = (&mut image[..sectors * SECTOR], &mut kinds[..sectors]);
-        let ledger = &mut session.ledger.clone();
-        station::write(image, kinds, ledger, self.v, &[0; SECTOR]).map_err(refused)?;
+        let (roles, ledger) = (&mut vec![0; sectors], &mut session.ledger.clone());
+        station::write(image, kinds, roles, ledger, self.v, &[0; SECTOR]).map_err(refused)?;
         session.disc.take_back();
         Ok(())
     }
@@ -92,8 +92,8 @@ impl Storing {
         let mut next = 0;
         for number in 0..blocks {
             let block = self.block(number)?;
-            let (image, kinds) = session.disc.lent_to_record();
-            let recorded = station::write_unnumbered(image, kinds, &mut session.ledger, &block);
+            let (image, kinds, roles, ledger) = session.lent_to_record();
+            let recorded = station::write_unnumbered(image, kinds, roles, ledger, &block);
             next = recorded.map_err(refused)? + 1;
         }
         let extent = Extent {
@@ -101,8 +101,8 @@ impl Storing {
             location: next - blocks as u32,
         };
         let entry = station::file_entry(&[extent], next);
-        let (image, kinds) = session.disc.lent_to_record();
-        station::write(image, kinds, &mut session.ledger, self.v, &entry).map_err(refused)
+        let (image, kinds, roles, ledger) = session.lent_to_record();
+        station::write(image, kinds, roles, ledger, self.v, &entry).map_err(refused)
     }
 
     /// The next block of the run, whose number this is; behind its end zeros.
@@ -148,6 +148,7 @@ mod tests {
     use std::io;
 
     use super::{Storing, LONG};
+    use crate::screen::Screen;
     use crate::surroundings::Surroundings;
     use station::SECTOR;
 
@@ -163,6 +164,7 @@ mod tests {
         let mut around = Surroundings {
             input: &mut io::empty(),
             output: &mut io::sink(),
+            screen: Screen::PLAIN,
             aside: &mut aside,
             watched,
             disk: &|files| Box::new(files),

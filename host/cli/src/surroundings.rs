@@ -5,11 +5,14 @@ use std::io::{Read, Write};
 
 use crate::disk::{Disk, Files};
 use crate::failure::{Done, Failure};
+use crate::screen::Screen;
 
 /// Of the terminal and the computer; the demo has its own input and output.
 pub struct Surroundings<'a> {
     pub input: &'a mut dyn Read,
     pub output: &'a mut dyn Write,
+    /// What the output is shown on.
+    pub screen: Screen,
     /// For words that are no part of the answer.
     pub aside: &'a mut dyn Write,
     /// Whether somebody sees these words while the command works.

@@ -72,6 +72,11 @@ pub static LIST: Syntax = Syntax {
     options: &[("--times", None)],
     ..plain("list", &["DISC"], help::LIST)
 };
+pub static SPACE: Syntax = plain("space", &["DISC"], help::SPACE);
+pub static MAP: Syntax = Syntax {
+    options: &[("--svg", NAME)],
+    ..plain("map", &["DISC"], help::MAP)
+};
 pub static IMPORT: Syntax = Syntax {
     options: &[("--start", NUMBER), ("--sectors", NUMBER)],
     ..plain("import", &["IMAGE", "DISC"], help::IMPORT)

@@ -43,11 +43,11 @@ pub fn view(given: &Arguments, around: &mut Surroundings) -> Done {
     }
 }
 
-/// The file for the bytes, if they are to go into one: never the disc or its ledger.
+/// The file for the bytes, if they are to go into one: never one of the disc's own.
 fn destination<'a>(given: &'a Arguments, session: &Session) -> Result<Option<&'a Path>, Failure> {
     let to = given.file("--to");
     match to.is_some_and(|file| session.place.has(file)) {
-        true => Err(given.wrong("--to names the disc or its ledger".into())),
+        true => Err(given.wrong("--to names the disc, its ledger or its roles".into())),
         false => Ok(to),
     }
 }

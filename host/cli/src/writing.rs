@@ -47,9 +47,9 @@ impl Writing {
 
     /// The block recorded.
     pub fn record(&self, session: &mut Session) -> Result<u32, Failure> {
-        let (image, kinds) = session.disc.lent_to_record();
+        let (image, kinds, roles, ledger) = session.lent_to_record();
         let block = &self.block;
-        station::write(image, kinds, &mut session.ledger, self.v, block)
+        station::write(image, kinds, roles, ledger, self.v, block)
             .map_err(|refusal| Failure::Refused(refusal, advice::of_write(refusal, block)))
     }
 }
@@ -86,11 +86,10 @@ impl Saving {
 
     /// The table's block.
     pub fn record(&self, session: &mut Session) -> Result<u32, Failure> {
-        let (image, kinds) = session.disc.lent_to_record();
-        let ledger = &mut session.ledger;
+        let (image, kinds, roles, ledger) = session.lent_to_record();
         let table = match self.stamp() {
-            None => station::commit(image, kinds, ledger),
-            Some(stamp) => station::commit_at(image, kinds, ledger, &stamp.to_bytes()),
+            None => station::commit(image, kinds, roles, ledger),
+            Some(stamp) => station::commit_at(image, kinds, roles, ledger, &stamp.to_bytes()),
         };
         table.map_err(|refusal| Failure::Refused(refusal, advice::of_commit(refusal)))
     }

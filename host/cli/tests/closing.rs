@@ -3,7 +3,7 @@
 
 mod common;
 
-use common::{disc_file, padded, Folder, Told, CLOSE_SESSION};
+use common::{disc_file, padded, role_file, Folder, Told, CLOSE_SESSION};
 use station::{Extent, LEDGER, SECTOR};
 
 const WORD: &str = "station: closing run.disc: after this nothing can be recorded on it any more\n";
@@ -23,7 +23,10 @@ fn the_word_before_and_the_answer() {
     assert_eq!(told(&folder, CLOSE_SESSION), (answer.into(), WORD.into()));
     let recorded = "1".repeat(260);
     assert_eq!(folder.kinds(), format!("{recorded:0<300}"));
-    assert_eq!(folder.names(), ["run.disc", "run.disc.ledger"]);
+    assert_eq!(
+        folder.names(),
+        ["run.disc", "run.disc.ledger", "run.disc.roles"]
+    );
 }
 
 #[test]
@@ -54,19 +57,20 @@ fn as_a_terminal_shows_it() {
 fn files_hold_what_the_core_leaves() {
     let folder = Folder::closed();
     let (mut image, mut kinds) = (vec![0; 300 * SECTOR], vec![0; 300]);
-    let mut ledger = [0; LEDGER];
-    let (i, k, l) = (&mut image, &mut kinds, &mut ledger);
+    let (mut roles, mut ledger) = (vec![0; kinds.len()], [0; LEDGER]);
+    let (i, k, r, l) = (&mut image, &mut kinds, &mut roles, &mut ledger);
     let extent = |location| Extent {
         length: 32768,
         location,
     };
-    station::begin(i, k, l).expect("begin");
-    station::write(i, k, l, 0, &padded("run A")).expect("write");
-    station::commit(i, k, l).expect("commit");
-    station::write(i, k, l, 1, &padded("run B")).expect("write");
-    station::close_session(i, k, l, extent(96), extent(240), 257).expect("close session");
+    station::begin(i, k, r, l).expect("begin");
+    station::write(i, k, r, l, 0, &padded("run A")).expect("write");
+    station::commit(i, k, r, l).expect("commit");
+    station::write(i, k, r, l, 1, &padded("run B")).expect("write");
+    station::close_session(i, k, r, l, extent(96), extent(240), 257).expect("close session");
     assert!(folder.bytes("run.disc") == disc_file(&kinds, &image));
     assert!(folder.bytes("run.disc.ledger") == ledger);
+    assert!(folder.bytes("run.disc.roles") == role_file(&ledger, &roles));
     let numbers = [257 + 3, 32768, 96, 32768, 240].map(u32::to_le_bytes);
     assert_eq!(folder.sector(3)[12..32], numbers.concat());
 }

@@ -5,7 +5,7 @@ mod common;
 use std::fs;
 use std::os::unix::fs::{symlink, MetadataExt};
 
-use common::{disc_file, padded, Folder};
+use common::{disc_file, padded, role_file, Folder};
 use station::{LEDGER, SECTOR};
 
 #[test]
@@ -50,7 +50,10 @@ fn document_01s_example_step_by_step() {
     assert_eq!(folder.done("close run.disc"), "packet closed\n");
     assert_eq!(folder.done("commit run.disc"), "saved, table at block 11\n");
     assert_eq!(folder.kinds(), "1111222222210000000000000000000");
-    assert_eq!(folder.names(), ["run.disc", "run.disc.ledger"]);
+    assert_eq!(
+        folder.names(),
+        ["run.disc", "run.disc.ledger", "run.disc.roles"]
+    );
 }
 
 /// The files are what the core itself leaves.
@@ -58,18 +61,19 @@ fn document_01s_example_step_by_step() {
 fn files_hold_what_the_core_leaves() {
     let folder = Folder::example();
     let (mut image, mut kinds) = (vec![0; 31 * SECTOR], vec![0; 31]);
-    let mut ledger = [0; LEDGER];
-    let (i, k, l) = (&mut image, &mut kinds, &mut ledger);
-    station::begin(i, k, l).expect("begin");
-    station::write(i, k, l, 0, &padded("run A")).expect("write");
-    station::commit(i, k, l).expect("commit");
-    station::write(i, k, l, 1, &padded("run B")).expect("write");
-    station::release(i, k, l, 0).expect("release");
-    station::commit(i, k, l).expect("commit");
-    station::close_packet(i, k, l).expect("close packet");
-    station::commit(i, k, l).expect("commit");
+    let (mut roles, mut ledger) = (vec![0; kinds.len()], [0; LEDGER]);
+    let (i, k, r, l) = (&mut image, &mut kinds, &mut roles, &mut ledger);
+    station::begin(i, k, r, l).expect("begin");
+    station::write(i, k, r, l, 0, &padded("run A")).expect("write");
+    station::commit(i, k, r, l).expect("commit");
+    station::write(i, k, r, l, 1, &padded("run B")).expect("write");
+    station::release(i, k, r, l, 0).expect("release");
+    station::commit(i, k, r, l).expect("commit");
+    station::close_packet(i, k, r, l).expect("close packet");
+    station::commit(i, k, r, l).expect("commit");
     assert!(folder.bytes("run.disc") == disc_file(&kinds, &image));
     assert!(folder.bytes("run.disc.ledger") == ledger);
+    assert!(folder.bytes("run.disc.roles") == role_file(&ledger, &roles));
 }
 
 #[test]
@@ -143,7 +147,13 @@ fn read_gives_2048_bytes_to_a_stream_or_a_file() {
 fn read_does_not_overwrite_the_disc() {
     let folder = Folder::example();
     symlink("run.disc", folder.path("link")).expect("a link");
-    for file in ["run.disc", "./run.disc", "link", "run.disc.ledger"] {
+    for file in [
+        "run.disc",
+        "./run.disc",
+        "link",
+        "run.disc.ledger",
+        "run.disc.roles",
+    ] {
         folder.fails(&format!("read run.disc 1 --to {file}"), 64);
     }
 }

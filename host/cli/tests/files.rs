@@ -126,7 +126,7 @@ fn files_that_may_not_be_read() {
 fn permissions_stay() {
     for mode in [0o600, 0o666] {
         let folder = Folder::begun(31);
-        let names = ["run.disc", "run.disc.ledger"];
+        let names = ["run.disc", "run.disc.ledger", "run.disc.roles"];
         for name in names {
             let permissions = fs::Permissions::from_mode(mode);
             fs::set_permissions(folder.path(name), permissions).expect("permissions");
@@ -260,7 +260,10 @@ fn commands_at_once() {
     for block in 0..12 {
         assert!(told.contains(&format!("block {block}\n")), "{told:?}");
     }
-    assert_eq!(folder.names(), ["run.disc", "run.disc.ledger"]);
+    assert_eq!(
+        folder.names(),
+        ["run.disc", "run.disc.ledger", "run.disc.roles"]
+    );
 }
 
 /// The blocks of each store lie together, with its entry behind them.

@@ -145,8 +145,9 @@ import deck.img lost.disc --start 0 | 73 | lost.disc cannot be written: its ledg
 export run.disc deck.img | 73 | deck.img cannot be written: it is there already
 export run.disc desk | 73 | desk cannot be written: it is there already
 export run.disc nowhere/run.img | 73 | nowhere/run.img cannot be written: No such file or directory (os error 2)
-export run.disc ./run.disc | 64 | IMAGE names the disc or its ledger
-export odd.disc desk/../odd.disc.ledger | 64 | IMAGE names the disc or its ledger";
+export run.disc ./run.disc | 64 | IMAGE names the disc, its ledger or its roles
+export odd.disc desk/../odd.disc.ledger | 64 | IMAGE names the disc, its ledger or its roles
+export odd.disc odd.disc.roles | 64 | IMAGE names the disc, its ledger or its roles";
 
 #[test]
 fn what_cannot_be_imported_or_exported() {

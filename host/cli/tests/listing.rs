@@ -75,14 +75,15 @@ fn a_broken_disc() {
 fn rows_are_those_of_look_back() {
     let sectors = 700;
     let (mut image, mut kinds) = (vec![0; sectors * SECTOR], vec![0; sectors]);
-    let mut ledger = [0; LEDGER];
-    station::begin(&image, &kinds, &mut ledger).expect("begin");
+    let (mut roles, mut ledger) = (vec![0; kinds.len()], [0; LEDGER]);
+    let (i, k, r, l) = (&mut image, &mut kinds, &mut roles, &mut ledger);
+    station::begin(i, k, r, l).expect("begin");
     for v in 0..300 {
-        station::write(&mut image, &mut kinds, &mut ledger, v, &[7; SECTOR]).expect("write");
+        station::write(i, k, r, l, v, &[7; SECTOR]).expect("write");
         if v % 3 == 2 {
-            station::release(&image, &kinds, &mut ledger, v - 1).expect("release");
+            station::release(i, k, r, l, v - 1).expect("release");
         }
-        station::commit(&mut image, &mut kinds, &mut ledger).expect("commit");
+        station::commit(i, k, r, l).expect("commit");
     }
     let folder = Folder::new();
     folder.put("run.disc", &disc_file(&kinds, &image));
@@ -90,7 +91,8 @@ fn rows_are_those_of_look_back() {
     let lines: Vec<&str> = text.lines().collect();
     assert_eq!(lines.len(), 302);
     for k in 0..300 {
-        let block = station::look_back(&image, &kinds, &mut ledger, k).expect("look back");
+        let back = station::look_back(&image, &kinds, &mut roles, &mut ledger, k);
+        let block = back.expect("look back");
         let word = |place: usize| &ledger[place * 4..place * 4 + 4];
         let size = u32::from_le_bytes(word(458).try_into().expect("four bytes"));
         let used = (0..458).filter(|v| word(*v) != [0xFF; 4]).count();

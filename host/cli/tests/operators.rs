@@ -84,6 +84,11 @@ fn the_table_has_every_refusal() {
     }
 }
 
+#[test]
+fn what_to_do_where_roles_are_not_known() {
+    assert!(PAGE.contains(advice::ROLES_UNKNOWN));
+}
+
 /// Each command has its row, and no row is of a command that is not there.
 #[test]
 fn the_table_has_every_command() {

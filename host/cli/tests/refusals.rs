@@ -188,10 +188,10 @@ fn number_13_a_number_above_the_size_and_the_limit() {
 fn number_13_a_number_beyond_the_limit() {
     let folder = Folder::new();
     let (mut image, mut kinds) = (vec![0; 600 * SECTOR], vec![0; 600]);
-    let mut ledger = [0; LEDGER];
-    station::begin(&image, &kinds, &mut ledger).expect("begin");
+    let (mut roles, mut ledger) = (vec![0; kinds.len()], [0; LEDGER]);
+    station::begin(&image, &kinds, &mut roles, &mut ledger).expect("begin");
     for v in 0..458 {
-        station::write(&mut image, &mut kinds, &mut ledger, v, &BLOCK).expect("write");
+        station::write(&mut image, &mut kinds, &mut roles, &mut ledger, v, &BLOCK).expect("write");
     }
     folder.put("run.disc", &disc_file(&kinds, &image));
     folder.put("run.disc.ledger", &ledger);

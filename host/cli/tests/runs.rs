@@ -5,7 +5,7 @@ mod common;
 use std::fs::{self, File};
 use std::os::unix::fs::symlink;
 
-use common::{disc_file, Folder};
+use common::{disc_file, role_file, Folder};
 use station::{Extent, LEDGER, SECTOR};
 
 /// Bytes that differ from place to place and from block to block.
@@ -60,20 +60,21 @@ fn files_hold_what_the_core_leaves() {
     let told = store(&folder, 1, &[7; SECTOR + 3]);
     assert_eq!(told, "run of 2051 bytes in 2 blocks, entry at block 10\n");
     let (mut image, mut kinds) = (vec![0; 40 * SECTOR], vec![0; 40]);
-    let mut ledger = [0; LEDGER];
-    let (i, k, l) = (&mut image, &mut kinds, &mut ledger);
-    station::begin(i, k, l).expect("begin");
-    station::write(i, k, l, 0, &common::padded("run A")).expect("write");
-    station::close_packet(i, k, l).expect("close packet");
-    station::write_unnumbered(i, k, l, &[7; SECTOR]).expect("write");
-    station::write_unnumbered(i, k, l, &common::padded("\x07\x07\x07")).expect("write");
+    let (mut roles, mut ledger) = (vec![0; kinds.len()], [0; LEDGER]);
+    let (i, k, r, l) = (&mut image, &mut kinds, &mut roles, &mut ledger);
+    station::begin(i, k, r, l).expect("begin");
+    station::write(i, k, r, l, 0, &common::padded("run A")).expect("write");
+    station::close_packet(i, k, r, l).expect("close packet");
+    station::write_unnumbered(i, k, r, l, &[7; SECTOR]).expect("write");
+    station::write_unnumbered(i, k, r, l, &common::padded("\x07\x07\x07")).expect("write");
     let extent = Extent {
         length: SECTOR as u32 + 3,
         location: 8,
     };
-    station::write(i, k, l, 1, &station::file_entry(&[extent], 10)).expect("write");
+    station::write(i, k, r, l, 1, &station::file_entry(&[extent], 10)).expect("write");
     assert!(folder.bytes("run.disc") == disc_file(&kinds, &image));
     assert!(folder.bytes("run.disc.ledger") == ledger);
+    assert!(folder.bytes("run.disc.roles") == role_file(&ledger, &roles));
 }
 
 #[test]
@@ -156,7 +157,12 @@ fn view_gives_a_stream_or_a_file() {
     folder.done("view run.disc 0 --offset 200000 --to empty");
     assert!(folder.bytes("empty").is_empty());
     folder.done("view run.disc 0 --to /dev/null");
-    for file in ["run.disc", "./run.disc", "run.disc.ledger"] {
+    for file in [
+        "run.disc",
+        "./run.disc",
+        "run.disc.ledger",
+        "run.disc.roles",
+    ] {
         folder.fails(&format!("view run.disc 0 --to {file}"), 64);
     }
     folder.fails("view run.disc 0 --to nowhere/shown", 73);
@@ -293,13 +299,14 @@ fn a_store_cut_after_each_sector() {
 fn table_for(block: usize) -> Vec<u8> {
     let sectors = block + 20;
     let (mut image, mut kinds) = (vec![0; sectors * SECTOR], vec![0; sectors]);
-    let mut ledger = [0; LEDGER];
-    station::begin(&image, &kinds, &mut ledger).expect("begin");
+    let (mut roles, mut ledger) = (vec![0; kinds.len()], [0; LEDGER]);
+    let (i, k, r, l) = (&mut image, &mut kinds, &mut roles, &mut ledger);
+    station::begin(i, k, r, l).expect("begin");
     for _ in 0..block {
-        let recorded = station::write_unnumbered(&mut image, &mut kinds, &mut ledger, &[7; SECTOR]);
+        let recorded = station::write_unnumbered(i, k, r, l, &[7; SECTOR]);
         recorded.expect("a block");
     }
-    let table = station::commit(&mut image, &mut kinds, &mut ledger).expect("commit");
+    let table = station::commit(i, k, r, l).expect("commit");
     assert_eq!(table as usize, block);
     image[block * SECTOR..][..SECTOR].to_vec()
 }

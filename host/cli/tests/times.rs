@@ -216,19 +216,19 @@ fn a_listing_of_saves_without_times() {
 fn rows_are_those_of_time_k() {
     let sectors = 200;
     let (mut image, mut kinds) = (vec![0; sectors * SECTOR], vec![0; sectors]);
-    let mut ledger = [0; LEDGER];
-    let (i, k, l) = (&mut image, &mut kinds, &mut ledger);
-    station::begin(i, k, l).expect("begin");
+    let (mut roles, mut ledger) = (vec![0; kinds.len()], [0; LEDGER]);
+    let (i, k, r, l) = (&mut image, &mut kinds, &mut roles, &mut ledger);
+    station::begin(i, k, r, l).expect("begin");
     for v in 0..90 {
-        station::write(i, k, l, v, &[7; SECTOR]).expect("write");
+        station::write(i, k, r, l, v, &[7; SECTOR]).expect("write");
         let stamp = Timestamp {
             hour: (v % 24) as u8,
             zone: Some(v as i16 * 31 - 1395),
             ..Timestamp::midnight(1970 + v as u16, 1 + (v % 12) as u8, 28)
         };
         match v % 7 {
-            0 => station::commit(i, k, l).expect("commit"),
-            _ => station::commit_at(i, k, l, &stamp.to_bytes()).expect("commit at"),
+            0 => station::commit(i, k, r, l).expect("commit"),
+            _ => station::commit_at(i, k, r, l, &stamp.to_bytes()).expect("commit at"),
         };
     }
     let folder = Folder::new();

@@ -10,7 +10,7 @@ use std::os::unix::process::ExitStatusExt;
 use std::path::PathBuf;
 use std::process::{Command, Stdio};
 
-use common::{disc_file, Folder, CLOSE_SESSION, STATION};
+use common::{disc_file, role_file, Folder, CLOSE_SESSION, STATION};
 use station::{LEDGER, SECTOR};
 
 /// Every call by which the program, or a library below it, could change a file. A
@@ -76,10 +76,12 @@ fn run_strace(folder: &Folder, line: &str, options: &[&str]) -> (End, String) {
     (end, traced)
 }
 
-/// Disc and ledger, and what is shown of them.
+/// Disc, ledger and roles, and what is shown of them.
 struct Known {
     disc: Vec<u8>,
     ledger: Option<Vec<u8>>,
+    /// The role file, if it is believed.
+    roles: Option<Vec<u8>>,
     shown: Vec<String>,
 }
 
@@ -89,6 +91,7 @@ impl Known {
         let known = Known {
             disc: folder.bytes("run.disc"),
             ledger: fs::read(folder.path("run.disc.ledger")).ok(),
+            roles: believed_roles(folder),
             shown: shown(folder),
         };
         restore(folder, &start);
@@ -106,6 +109,13 @@ impl Known {
         let (digits, _) = self.kinds();
         digits.iter().take_while(|digit| **digit != b'0').count()
     }
+}
+
+/// The role file, if the program tells of it where the space went.
+fn believed_roles(folder: &Folder) -> Option<Vec<u8>> {
+    let told = folder.run("space run.disc");
+    assert!([0, 69].contains(&told.status), "{told:?}");
+    (told.status == 0).then(|| folder.bytes("run.disc.roles"))
 }
 
 /// What a mount, a listing, two reads and a look back say, but for whether
@@ -157,6 +167,13 @@ fn judge(folder: &Folder, line: &str, before: &Known, after: &Known) {
         assert!(left.ledger == after.ledger, "{line}");
         assert!(whole || left.ledger.is_none(), "{line}: a ledger ahead");
     }
+    if left.roles.is_some() {
+        let same = |other: &Known| {
+            let disc_and_ledger = kept == other.recorded() && left.ledger == other.ledger;
+            disc_and_ledger && left.roles == other.roles
+        };
+        assert!(same(before) || same(after), "{line}: roles of no command");
+    }
     let saves = line.starts_with("commit") || line.starts_with("close-session");
     let saved = whole && saves;
     let expected = if saved { &after.shown } else { &before.shown };
@@ -201,7 +218,7 @@ impl Trial<'_> {
             End::Status(status) => {
                 assert!([73, 74].contains(&status) && parts == 0, "{line}: {status}");
             }
-            End::Killed => assert!(parts <= 1, "{line}"),
+            End::Killed => assert!(parts <= 2, "{line}"),
         }
         true
     }
@@ -234,11 +251,16 @@ fn calls_of(folder: &Folder, line: &str) -> Vec<String> {
     names.map(one_name).collect()
 }
 
-const LEDGER_MADE: [&str; 3] = ["write", "fchmod", "fsync"];
-const LEDGER_NAMED: [&str; 2] = ["rename", "fsync"];
+const MADE_BESIDE: [&str; 3] = ["write", "fchmod", "fsync"];
+const NAMED: [&str; 2] = ["rename", "fsync"];
 const TOLD: [&str; 1] = ["write"];
 
-/// Bytes, flush, digits, flush; around it the ledger, made before and named after.
+/// The copy of the ledger, and one stretch or two.
+const ROLES_CHANGED: [&str; 3] = ["pwrite64", "pwrite64", "fdatasync"];
+const ROLES_AND_OLD_ONE: [&str; 4] = ["pwrite64", "pwrite64", "pwrite64", "fdatasync"];
+
+/// Bytes, flush, digits, flush, roles, flush; around it the ledger, made before and
+/// named after.
 #[test]
 fn the_order_of_the_medium() {
     let folder = Folder::example();
@@ -248,17 +270,26 @@ fn the_order_of_the_medium() {
         "commit run.disc",
         "commit run.disc --now",
     ] {
-        let whole = [&LEDGER_MADE[..], &recorded, &LEDGER_NAMED, &TOLD].concat();
+        let whole = [&MADE_BESIDE[..], &recorded, &ROLES_CHANGED, &NAMED, &TOLD];
+        let whole = whole.concat();
         assert_eq!(calls_of(&folder, line), whole, "{line}");
     }
-    for line in ["close run.disc", "mount run.disc"] {
-        let alone = [&LEDGER_MADE[..], &LEDGER_NAMED, &TOLD].concat();
-        assert_eq!(calls_of(&folder, line), alone, "{line}");
-    }
+    let copied = ["pwrite64", "fdatasync"];
+    let alone = [&MADE_BESIDE[..], &copied, &NAMED, &TOLD].concat();
+    assert_eq!(calls_of(&folder, "close run.disc"), alone);
+    // The copy is on the disk before the role is changed.
+    let twice = copied.repeat(2);
+    let alone = [&MADE_BESIDE[..], &twice, &NAMED, &TOLD].concat();
+    assert_eq!(calls_of(&folder, "release run.disc 0"), alone);
+    let anew = [&MADE_BESIDE[..], &MADE_BESIDE, &NAMED, &NAMED, &TOLD].concat();
+    assert_eq!(calls_of(&folder, "mount run.disc"), anew);
+    assert_eq!(calls_of(&folder, "look-back run.disc 1"), anew);
     for line in [
         "read run.disc 1",
         "time run.disc 0",
         "list run.disc --times",
+        "space run.disc",
+        "map run.disc",
     ] {
         assert_eq!(calls_of(&folder, line), TOLD, "{line}");
     }
@@ -273,10 +304,11 @@ fn the_order_of_a_closing() {
     let digits = ["pwrite64", "fdatasync"].repeat(2);
     let whole = [
         &TOLD[..],
-        &LEDGER_MADE,
+        &MADE_BESIDE,
         &bytes,
         &digits,
-        &LEDGER_NAMED,
+        &ROLES_CHANGED,
+        &NAMED,
         &TOLD,
     ];
     assert_eq!(calls_of(&folder, CLOSE_SESSION), whole.concat());
@@ -290,27 +322,28 @@ fn the_order_of_a_store() {
     folder.put("run", &RUN);
     let bytes = [["pwrite64"; 201].as_slice(), &["fdatasync"]].concat();
     let digits = ["pwrite64", "fdatasync"].repeat(2);
-    let whole = [&LEDGER_MADE[..], &bytes, &digits, &LEDGER_NAMED, &TOLD];
+    let roles = &ROLES_AND_OLD_ONE;
+    let whole = [&MADE_BESIDE[..], &bytes, &digits, roles, &NAMED, &TOLD];
     assert_eq!(calls_of(&folder, STORE), whole.concat());
-    assert_eq!(calls_of(&folder, "view run.disc 0 --length 9"), TOLD);
+    assert_eq!(calls_of(&folder, "view run.disc 1 --length 9"), TOLD);
 }
 
 /// A run of 200 blocks, and the line that stores it.
 static RUN: [u8; 200 * SECTOR - 9] = [0xB4; 200 * SECTOR - 9];
-const STORE: &str = "store run.disc 0 --from run";
+const STORE: &str = "store run.disc 1 --from run";
 
 /// The command lines, each on the example with its packet closed.
 const LINES: [(&str, usize); 10] = [
-    ("write run.disc 0", 9),
-    ("store run.disc 0", 10),
-    ("commit run.disc", 9),
-    ("commit run.disc --at 2026-11-15T14:05+01:00", 9),
-    ("mount run.disc", 5),
-    ("release run.disc 1", 5),
-    ("close run.disc", 5),
-    ("look-back run.disc 1", 5),
-    ("cut 3 --torn commit run.disc", 5),
-    ("cut 8 write run.disc 0", 6),
+    ("write run.disc 0", 12),
+    ("store run.disc 0", 13),
+    ("commit run.disc", 12),
+    ("commit run.disc --at 2026-11-15T14:05+01:00", 12),
+    ("mount run.disc", 10),
+    ("release run.disc 1", 9),
+    ("close run.disc", 7),
+    ("look-back run.disc 1", 10),
+    ("cut 3 --torn commit run.disc", 6),
+    ("cut 8 write run.disc 0", 7),
 ];
 
 #[test]
@@ -326,13 +359,13 @@ fn killed_at_each_call_that_writes() {
 #[test]
 fn killed_before_the_first_save() {
     let folder = Folder::begun(31);
-    for (line, least) in [("begin run.disc", 5), ("write run.disc 0", 9)] {
+    for (line, least) in [("begin run.disc", 10), ("write run.disc 0", 12)] {
         let stopped = stop_everywhere(&folder, line, KILLED);
         assert!(stopped >= least, "{line}: killed {stopped} times");
     }
     folder.done_with("write run.disc 0", &[7; SECTOR]);
     let stopped = stop_everywhere(&folder, "commit run.disc", KILLED);
-    assert!(stopped >= 9, "killed {stopped} times");
+    assert!(stopped >= 12, "killed {stopped} times");
 }
 
 #[test]
@@ -349,19 +382,21 @@ fn each_call_that_writes_meets_a_full_disk() {
 /// packet closed.
 fn recorded(sectors: usize, recorded: usize) -> Folder {
     let (mut image, mut kinds) = (vec![0; sectors * SECTOR], vec![0; sectors]);
-    let mut ledger = [0; LEDGER];
-    station::begin(&image, &kinds, &mut ledger).expect("begin");
+    let (mut roles, mut ledger) = (vec![0; kinds.len()], [0; LEDGER]);
+    let (i, k, r, l) = (&mut image, &mut kinds, &mut roles, &mut ledger);
+    station::begin(i, k, r, l).expect("begin");
     for v in [0, 1] {
         let block = [v as u8; SECTOR];
-        station::write(&mut image, &mut kinds, &mut ledger, v, &block).expect("write");
-        station::commit(&mut image, &mut kinds, &mut ledger).expect("commit");
+        station::write(i, k, r, l, v, &block).expect("write");
+        station::commit(i, k, r, l).expect("commit");
     }
     for _ in 4..recorded {
-        station::write(&mut image, &mut kinds, &mut ledger, 0, &[9; SECTOR]).expect("write");
+        station::write(i, k, r, l, 0, &[9; SECTOR]).expect("write");
     }
     let folder = Folder::new();
     folder.put("run.disc", &disc_file(&kinds, &image));
     folder.put("run.disc.ledger", &ledger);
+    folder.put("run.disc.roles", &role_file(&ledger, &roles));
     folder.done("close run.disc");
     folder
 }
@@ -373,11 +408,11 @@ fn killed_between_the_digits() {
     let folder = recorded(540, 500);
     for line in ["commit run.disc", "write run.disc 0"] {
         let stopped = stop_everywhere(&folder, line, KILLED);
-        assert!(stopped >= 11, "{line}: killed {stopped} times");
+        assert!(stopped >= 14, "{line}: killed {stopped} times");
     }
 }
 
-/// Stopped at some of the writes into the disc file, the last of which is the one
+/// Stopped at some of the writes into disc and role file, the last of which is the one
 /// before `end`, and at each other call that writes.
 fn stopped_within(trial: &Trial, writes: &[usize], end: usize) {
     for fate in [KILLED, DISK_FULL] {
@@ -391,22 +426,23 @@ fn stopped_within(trial: &Trial, writes: &[usize], end: usize) {
     }
 }
 
-/// At the pointer, at sectors of zeros, at the table, and at the digits of both
-/// pieces.
+/// At the pointer, at sectors of zeros, at the table, at the digits of both pieces,
+/// and at the roles.
 #[test]
 fn stopped_within_a_closing() {
     let folder = recorded(800, 400);
     let trial = Trial::of(&folder, CLOSE_SESSION);
-    stopped_within(&trial, &[1, 2, 129, 256, 257, 258, 259], 260);
+    stopped_within(&trial, &[1, 2, 129, 256, 257, 258, 259, 260, 261], 262);
 }
 
-/// At blocks of the run, at its entry, and at the digits of both pieces.
+/// At blocks of the run, at its entry, at the digits of both pieces, and at the
+/// roles.
 #[test]
 fn stopped_within_a_store() {
     let folder = recorded(800, 400);
     folder.put("run", &RUN);
     let trial = Trial::of(&folder, STORE);
-    stopped_within(&trial, &[1, 2, 100, 200, 201, 202, 203], 204);
+    stopped_within(&trial, &[1, 2, 100, 200, 201, 202, 203, 204, 205, 206], 207);
 }
 
 /// A run that becomes shorter while it is read, or whose disk fails, is told of by
@@ -443,12 +479,12 @@ fn a_file_that_is_viewed_is_whole() {
     {
         for nth in 1.. {
             restore(&folder, &start);
-            let end = run_traced(&folder, "view run.disc 0 --to shown", call, nth, fate);
+            let end = run_traced(&folder, "view run.disc 1 --to shown", call, nth, fate);
             let shown = folder.bytes("shown");
             assert!(shown == b"old" || shown == RUN, "{call} {nth}");
             match end {
                 End::Status(0) => break,
-                End::Status(status) => assert_eq!((status, folder.names().len()), (73, 4)),
+                End::Status(status) => assert_eq!((status, folder.names().len()), (73, 5)),
                 End::Killed => {}
             }
             stopped += 1;

@@ -8,7 +8,7 @@ use std::process::Command;
 
 use common::{Folder, STATION};
 
-const COMMANDS: [&str; 18] = [
+const COMMANDS: [&str; 20] = [
     "new",
     "begin",
     "mount",
@@ -23,6 +23,8 @@ const COMMANDS: [&str; 18] = [
     "look-back",
     "time",
     "list",
+    "space",
+    "map",
     "import",
     "export",
     "cut",
@@ -70,6 +72,14 @@ now run.disc | there is no command now: did you mean new? |
 eject run.disc | there is no command eject |
 stroe run.disc 0 | there is no command stroe: did you mean store? |
 veiw run.disc 0 | there is no command veiw: did you mean view? |
+sapce run.disc | there is no command sapce: did you mean space? |
+mpa run.disc | there is no command mpa: did you mean map? |
+space | space needs DISC | space
+space run.disc 0 | space has no use for 0 | space
+space run.disc --svg x | space has no option --svg | space
+map | map needs DISC | map
+map run.disc disc.svg | map has no use for disc.svg | map
+map run.disc --svg | --svg needs a name behind it | map
 --quiet mount run.disc | there is no option --quiet |
 mount --quick run.disc | mount has no option --quick | mount
 commit run.disc -f | commit has no option -f | commit

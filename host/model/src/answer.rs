@@ -6,8 +6,9 @@ pub enum Refusal {
     /// "no sectors, more than 360,000, or image length is not 2048 × kinds length"
     DiscSize = 1,
     /// "a lent block is not 2048 bytes, or a lent ledger is not 1,848"; "A lent
-    /// timestamp or answer of another length gives 2", and a view's "lent buffer
-    /// (at most 65,536 bytes, else 2)" (document 02)
+    /// timestamp or answer of another length gives 2", a view's "lent buffer (at most
+    /// 65,536 bytes, else 2)", and "a lent role buffer of another length than the
+    /// kinds gives 2" (document 02)
     LentLength = 2,
     /// "a kind above 3, or a recorded sector after a blank one"
     DiscUnsound = 3,

@@ -8,6 +8,7 @@ use crate::answer::{refuse, Answer, Refusal};
 use crate::disc::{Disc, Sector, BEFORE_TABLE};
 use crate::effect::Effect;
 use crate::ledger::{Volume, IDLE, LEDGER, READ_ONLY};
+use crate::roles::Role;
 use crate::run::MOST_VIEWED;
 use crate::table::{recognise, stamped_vat_sector, LIMIT, NONE, SECTOR};
 use crate::time::{Moment, Stamp, NO_STAMP, STAMP, TIME};
@@ -48,7 +49,18 @@ pub enum Call {
 }
 
 impl Call {
-    /// How long the buffer is that some calls are lent beside the three: "write
+    /// "Each call that alters disc or ledger is lent these bytes too" (document 02):
+    /// the roles.
+    pub fn is_lent_roles(self) -> bool {
+        !self.only_tells() && !matches!(self, Call::Read(_))
+    }
+
+    /// "begin, mount or look back; a scan then gives the start" (document 02).
+    pub fn scans(self) -> bool {
+        matches!(self, Call::Begin | Call::Mount | Call::LookBack(_))
+    }
+
+    /// How long the buffer is that some calls are lent beside these: "write
     /// and read are lent a block too"; and by document 02 "a 12-byte ECMA-167
     /// timestamp", an answer that "is 8 lent bytes", and for a view "at most 65,536
     /// bytes".
@@ -84,13 +96,14 @@ impl Call {
     }
 }
 
-/// "Every call is lent image, kinds and ledger", and some a fourth buffer: a
-/// block, a timestamp, an answer, or one for a part of a run. The others do not
-/// look at it.
+/// "Every call is lent image, kinds and ledger", ten of them the roles, and some one
+/// more buffer: a block, a timestamp, an answer, or one for a part of a run. The
+/// others do not look at these.
 #[derive(Clone, Copy)]
 pub struct Lent<'a> {
     pub image: &'a [u8],
     pub kinds: &'a [u8],
+    pub roles: &'a [u8],
     pub ledger: &'a [u8],
     pub buffer: &'a [u8],
 }
@@ -111,7 +124,7 @@ pub fn effect(lent: &Lent, call: Call) -> Result<Effect, Refusal> {
         Call::Read(v) => read_effect(&disc, fitting_volume(lent, &disc)?, v),
         Call::Write(v) => write_effect(lent, &disc, writable_volume(lent, &disc)?, Some(v)),
         Call::WriteUnnumbered => write_effect(lent, &disc, writable_volume(lent, &disc)?, None),
-        Call::Release(v) => release_effect(writable_volume(lent, &disc)?, v),
+        Call::Release(v) => release_effect(&disc, writable_volume(lent, &disc)?, v),
         Call::ClosePacket => close_packet_effect(writable_volume(lent, &disc)?),
         Call::Commit => commit_effect(&disc, writable_volume(lent, &disc)?, &NO_STAMP),
         Call::CommitAt => commit_at_effect(lent, &disc, writable_volume(lent, &disc)?),
@@ -125,14 +138,14 @@ pub fn effect(lent: &Lent, call: Call) -> Result<Effect, Refusal> {
     }
 }
 
-/// Refusals 1, 2 and 3, which every call has.
+/// Refusals 1, 2 and 3, which every call has; where it is lent roles, "a lent role
+/// buffer of another length than the kinds gives 2" (document 02).
 fn sound_disc<'a>(lent: &Lent<'a>, call: Call) -> Result<Disc<'a>, Refusal> {
     let disc = Disc::lent(lent.image, lent.kinds)?;
-    let right_buffer = call.may_be_lent(lent.buffer.len());
-    refuse(
-        !right_buffer || lent.ledger.len() != LEDGER,
-        Refusal::LentLength,
-    )?;
+    let right_lengths = call.may_be_lent(lent.buffer.len())
+        && (!call.is_lent_roles() || lent.roles.len() == lent.kinds.len())
+        && lent.ledger.len() == LEDGER;
+    refuse(!right_lengths, Refusal::LentLength)?;
     refuse(!disc.is_sound(), Refusal::DiscUnsound)?;
     Ok(disc)
 }
@@ -158,7 +171,7 @@ fn writable_volume(lent: &Lent, disc: &Disc) -> Result<Volume, Refusal> {
 /// "Allowed on a disc with recorded sectors if none is a table sector."
 fn begin_effect(disc: &Disc) -> Result<Effect, Refusal> {
     refuse(disc.newest_vat().is_some(), Refusal::VatExists)?;
-    Ok(Effect::unrecorded(0, Volume::begun(disc)))
+    Ok(Effect::opened(0, disc, Volume::begun(disc)))
 }
 
 /// "Clean means that it is the last recorded sector"; "for mount 1 if clean
@@ -167,14 +180,14 @@ fn mount_effect(disc: &Disc) -> Result<Effect, Refusal> {
     let found = disc.newest_vat().ok_or(Refusal::NoVat)?;
     let clean = found.block + 1 == disc.recorded();
     let volume = Volume::showing(disc, &found, IDLE);
-    Ok(Effect::unrecorded(u32::from(clean), volume))
+    Ok(Effect::opened(u32::from(clean), disc, volume))
 }
 
 /// "The ledger gets its map, recorded as it is now, that table as last, mode 2."
 fn look_back_effect(disc: &Disc, k: u32) -> Result<Effect, Refusal> {
     let found = disc.walk_back(k)?;
     let volume = Volume::showing(disc, &found, READ_ONLY);
-    Ok(Effect::unrecorded(found.block, volume))
+    Ok(Effect::opened(found.block, disc, volume))
 }
 
 /// "records one data sector with the lent block and sets entry v to it". Document
@@ -193,10 +206,13 @@ fn write_effect(
     refuse(v.is_some_and(|v| v > volume.size), Refusal::AboveSize)?;
     refuse(disc.blank() < needed, Refusal::NoRoom)?;
     refuse(would_pass(&data, block), Refusal::WouldBeVat)?;
+    let role = v.map_or(Role::Unnumbered, |_| Role::InUse);
+    let before = v.and_then(|v| volume.block_of(v));
     if let Some(v) = v {
         volume.set(v, block);
     }
-    Ok(Effect::recorded(volume, vec![Sector::data(data)]))
+    let recorded = Effect::recorded(volume, vec![(Sector::data(data), role)]);
+    Ok(recorded.letting_go(disc, before))
 }
 
 /// What "a write must leave" (document 02).
@@ -216,10 +232,10 @@ fn would_pass(data: &[u8; SECTOR], block: u32) -> bool {
 }
 
 /// "sets the entry to unused. Size stays."
-fn release_effect(mut volume: Volume, v: u32) -> Result<Effect, Refusal> {
-    refuse(volume.block_of(v).is_none(), Refusal::NotInUse)?;
+fn release_effect(disc: &Disc, mut volume: Volume, v: u32) -> Result<Effect, Refusal> {
+    let before = volume.block_of(v).ok_or(Refusal::NotInUse)?;
     volume.map[v as usize] = NONE;
-    Ok(Effect::unrecorded(0, volume))
+    Ok(Effect::unrecorded(0, volume).letting_go(disc, Some(before)))
 }
 
 /// "mode 0 (also after an underrun). Nothing is recorded. Closing a closed
@@ -234,22 +250,24 @@ fn commit_effect(disc: &Disc, volume: Volume, stamp: &Stamp) -> Result<Effect, R
     save_effect(disc, volume, Vec::new(), stamp)
 }
 
-/// Data sectors, which only a closing has, and behind them the table sector:
-/// "previous = the ledger's last table". "Commit [needs] links + 1" blank sectors, and
-/// "Closing needs links + 257 blank sectors, else 14" (document 02).
+/// Data sectors, which only a closing has and which are "without a number" (document
+/// 02), and behind them the table sector: "previous = the ledger's last table".
+/// "Commit [needs] links + 1" blank sectors, and "Closing needs links + 257 blank
+/// sectors, else 14" (document 02).
 fn save_effect(
     disc: &Disc,
     mut volume: Volume,
-    mut data: Vec<Sector>,
+    data: Vec<Sector>,
     stamp: &Stamp,
 ) -> Result<Effect, Refusal> {
     let before = data.len() as u32;
     refuse(disc.blank() < volume.links() + before + 1, Refusal::NoRoom)?;
     let table = next_data_block(&volume) + before;
     let vat = stamped_vat_sector(table, volume.entries(), volume.last_vat, stamp);
-    data.push(Sector::data(vat));
+    let unnumbered = data.into_iter().map(|sector| (sector, Role::Unnumbered));
+    let vat = (Sector::data(vat), Role::Table);
     volume.last_vat = table;
-    Ok(Effect::recorded(volume, data))
+    Ok(Effect::recorded(volume, unnumbered.chain([vat]).collect()))
 }
 
 /// "16, a timestamp given or found breaks these limits; it is tested after 5 on
@@ -315,11 +333,12 @@ fn view_effect(
     Ok(Effect::told(shown.len() as u32, shown))
 }
 
-/// Any of the thirteen, with the fourth buffer that some are lent. A refusal "alters no
-/// lent byte".
+/// Any of the thirteen, with the roles and the last buffer that some are lent. A
+/// refusal "alters no lent byte".
 pub fn perform(
     image: &mut [u8],
     kinds: &mut [u8],
+    roles: &mut [u8],
     ledger: &mut [u8],
     buffer: &mut [u8],
     call: Call,
@@ -327,13 +346,14 @@ pub fn perform(
     let lent = Lent {
         image,
         kinds,
+        roles,
         ledger,
         buffer,
     };
     match effect(&lent, call) {
         Err(refusal) => Answer::refused(refusal),
         Ok(effect) => {
-            effect.carry_out(image, kinds, ledger, buffer);
+            effect.carry_out(image, kinds, roles, ledger, buffer);
             Answer::done(effect.second)
         }
     }

@@ -1,14 +1,17 @@
 //! What a call does that is not refused: its second number, the sectors that it
-//! records, the ledger and the lent buffer afterwards. A cut keeps the first of its
-//! sectors ([`fail_power`](crate::disc::fail_power)).
+//! records, the roles that it sets, the ledger and the lent buffer afterwards. A cut
+//! keeps the first of its sectors ([`fail_power`](crate::disc::fail_power)).
 
-use crate::disc::{record, Sector};
+use crate::disc::{record, Disc, Sector};
 use crate::ledger::{Volume, PACKET_OPEN};
+use crate::roles::{let_go, scan, Role};
 
 #[derive(Clone, Debug, PartialEq, Eq)]
 pub struct Effect {
     pub second: u32,
     pub sectors: Vec<Sector>,
+    /// The roles that it sets, each with its block. The others stay.
+    pub roles: Vec<(u32, Role)>,
     /// The ledger; none where it stays as it is, whatever that is.
     pub volume: Option<Volume>,
     /// What is put into the lent buffer, from its start on: a read's block, the time
@@ -22,8 +25,17 @@ impl Effect {
         Effect {
             second,
             sectors: Vec::new(),
+            roles: Vec::new(),
             volume: Some(volume),
             shown: None,
+        }
+    }
+
+    /// Begin, mount or look back, after which every role is that of a scan.
+    pub fn opened(second: u32, disc: &Disc, volume: Volume) -> Effect {
+        Effect {
+            roles: scan(disc, &volume),
+            ..Effect::unrecorded(second, volume)
         }
     }
 
@@ -32,6 +44,7 @@ impl Effect {
         Effect {
             second,
             sectors: Vec::new(),
+            roles: Vec::new(),
             volume: None,
             shown: Some(shown),
         }
@@ -44,19 +57,37 @@ impl Effect {
         }
     }
 
-    /// A write, commit or closing: links, then data sectors, the last of which is
-    /// told. "After each call that is done, the ledger's recorded equals the
-    /// disc's."
-    pub fn recorded(mut volume: Volume, data: Vec<Sector>) -> Effect {
-        let mut sectors = vec![Sector::Link; volume.links() as usize];
-        sectors.extend(data);
+    /// A write, commit or closing: links, then data sectors with their roles, the
+    /// last of which is told. "After each call that is done, the ledger's recorded
+    /// equals the disc's."
+    pub fn recorded(mut volume: Volume, data: Vec<(Sector, Role)>) -> Effect {
+        let mut recorded = vec![(Sector::Link, Role::Link); volume.links() as usize];
+        recorded.extend(data);
+        let (sectors, roles): (Vec<Sector>, Vec<Role>) = recorded.into_iter().unzip();
+        let roles = (volume.recorded..).zip(roles).collect();
         volume.recorded += sectors.len() as u32;
         volume.mode = PACKET_OPEN;
         Effect {
             second: volume.recorded - 1,
             sectors,
+            roles,
             volume: Some(volume),
             shown: None,
+        }
+    }
+
+    /// The same where a number has let go of a block, if it had one.
+    pub fn letting_go(mut self, disc: &Disc, block: Option<u32>) -> Effect {
+        let volume = self.volume.as_ref();
+        let superseded = volume.and_then(|volume| let_go(disc, volume, block));
+        self.roles.extend(superseded);
+        self
+    }
+
+    /// Sets the roles that change.
+    pub fn set_roles(&self, roles: &mut [u8]) {
+        for (block, role) in &self.roles {
+            roles[*block as usize] = *role as u8;
         }
     }
 
@@ -65,10 +96,12 @@ impl Effect {
         &self,
         image: &mut [u8],
         kinds: &mut [u8],
+        roles: &mut [u8],
         ledger: &mut [u8],
         buffer: &mut [u8],
     ) {
         record(image, kinds, &self.sectors);
+        self.set_roles(roles);
         if let Some(volume) = &self.volume {
             ledger.copy_from_slice(&volume.to_bytes());
         }

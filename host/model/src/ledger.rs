@@ -132,6 +132,11 @@ impl Volume {
         &self.map[..self.map.len().min(self.size as usize)]
     }
 
+    /// Whether some number's block is this one.
+    pub fn names(&self, block: u32) -> bool {
+        self.entries().contains(&block)
+    }
+
     /// The block of number v, if v is below size and in use.
     pub fn block_of(&self, v: u32) -> Option<u32> {
         let entry = self.entries().get(v as usize).copied();

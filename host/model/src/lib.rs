@@ -19,6 +19,7 @@
 //! - [`disc`]: image and kinds, the newest table, the walk back, runs, whether it is
 //!   closed, recording;
 //! - [`ledger`]: the volume's working state and when it fits the disc;
+//! - [`roles`]: what each sector is used for, by a scan and from the history;
 //! - [`effect`]: what a call does; [`calls`]: the thirteen calls;
 //! - [`book`]: pages and draft, what the cut rule promises.
 //!
@@ -37,6 +38,7 @@ pub mod effect;
 pub mod extent;
 pub mod fields;
 pub mod ledger;
+pub mod roles;
 pub mod run;
 pub mod table;
 pub mod time;

@@ -1,7 +1,7 @@
 /*
  * Records on a small disc through the C header: begin, writes, commits, a
- * closed packet, and then what mount, read, look back and time of show of it;
- * records a run longer than a block on another one and views it; and closes the
+ * closed packet, and then what mount, read, look back, time of and the roles show
+ * of it; records a run longer than a block on another one and views it; and closes the
  * session of a larger one. Exits 0 if every answer is right, and names the first
  * that is not.
  */
@@ -15,6 +15,7 @@
 
 static uint8_t image[SECTORS * STATION_SECTOR];
 static uint8_t kinds[SECTORS];
+static uint8_t roles[SECTORS];
 static uint8_t ledger[STATION_LEDGER];
 static uint8_t block[STATION_SECTOR];
 static uint8_t told[STATION_TIME];
@@ -36,6 +37,7 @@ static size_t burned;
 
 static uint8_t run_image[RUN_SECTORS * STATION_SECTOR];
 static uint8_t run_kinds[RUN_SECTORS];
+static uint8_t run_roles[RUN_SECTORS];
 
 /* The run, which fills one block and 2,000 bytes of the next, and what is viewed
  * of it. */
@@ -49,12 +51,17 @@ static uint8_t viewed[STATION_MOST_VIEWED + 1];
 
 static uint8_t closed_image[CLOSED_SECTORS * STATION_SECTOR];
 static uint8_t closed_kinds[CLOSED_SECTORS];
+static uint8_t closed_roles[CLOSED_SECTORS];
 
+#define LEDGER ledger, sizeof ledger
 #define DISC image, sizeof image, kinds, sizeof kinds
-#define LENT DISC, ledger, sizeof ledger
-#define RUN_LENT run_image, sizeof run_image, run_kinds, sizeof run_kinds, ledger, sizeof ledger
+#define RUN_DISC run_image, sizeof run_image, run_kinds, sizeof run_kinds
 #define CLOSED_DISC closed_image, sizeof closed_image, closed_kinds, sizeof closed_kinds
-#define CLOSED_LENT CLOSED_DISC, ledger, sizeof ledger
+
+/* What a call is lent that alters disc or ledger. */
+#define LENT DISC, roles, sizeof roles, LEDGER
+#define RUN_LENT RUN_DISC, run_roles, sizeof run_roles, LEDGER
+#define CLOSED_LENT CLOSED_DISC, closed_roles, sizeof closed_roles, LEDGER
 
 static void expect(const char *call, uint64_t answer, uint32_t outcome, uint32_t second)
 {
@@ -76,24 +83,24 @@ static void hold(const char *what, int holds)
 static uint64_t write_number(uint32_t v, int byte)
 {
     memset(block, byte, sizeof block);
-    return station_write(LENT, v, block, sizeof block);
+    return station_write_roles(LENT, v, block, sizeof block);
 }
 
 static uint64_t read_number(uint32_t v)
 {
     memset(block, 0, sizeof block);
-    return station_read(LENT, v, block, sizeof block);
+    return station_read(DISC, LEDGER, v, block, sizeof block);
 }
 
 static uint64_t commit_at(const uint8_t *stamp)
 {
-    return station_commit_at(LENT, stamp, STATION_STAMP);
+    return station_commit_at_roles(LENT, stamp, STATION_STAMP);
 }
 
 static uint64_t time_of(uint32_t k)
 {
     memset(told, 0xC7, sizeof told);
-    return station_time_of(LENT, k, told, sizeof told);
+    return station_time_of(DISC, LEDGER, k, told, sizeof told);
 }
 
 static uint32_t number(const uint8_t *bytes)
@@ -122,25 +129,47 @@ static void burn(void)
 /* The disc of 31 of document 01's listing, burned after each call. */
 static void record(void)
 {
-    expect("begin", station_begin(LENT), STATION_DONE, 0);
+    expect("begin", station_begin_roles(LENT), STATION_DONE, 0);
     expect("write 1 at size 0", write_number(1, 0x11), STATION_ABOVE_SIZE, 0);
     expect("write 500 at size 0", write_number(500, 0x11), STATION_ABOVE_LIMIT, 0);
     expect("write 0", write_number(0, 0x11), STATION_DONE, 0);
     burn();
-    expect("commit", station_commit(LENT), STATION_DONE, 1);
+    expect("commit", station_commit_roles(LENT), STATION_DONE, 1);
     burn();
     hold("burned as far as recorded", burned == 2);
     expect("write 1", write_number(1, 0x22), STATION_DONE, 2);
     burn();
-    expect("release 0", station_release(LENT, 0), STATION_DONE, 0);
-    expect("release 0 again", station_release(LENT, 0), STATION_NOT_IN_USE, 0);
+    expect("release 0", station_release_roles(LENT, 0), STATION_DONE, 0);
+    expect("release 0 again", station_release_roles(LENT, 0), STATION_NOT_IN_USE, 0);
     expect("commit at no month", commit_at(no_month), STATION_BAD_TIMESTAMP, 0);
     expect("commit at half past", commit_at(half_past), STATION_DONE, 3);
     burn();
-    expect("close packet", station_close_packet(LENT), STATION_DONE, 0);
+    expect("close packet", station_close_packet_roles(LENT), STATION_DONE, 0);
     expect("commit without a zone", commit_at(zoneless), STATION_DONE, 11);
     burn();
     hold("seven links", memcmp(kinds, "\1\1\1\1\2\2\2\2\2\2\2\1\0", 13) == 0);
+}
+
+/* How many sectors have the role. */
+static size_t count(const uint8_t *lent, size_t sectors, enum station_role role)
+{
+    size_t found = 0;
+
+    for (size_t at = 0; at < sectors; at++)
+        found += lent[at] == role;
+    return found;
+}
+
+/* Where the space of document 01's disc went: number 0 was released. */
+static void tell_the_space(void)
+{
+    hold("one in use", count(roles, SECTORS, STATION_ROLE_IN_USE) == 1);
+    hold("one superseded", count(roles, SECTORS, STATION_ROLE_SUPERSEDED) == 1);
+    hold("three tables", count(roles, SECTORS, STATION_ROLE_TABLE) == 3);
+    hold("seven links by role", count(roles, SECTORS, STATION_ROLE_LINK) == 7);
+    hold("the rest blank", count(roles, SECTORS, STATION_ROLE_BLANK) == SECTORS - 12);
+    hold("0 was superseded", roles[0] == STATION_ROLE_SUPERSEDED);
+    hold("1 is in use", roles[2] == STATION_ROLE_IN_USE);
 }
 
 /* The working buffers are gone: what follows is read from the medium. */
@@ -154,8 +183,9 @@ static void take_the_burned_disc(void)
 static void mount_and_read(void)
 {
     memset(ledger, 0xA5, sizeof ledger);
-    expect("begin on a table", station_begin(LENT), STATION_VAT_EXISTS, 0);
-    expect("mount", station_mount(LENT), STATION_DONE, 1);
+    memset(roles, 0xA5, sizeof roles);
+    expect("begin on a table", station_begin_roles(LENT), STATION_VAT_EXISTS, 0);
+    expect("mount", station_mount_roles(LENT), STATION_DONE, 1);
     hold("size 2", entry(STATION_LIMIT) == 2);
     hold("0 is unused", entry(0) == STATION_UNUSED);
     hold("1 is block 2", entry(1) == 2);
@@ -167,13 +197,13 @@ static void mount_and_read(void)
 
 static void look_back(void)
 {
-    expect("look back 0", station_look_back(LENT, 0), STATION_DONE, 11);
-    expect("look back 1", station_look_back(LENT, 1), STATION_DONE, 3);
-    expect("look back 2", station_look_back(LENT, 2), STATION_DONE, 1);
+    expect("look back 0", station_look_back_roles(LENT, 0), STATION_DONE, 11);
+    expect("look back 1", station_look_back_roles(LENT, 1), STATION_DONE, 3);
+    expect("look back 2", station_look_back_roles(LENT, 2), STATION_DONE, 1);
     expect("read 0", read_number(0), STATION_DONE, 0);
     hold("0 reads 11", block[0] == 0x11 && block[STATION_SECTOR - 1] == 0x11);
-    expect("commit while looking", station_commit(LENT), STATION_READ_ONLY, 0);
-    expect("look back 3", station_look_back(LENT, 3), STATION_CHAIN_ENDED, 0);
+    expect("commit while looking", station_commit_roles(LENT), STATION_READ_ONLY, 0);
+    expect("look back 3", station_look_back_roles(LENT, 3), STATION_CHAIN_ENDED, 0);
 }
 
 static void tell_the_times(void)
@@ -191,14 +221,18 @@ static void tell_the_times(void)
 static void lend_wrongly(void)
 {
     uint64_t short_image =
-        station_mount(image, sizeof image - 1, kinds, sizeof kinds, ledger, sizeof ledger);
-    uint64_t short_ledger = station_mount(DISC, ledger, sizeof ledger - 1);
+        station_mount_roles(image, sizeof image - 1, kinds, sizeof kinds, roles, sizeof roles,
+                            LEDGER);
+    uint64_t short_roles = station_mount_roles(DISC, roles, sizeof roles - 1, LEDGER);
+    uint64_t short_ledger =
+        station_mount_roles(DISC, roles, sizeof roles, ledger, sizeof ledger - 1);
     expect("an image too short", short_image, STATION_DISC_SIZE, 0);
+    expect("roles too short", short_roles, STATION_LENT_LENGTH, 0);
     expect("a ledger too short", short_ledger, STATION_LENT_LENGTH, 0);
-    expect("a stamp too short", station_commit_at(LENT, half_past, 11), STATION_LENT_LENGTH, 0);
-    expect("an answer too short", station_time_of(LENT, 0, told, 7), STATION_LENT_LENGTH, 0);
+    expect("a stamp too short", station_commit_at_roles(LENT, half_past, 11), STATION_LENT_LENGTH, 0);
+    expect("an answer too short", station_time_of(DISC, LEDGER, 0, told, 7), STATION_LENT_LENGTH, 0);
     kinds[30] = 4;
-    expect("a kind above 3", station_mount(LENT), STATION_DISC_UNSOUND, 0);
+    expect("a kind above 3", station_mount_roles(LENT), STATION_DISC_UNSOUND, 0);
     kinds[30] = 0;
 }
 
@@ -242,7 +276,7 @@ static void make_entry(uint8_t *entry, uint32_t at, uint32_t length, uint32_t fi
 static uint64_t view(uint32_t v, uint64_t offset, size_t length)
 {
     memset(viewed, 0xC7, sizeof viewed);
-    return station_view(RUN_LENT, v, offset, viewed, length);
+    return station_view(RUN_DISC, LEDGER, v, offset, viewed, length);
 }
 
 /* Two blocks without a number, the entry as number 0, and a plain block as 1. */
@@ -250,25 +284,26 @@ static void record_a_run(void)
 {
     for (size_t place = 0; place < RUN_LENGTH; place++)
         run[place] = (uint8_t)(place % 251);
-    expect("begin", station_begin(RUN_LENT), STATION_DONE, 0);
-    expect("write unnumbered", station_write_unnumbered(RUN_LENT, run, STATION_SECTOR),
+    expect("begin", station_begin_roles(RUN_LENT), STATION_DONE, 0);
+    expect("write unnumbered", station_write_unnumbered_roles(RUN_LENT, run, STATION_SECTOR),
            STATION_DONE, 0);
     expect("write unnumbered again",
-           station_write_unnumbered(RUN_LENT, run + STATION_SECTOR, STATION_SECTOR),
+           station_write_unnumbered_roles(RUN_LENT, run + STATION_SECTOR, STATION_SECTOR),
            STATION_DONE, 1);
     hold("no number", entry(STATION_LIMIT) == 0);
+    hold("both without one", count(run_roles, RUN_SECTORS, STATION_ROLE_WITHOUT_NUMBER) == 2);
     make_entry(block, 2, RUN_LENGTH, 0);
-    expect("write the entry", station_write(RUN_LENT, 0, block, sizeof block), STATION_DONE, 2);
-    expect("write 1", station_write(RUN_LENT, 1, run, STATION_SECTOR), STATION_DONE, 3);
-    expect("no room for more", station_write_unnumbered(RUN_LENT, run, STATION_SECTOR),
+    expect("write the entry", station_write_roles(RUN_LENT, 0, block, sizeof block), STATION_DONE, 2);
+    expect("write 1", station_write_roles(RUN_LENT, 1, run, STATION_SECTOR), STATION_DONE, 3);
+    expect("no room for more", station_write_unnumbered_roles(RUN_LENT, run, STATION_SECTOR),
            STATION_NO_ROOM, 0);
-    expect("commit", station_commit(RUN_LENT), STATION_DONE, 4);
+    expect("commit", station_commit_roles(RUN_LENT), STATION_DONE, 4);
 }
 
 static void view_the_run(void)
 {
     memset(ledger, 0xA5, sizeof ledger);
-    expect("mount", station_mount(RUN_LENT), STATION_DONE, 1);
+    expect("mount", station_mount_roles(RUN_LENT), STATION_DONE, 1);
     expect("view all", view(0, 0, STATION_MOST_VIEWED), STATION_DONE, RUN_LENGTH);
     hold("the whole run", memcmp(viewed, run, RUN_LENGTH) == 0);
     hold("bytes behind it stay", viewed[RUN_LENGTH] == 0xC7);
@@ -287,27 +322,31 @@ static void close_the_session(void)
 {
     const uint8_t *pointer = closed_image + 8 * STATION_SECTOR;
 
-    expect("close without room", station_close_session(LENT, 1, 2, 3, 4, 257),
+    expect("close without room", station_close_session_roles(LENT, 1, 2, 3, 4, 257),
            STATION_NO_ROOM, 0);
-    expect("begin", station_begin(CLOSED_LENT), STATION_DONE, 0);
-    expect("write 0", station_write(CLOSED_LENT, 0, block, sizeof block), STATION_DONE, 0);
-    expect("close packet", station_close_packet(CLOSED_LENT), STATION_DONE, 0);
-    expect("close from 400,001", station_close_session(CLOSED_LENT, 1, 2, 3, 4, 400001),
+    expect("begin", station_begin_roles(CLOSED_LENT), STATION_DONE, 0);
+    expect("write 0", station_write_roles(CLOSED_LENT, 0, block, sizeof block), STATION_DONE, 0);
+    expect("close packet", station_close_packet_roles(CLOSED_LENT), STATION_DONE, 0);
+    expect("close from 400,001", station_close_session_roles(CLOSED_LENT, 1, 2, 3, 4, 400001),
            STATION_PARTITION_START, 0);
-    expect("close", station_close_session(CLOSED_LENT, 1, 2, 3, 4, 257), STATION_DONE, 264);
+    expect("close", station_close_session_roles(CLOSED_LENT, 1, 2, 3, 4, 257), STATION_DONE, 264);
+    hold("256 sectors without a number",
+         count(closed_roles, CLOSED_SECTORS, STATION_ROLE_WITHOUT_NUMBER) == 256);
     hold("identifier 2, version 2", number(pointer) == 0x00020002u);
     hold("location 257 + 8", number(pointer + 12) == 265);
     hold("main extent", number(pointer + 16) == 1 && number(pointer + 20) == 2);
     hold("reserve extent", number(pointer + 24) == 3 && number(pointer + 28) == 4);
-    expect("mount", station_mount(CLOSED_LENT), STATION_DONE, 1);
-    expect("commit on a closed disc", station_commit(CLOSED_LENT), STATION_SESSION_CLOSED, 0);
+    expect("mount", station_mount_roles(CLOSED_LENT), STATION_DONE, 1);
+    expect("commit on a closed disc", station_commit_roles(CLOSED_LENT), STATION_SESSION_CLOSED, 0);
 }
 
 int main(void)
 {
     record();
+    tell_the_space();
     take_the_burned_disc();
     mount_and_read();
+    tell_the_space();
     look_back();
     tell_the_times();
     record_a_run();
@@ -315,6 +354,6 @@ int main(void)
     lend_wrongly();
     mount_and_read();
     close_the_session();
-    puts("recorded, mounted, read, looked back, told the times, viewed a run and closed");
+    puts("recorded, mounted, read, looked back, told the times and the space, viewed a run and closed");
     return 0;
 }

@@ -6,11 +6,13 @@ use station_model::answer::Answer;
 use station_model::book::{Content, History, InUse, Snapshot};
 use station_model::calls::Call;
 use station_model::ledger::{Volume, LEDGER};
+use station_model::roles::Since;
 use station_model::table::{LIMIT, NONE, SECTOR};
 use station_model::time::{Moment, Stamp, TIME};
 
 use super::core::Core;
 use super::random::Random;
+use super::roles::astray;
 use super::runs;
 use super::station::refused;
 
@@ -38,12 +40,13 @@ pub fn compare(core: &Core, history: &History, random: &mut Random) -> Result<()
 fn mount_finds_nothing(copy: &mut Core, random: &mut Random) -> Result<(), String> {
     let before = random.bytes(LEDGER);
     copy.ledger.copy_from_slice(&before);
+    let roles = copy.roles.to_vec();
     let answer = copy.call(Call::Mount);
     check(answer == refused(7), || {
         format!("no page, and mount answers {answer:?}")
     })?;
-    check(copy.ledger[..] == before, || {
-        "a refused mount changed the ledger".into()
+    check(copy.ledger[..] == before && copy.roles[..] == roles, || {
+        "a refused mount changed the ledger or a role".into()
     })?;
     tells(copy, 0, Err(7), random)
 }
@@ -79,11 +82,13 @@ fn tells(
 /// the [...] page's", and reads give what it has.
 fn shows(copy: &mut Core, call: Call, page: &Snapshot, random: &mut Random) -> Result<(), String> {
     random.fill(&mut copy.ledger);
+    random.fill(&mut copy.roles);
     let answer = copy.call(call);
     check(answer.outcome == 0, || {
         format!("{call:?} answers {answer:?}")
     })?;
     let volume = copy.volume();
+    check_scan(copy, &volume)?;
     check(volume.size == page.size(), || {
         let size = volume.size;
         format!("{call:?} shows size {size}, the page has {}", page.size())
@@ -99,6 +104,12 @@ fn shows(copy: &mut Core, call: Call, page: &Snapshot, random: &mut Random) -> R
         }
     }
     Ok(())
+}
+
+/// Every role is that of a scan, whatever was lent.
+fn check_scan(copy: &Core, volume: &Volume) -> Result<(), String> {
+    let difference = astray(&copy.disc(), volume, &copy.roles, &Since::default());
+    difference.map_or(Ok(()), Err)
 }
 
 fn same_map(volume: &Volume, page: &Snapshot) -> bool {

@@ -33,8 +33,8 @@ pub fn saved_at(sectors: usize) -> Station {
     station
 }
 
-/// What a call may be lent beside the three buffers.
-pub fn fourth(call: Call) -> &'static [u8] {
+/// The buffer that a call is lent beside disc, roles and ledger.
+pub fn beside(call: Call) -> &'static [u8] {
     match call {
         Call::CommitAt => &HALF_PAST,
         Call::TimeOf(_) => &ANSWER,

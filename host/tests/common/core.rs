@@ -1,4 +1,4 @@
-//! The core on a disc and a ledger of its own, each between canaries.
+//! The core on a disc, roles and a ledger of its own, each between canaries.
 
 use station::{raw, Sector};
 use station_model::anchor::Anchor;
@@ -15,6 +15,7 @@ use super::station::Station;
 pub struct Core {
     pub image: Guarded,
     pub kinds: Guarded,
+    pub roles: Guarded,
     pub ledger: Guarded,
 }
 
@@ -23,6 +24,7 @@ pub struct Core {
 pub struct Short {
     pub image: usize,
     pub kinds: usize,
+    pub roles: usize,
     pub ledger: usize,
 }
 
@@ -31,11 +33,12 @@ impl Core {
         Core {
             image: Guarded::holding(&station.image, shift),
             kinds: Guarded::holding(&station.kinds, shift / 3),
+            roles: Guarded::holding(&station.roles, shift / 2),
             ledger: Guarded::holding(&station.ledger, shift / 5),
         }
     }
 
-    /// Any of the thirteen, with the fourth buffer that some are lent.
+    /// Any of the thirteen, with the last buffer that some are lent.
     pub fn perform(&mut self, call: Call, buffer: &mut [u8]) -> u64 {
         self.perform_short(call, buffer, Short::default())
     }
@@ -44,18 +47,19 @@ impl Core {
     pub fn perform_short(&mut self, call: Call, buffer: &mut [u8], short: Short) -> u64 {
         let image = all_but(&mut self.image, short.image);
         let kinds = all_but(&mut self.kinds, short.kinds);
+        let roles = all_but(&mut self.roles, short.roles);
         let ledger = all_but(&mut self.ledger, short.ledger);
         match call {
-            Call::Begin => raw::begin(image, kinds, ledger),
-            Call::Mount => raw::mount(image, kinds, ledger),
-            Call::Write(v) => raw::write(image, kinds, ledger, v, buffer),
-            Call::WriteUnnumbered => raw::write_unnumbered(image, kinds, ledger, buffer),
-            Call::Release(v) => raw::release(image, kinds, ledger, v),
-            Call::ClosePacket => raw::close_packet(image, kinds, ledger),
-            Call::Commit => raw::commit(image, kinds, ledger),
-            Call::CommitAt => raw::commit_at(image, kinds, ledger, buffer),
+            Call::Begin => raw::begin(image, kinds, roles, ledger),
+            Call::Mount => raw::mount(image, kinds, roles, ledger),
+            Call::Write(v) => raw::write(image, kinds, roles, ledger, v, buffer),
+            Call::WriteUnnumbered => raw::write_unnumbered(image, kinds, roles, ledger, buffer),
+            Call::Release(v) => raw::release(image, kinds, roles, ledger, v),
+            Call::ClosePacket => raw::close_packet(image, kinds, roles, ledger),
+            Call::Commit => raw::commit(image, kinds, roles, ledger),
+            Call::CommitAt => raw::commit_at(image, kinds, roles, ledger, buffer),
             Call::Read(v) => raw::read(image, kinds, ledger, v, buffer),
-            Call::LookBack(k) => raw::look_back(image, kinds, ledger, k),
+            Call::LookBack(k) => raw::look_back(image, kinds, roles, ledger, k),
             Call::TimeOf(k) => raw::time_of(image, kinds, ledger, k, buffer),
             Call::CloseSession(Anchor {
                 main,
@@ -64,6 +68,7 @@ impl Core {
             }) => raw::close_session(
                 image,
                 kinds,
+                roles,
                 ledger,
                 main.length,
                 main.location,
@@ -91,18 +96,19 @@ impl Core {
         unpacked(answer)
     }
 
-    /// A call that is lent no fourth buffer.
+    /// A call that is lent no such buffer.
     pub fn call(&mut self, call: Call) -> Answer {
         self.call_lent(call, &mut [])
     }
 
     /// The buffer outside which the core wrote, and where.
-    pub fn struck(&self, fourth: &Guarded) -> Option<String> {
+    pub fn struck(&self, last: &Guarded) -> Option<String> {
         let buffers = [
             ("image", &self.image),
             ("kinds", &self.kinds),
+            ("roles", &self.roles),
             ("ledger", &self.ledger),
-            ("fourth buffer", fourth),
+            ("last buffer", last),
         ];
         buffers
             .iter()
@@ -120,6 +126,7 @@ impl Core {
     pub fn same_bytes(&self, other: &Core) -> bool {
         self.image[..] == other.image[..]
             && self.kinds[..] == other.kinds[..]
+            && self.roles[..] == other.roles[..]
             && self.ledger[..] == other.ledger[..]
     }
 

@@ -7,6 +7,7 @@
 #![allow(dead_code)]
 
 pub mod agreement;
+pub mod attempt;
 pub mod built;
 pub mod closing;
 pub mod core;
@@ -15,6 +16,7 @@ pub mod guarded;
 pub mod pair;
 pub mod random;
 pub mod recogniser;
+pub mod roles;
 pub mod runs;
 pub mod stamps;
 pub mod station;

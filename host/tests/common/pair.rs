@@ -1,6 +1,9 @@
 //! The core beside the model: each call is made on both, and the answer and
-//! every byte of image, kinds, ledger and the fourth buffer afterwards are
+//! every byte of image, kinds, roles, ledger and the last buffer afterwards are
 //! compared.
+//!
+//! While everything comes as the call before left it, since a begin, mount or look
+//! back, the roles are also those worked out afresh from the history, and add up.
 
 use std::cell::Cell;
 use std::fmt::Write;
@@ -8,11 +11,13 @@ use std::fmt::Write;
 use station::recorded;
 use station_model::answer::Answer;
 use station_model::calls::{perform, Call};
+use station_model::roles::Since;
 use station_model::table::SECTOR;
 
 use super::core::{unpacked, Core};
 use super::guarded::Guarded;
 use super::random::seed;
+use super::roles::astray;
 use super::station::Station;
 use super::tally::Outcomes;
 
@@ -26,6 +31,9 @@ thread_local! {
 /// turn, and the whole at the end.
 const COMPARED_WHOLE: usize = 64;
 
+/// Up to this many sectors the roles are worked out afresh after each call.
+const WORKED_OUT: usize = 1000;
+
 pub struct Pair {
     model: Station,
     core: Core,
@@ -35,12 +43,15 @@ pub struct Pair {
     case: Option<usize>,
     shift: usize,
     turn: usize,
+    /// The history since a begin, mount or look back, if all was lent on from there.
+    since: Option<Since>,
     pub outcomes: Outcomes,
 }
 
 /// What was lent, for the report: the buffers that are small.
 struct Before {
     kinds: Vec<u8>,
+    roles: Vec<u8>,
     ledger: Vec<u8>,
     buffer: Vec<u8>,
 }
@@ -60,6 +71,7 @@ impl Pair {
             case: None,
             shift,
             turn: 0,
+            since: None,
             outcomes: Outcomes::default(),
         }
     }
@@ -75,7 +87,7 @@ impl Pair {
         &self.model
     }
 
-    /// The fourth buffer as the last call left it.
+    /// The last buffer as the last call left it.
     pub fn buffer(&self) -> &[u8] {
         &self.buffer
     }
@@ -87,38 +99,46 @@ impl Pair {
 
     /// Lends another ledger from now on.
     pub fn lend_ledger(&mut self, ledger: &[u8]) {
-        if ledger.len() == self.model.ledger.len() {
-            self.core.ledger.copy_from_slice(ledger);
-        } else {
-            self.core.ledger = Guarded::holding(ledger, self.shift);
-        }
+        self.since = None;
+        lend(&mut self.core.ledger, ledger, self.shift);
         self.model.ledger.clear();
         self.model.ledger.extend_from_slice(ledger);
     }
 
+    /// Lends other roles from now on.
+    pub fn lend_roles(&mut self, roles: &[u8]) {
+        self.since = None;
+        lend(&mut self.core.roles, roles, self.shift / 2);
+        self.model.roles.clear();
+        self.model.roles.extend_from_slice(roles);
+    }
+
     /// Changes one sector of both discs.
     pub fn put_sector(&mut self, block: u32, kind: u8, bytes: &[u8; SECTOR]) {
+        self.since = None;
         self.model.put_sector(block, kind, bytes);
         self.core.kinds[block as usize] = kind;
         self.core.image[block as usize * SECTOR..][..SECTOR].copy_from_slice(bytes);
     }
 
-    /// Takes back what a call did: the sectors that it recorded and the ledger
-    /// become the given station's again.
+    /// Takes back what a call did: the sectors that it recorded, the roles and the
+    /// ledger become the given station's again.
     pub fn take_back(&mut self, station: &Station) {
         for (block, kind) in station.kinds.iter().enumerate() {
             if self.model.kinds[block] != *kind {
                 self.put_sector(block as u32, *kind, station.sector(block as u32));
             }
         }
+        self.lend_roles(&station.roles);
         self.lend_ledger(&station.ledger);
     }
 
-    /// The call with a copy of the fourth buffer on either side. A difference
+    /// The call with a copy of the last buffer on either side. A difference
     /// ends the test with all that is needed to see it again.
     pub fn call(&mut self, call: Call, buffer: &[u8]) -> Answer {
         let before = Before {
             kinds: self.model.kinds.clone(),
+            roles: self.model.roles.clone(),
             ledger: self.model.ledger.clone(),
             buffer: buffer.to_vec(),
         };
@@ -126,11 +146,14 @@ impl Pair {
         let Station {
             image,
             kinds,
+            roles,
             ledger,
         } = &mut self.model;
-        let expected = perform(image, kinds, ledger, &mut self.buffer, call);
+        let expected = perform(image, kinds, roles, ledger, &mut self.buffer, call);
         let answer = self.core.perform(call, &mut self.core_buffer);
-        if let Some(difference) = self.difference(&before, expected, answer) {
+        self.note(call, expected);
+        let difference = self.difference(&before, expected, answer);
+        if let Some(difference) = difference.or_else(|| self.roles_astray()) {
             panic!("{}", self.report(call, &before, &difference));
         }
         COMPARED.with(|count| count.set(count.get() + 1));
@@ -141,11 +164,27 @@ impl Pair {
     fn lend_buffer(&mut self, buffer: &[u8]) {
         self.buffer.clear();
         self.buffer.extend_from_slice(buffer);
-        if self.core_buffer.len() == buffer.len() {
-            self.core_buffer.copy_from_slice(buffer);
-        } else {
-            self.core_buffer = Guarded::holding(buffer, self.shift / 7);
+        lend(&mut self.core_buffer, buffer, self.shift / 7);
+    }
+
+    /// Notes the call for the history, which starts with a call that scans.
+    fn note(&mut self, call: Call, answer: Answer) {
+        if call.scans() && answer.is_done() {
+            self.since.get_or_insert_default();
         }
+        if let Some(since) = &mut self.since {
+            since.feed(call, answer);
+        }
+    }
+
+    /// How the roles differ from those worked out afresh, or do not add up.
+    fn roles_astray(&self) -> Option<String> {
+        let station = &self.model;
+        let since = self.since.as_ref()?;
+        if station.roles.len() > WORKED_OUT {
+            return None;
+        }
+        astray(&station.disc(), &station.volume(), &station.roles, since)
     }
 
     fn difference(&mut self, before: &Before, expected: Answer, answer: u64) -> Option<String> {
@@ -159,7 +198,8 @@ impl Pair {
             .map(|place| format!("the core wrote outside: {place}"))
             .or_else(|| first_difference("ledger", 0, &model.ledger, &core.ledger))
             .or_else(|| first_difference("kinds", 0, &model.kinds, &core.kinds))
-            .or_else(|| first_difference("fourth buffer", 0, &self.buffer, &self.core_buffer))
+            .or_else(|| first_difference("roles", 0, &model.roles, &core.roles))
+            .or_else(|| first_difference("last buffer", 0, &self.buffer, &self.core_buffer))
             .or_else(|| self.image_difference(&before.kinds))
     }
 
@@ -196,16 +236,28 @@ impl Pair {
         }
         let _ = write!(
             text,
-            "\nlent: image {}, kinds {}, ledger {}, fourth {} bytes\nkinds {}\nledger {}\nfourth {}",
+            "\nlent: image {}, kinds {}, roles {}, ledger {}, last {} bytes\n\
+             kinds {}\nroles {}\nledger {}\nlast {}",
             self.model.image.len(),
             before.kinds.len(),
+            before.roles.len(),
             before.ledger.len(),
             before.buffer.len(),
             hex(&before.kinds),
+            hex(&before.roles),
             hex(&before.ledger),
             hex(&before.buffer),
         );
         text
+    }
+}
+
+/// Copies the bytes to where they are lent, anew if they are more or fewer.
+fn lend(lent: &mut Guarded, bytes: &[u8], shift: usize) {
+    if lent.len() == bytes.len() {
+        lent.copy_from_slice(bytes);
+    } else {
+        *lent = Guarded::holding(bytes, shift);
     }
 }
 

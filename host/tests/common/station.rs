@@ -1,4 +1,4 @@
-//! A disc and a ledger to make calls on by hand. Each call is made on the core
+//! A disc, roles and a ledger to make calls on by hand. Each call is made on the core
 //! and on the model, and all that they leave is compared.
 
 use station_model::answer::Answer;
@@ -13,10 +13,14 @@ use super::core::Core;
 use super::pair::Pair;
 use super::stamps::{Told, ANSWER};
 
+/// What the roles are before a begin, mount or look back: bytes that no call sets.
+const NO_ROLE: u8 = 0xA7;
+
 #[derive(Clone, PartialEq)]
 pub struct Station {
     pub image: Vec<u8>,
     pub kinds: Vec<u8>,
+    pub roles: Vec<u8>,
     pub ledger: Vec<u8>,
 }
 
@@ -25,6 +29,7 @@ impl Station {
         Station {
             image: vec![0; sectors * SECTOR],
             kinds: vec![0; sectors],
+            roles: vec![NO_ROLE; sectors],
             ledger: vec![0; LEDGER],
         }
     }
@@ -60,7 +65,14 @@ impl Station {
         self.image[block as usize * SECTOR..][..SECTOR].copy_from_slice(bytes);
     }
 
-    /// A call that is lent no fourth buffer.
+    /// Leaves of the disc so many sectors.
+    pub fn shorten(&mut self, sectors: usize) {
+        self.image.truncate(sectors * SECTOR);
+        self.kinds.truncate(sectors);
+        self.roles.truncate(sectors);
+    }
+
+    /// A call that is lent no block, timestamp, answer or view.
     pub fn call(&mut self, call: Call) -> Answer {
         self.call_lent(call, &mut [])
     }
@@ -122,6 +134,7 @@ impl Station {
         let lent = Lent {
             image: &self.image,
             kinds: &self.kinds,
+            roles: &self.roles,
             ledger: &self.ledger,
             buffer,
         };
@@ -129,7 +142,8 @@ impl Station {
     }
 
     /// The call cut after j sectors, of those that the core records and of those
-    /// that the model does; the discs left are compared, and the ledger is lost.
+    /// that the model does; the discs left are compared, and ledger and roles are
+    /// lost.
     pub fn cut(&mut self, call: Call, buffer: &[u8], j: usize, torn: Option<&[u8; SECTOR]>) {
         let mut core = Core::holding(self, 0);
         let mut whole = core.clone();
@@ -140,6 +154,7 @@ impl Station {
         let same = core.image[..] == self.image && core.kinds[..] == self.kinds;
         assert!(same, "core and model differ, {call:?} cut after {j}");
         self.ledger.fill(0xA5);
+        self.roles.fill(NO_ROLE);
     }
 }
 

@@ -13,7 +13,7 @@ const DATA: u8 = 1;
 /// them; so they are no zeros, which readers like to take for an end.
 const UNRECORDED: u8 = 0xA5;
 
-/// What a lost ledger holds: begin and mount do not read it.
+/// What a lost ledger and lost roles hold: begin and mount do not read them.
 const LOST: u8 = 0xEE;
 
 #[derive(Clone)]
@@ -21,6 +21,7 @@ pub struct Disc {
     front: Vec<u8>,
     pub image: Vec<u8>,
     pub kinds: Vec<u8>,
+    pub roles: Vec<u8>,
     pub ledger: Vec<u8>,
 }
 
@@ -33,6 +34,7 @@ impl Disc {
             front: front.to_vec(),
             image: image.to_vec(),
             kinds: vec![DATA; image.len() / SECTOR],
+            roles: vec![LOST; image.len() / SECTOR],
             ledger: vec![LOST; LEDGER],
         }
     }
@@ -41,17 +43,19 @@ impl Disc {
     pub fn with_blank(mut self, sectors: usize) -> Disc {
         let all = self.kinds.len() + sectors;
         self.kinds.resize(all, BLANK);
+        self.roles.resize(all, LOST);
         self.image.resize(all * SECTOR, UNRECORDED);
         self
     }
 
-    /// The disc when only its first sectors were recorded, and the ledger is
+    /// The disc when only its first sectors were recorded, and ledger and roles are
     /// lost: what a power cut leaves.
     pub fn cut_to(&self, recorded: usize) -> Disc {
         let mut disc = self.clone();
         disc.kinds[recorded..].fill(BLANK);
         disc.image[recorded * SECTOR..].fill(UNRECORDED);
         disc.ledger.fill(LOST);
+        disc.roles.fill(LOST);
         disc
     }
 
@@ -93,16 +97,22 @@ impl Disc {
     }
 
     pub fn begin(&mut self) -> Result<(), Refusal> {
-        station::begin(&self.image, &self.kinds, &mut self.ledger)
+        station::begin(&self.image, &self.kinds, &mut self.roles, &mut self.ledger)
     }
 
     /// Whether the disc is clean.
     pub fn mount(&mut self) -> Result<bool, Refusal> {
-        station::mount(&self.image, &self.kinds, &mut self.ledger)
+        station::mount(&self.image, &self.kinds, &mut self.roles, &mut self.ledger)
     }
 
     pub fn look_back(&mut self, k: u32) -> Result<usize, Refusal> {
-        let block = station::look_back(&self.image, &self.kinds, &mut self.ledger, k)?;
+        let block = station::look_back(
+            &self.image,
+            &self.kinds,
+            &mut self.roles,
+            &mut self.ledger,
+            k,
+        )?;
         Ok(block as usize)
     }
 
@@ -142,13 +152,14 @@ impl Disc {
 
     /// Records a block as number v; the block's place.
     pub fn write(&mut self, v: u32, block: &[u8]) -> usize {
-        let Disc {
-            image,
-            kinds,
-            ledger,
-            ..
-        } = self;
-        match station::write(image, kinds, ledger, v, block) {
+        match station::write(
+            &mut self.image,
+            &mut self.kinds,
+            &mut self.roles,
+            &mut self.ledger,
+            v,
+            block,
+        ) {
             Ok(block) => block as usize,
             Err(refusal) => panic!("write {v} is refused: {}", refusal.number()),
         }
@@ -156,7 +167,12 @@ impl Disc {
 
     /// The table's place.
     pub fn commit(&mut self) -> usize {
-        match station::commit(&mut self.image, &mut self.kinds, &mut self.ledger) {
+        match station::commit(
+            &mut self.image,
+            &mut self.kinds,
+            &mut self.roles,
+            &mut self.ledger,
+        ) {
             Ok(block) => block as usize,
             Err(refusal) => panic!("commit is refused: {}", refusal.number()),
         }
@@ -164,13 +180,13 @@ impl Disc {
 
     /// The same with a timestamp.
     pub fn commit_at(&mut self, stamp: Timestamp) -> usize {
-        let Disc {
-            image,
-            kinds,
-            ledger,
-            ..
-        } = self;
-        match station::commit_at(image, kinds, ledger, &stamp.to_bytes()) {
+        match station::commit_at(
+            &mut self.image,
+            &mut self.kinds,
+            &mut self.roles,
+            &mut self.ledger,
+            &stamp.to_bytes(),
+        ) {
             Ok(block) => block as usize,
             Err(refusal) => panic!("commit at is refused: {}", refusal.number()),
         }
@@ -179,13 +195,15 @@ impl Disc {
     /// Closes the session; the table's place.
     pub fn close_session(&mut self, [main, reserve]: [Extent; 2]) -> usize {
         let start = self.start() as u32;
-        let Disc {
-            image,
-            kinds,
-            ledger,
-            ..
-        } = self;
-        match station::close_session(image, kinds, ledger, main, reserve, start) {
+        match station::close_session(
+            &mut self.image,
+            &mut self.kinds,
+            &mut self.roles,
+            &mut self.ledger,
+            main,
+            reserve,
+            start,
+        ) {
             Ok(block) => block as usize,
             Err(refusal) => panic!("close session is refused: {}", refusal.number()),
         }
@@ -201,13 +219,21 @@ impl Disc {
     }
 
     pub fn release(&mut self, v: u32) {
-        if let Err(refusal) = station::release(&self.image, &self.kinds, &mut self.ledger, v) {
+        if let Err(refusal) = station::release(
+            &mut self.image,
+            &mut self.kinds,
+            &mut self.roles,
+            &mut self.ledger,
+            v,
+        ) {
             panic!("release {v} is refused: {}", refusal.number());
         }
     }
 
     pub fn close_packet(&mut self) {
-        if let Err(refusal) = station::close_packet(&self.image, &self.kinds, &mut self.ledger) {
+        if let Err(refusal) =
+            station::close_packet(&self.image, &self.kinds, &self.roles, &mut self.ledger)
+        {
             panic!("close packet is refused: {}", refusal.number());
         }
     }

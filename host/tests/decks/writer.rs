@@ -246,10 +246,11 @@ fn the_writers_table_is_refused_as_a_block() {
     let Disc {
         image,
         kinds,
+        roles,
         ledger,
         ..
     } = &mut disc;
-    let refused = station::write(image, kinds, ledger, 2, &tagged);
+    let refused = station::write(image, kinds, roles, ledger, 2, &tagged);
     assert_eq!(outcome(refused), 15);
     assert_eq!(disc.write(2, &copy), taken);
     assert_eq!(disc.mount(), Ok(false), "dirty, and no copy counts");

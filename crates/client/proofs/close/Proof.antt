@@ -12,20 +12,20 @@ use Rattle.client.proofs.close.Tie as tie
 
 -- the buffers as they are lent
 abbrev X : tie.Start → Day
-X s = morning (s .args .image .now) (s .args .kinds .now) (s .args .ledger .now)
+X s = morning (s .args .image .now) (s .args .kinds .now) (s .args .roles .now) (s .args .ledger .now)
 
 -- the places: the call that the test is about, the test, the last call
 abbrev start-of : tie.After-write-first → tie.Start
-start-of c = c .before .before .before .before .before .before .before .before
+start-of c = c .before .before .before .before .before .before .before .before .before .before
 
-abbrev tested : tie.After-slice-known6 → tie.After-write-first
-tested c = c .before .before .before .before .before .before
+abbrev tested : tie.After-slice-known8 → tie.After-write-first
+tested c = c .before .before .before .before .before .before .before .before
 
 abbrev test-of : tie.After-close-session → tie.Else1
-test-of c = c .before .before .before .before
+test-of c = c .before .before .before .before .before
 
-abbrev last-call : tie.After-slice-known9 → tie.After-close-session
-last-call c = c .before .before .before .before .before .before
+abbrev last-call : tie.After-slice-known12 → tie.After-close-session
+last-call c = c .before .before .before .before .before .before .before .before
 
 -- the first part of the day
 abbrev first-part : tie.Start → List Call
@@ -35,7 +35,7 @@ first-part s = opening (s .args .fresh) ∷ write (some (s .args .v)) (s .args .
 abbrev closing : tie.Start → Call
 closing s = let a = s .args in closeSession (a .main) (a .reserve) (a .start)
 
-begun : (c : tie.After-write-first) → ended (c .write-first .result) (c .write-first .last .0) (c .write-first .last .1 .0) (c .write-first .last .1 .1 .0) ≡ day (X (start-of c)) (first-part (start-of c))
+begun : (c : tie.After-write-first) → ended (c .write-first .result) (c .write-first .last .0) (c .write-first .last .1 .0) (c .write-first .last .1 .1 .0) (c .write-first .last .1 .1 .1 .0) ≡ day (X (start-of c)) (first-part (start-of c))
 begun c = c .write-first .ensures
 
 write-first-requires : tie.Need-write-first-requires
@@ -50,6 +50,9 @@ same-length-2 c = search needs
 same-length-3 : tie.Need-same-length-3
 same-length-3 c = search needs
 
+same-length-4 : tie.Need-same-length-4
+same-length-4 c = search needs
+
 returns : tie.Need-returns
 returns c =
     let o = tested (c .before) in
@@ -59,14 +62,17 @@ returns c =
 close-session-requires : tie.Need-close-session-requires
 close-session-requires c κs = search needs
 
-same-length-4 : tie.Need-same-length-4
-same-length-4 c = search needs
-
 same-length-5 : tie.Need-same-length-5
 same-length-5 c = search needs
 
 same-length-6 : tie.Need-same-length-6
 same-length-6 c = search needs
+
+same-length-7 : tie.Need-same-length-7
+same-length-7 c = search needs
+
+same-length-8 : tie.Need-same-length-8
+same-length-8 c = search needs
 
 returns-2 : tie.Need-returns-2
 returns-2 c =
@@ -74,7 +80,7 @@ returns-2 c =
     let e = test-of l in
     let o = tested (e .before) in
     let s = start-of o in
-    one (o .write-first .last .0) (o .write-first .last .1 .0) (o .write-first .last .1 .1 .0) (closing s) (l .close-session .ensures) ∙ goes-on (X s) (first-part s) [] (begun o) (closing s) (e .if1 .left)
+    one (o .write-first .last .0) (o .write-first .last .1 .0) (o .write-first .last .1 .1 .0) (o .write-first .last .1 .1 .1 .0) (closing s) (l .close-session .ensures) ∙ goes-on (X s) (first-part s) [] (begun o) (closing s) (e .if1 .left)
 
 pub close-spec : {M : Type 1} → statement M
 close-spec =
@@ -84,9 +90,11 @@ close-spec =
     same-length
     same-length-2
     same-length-3
+    same-length-4
     returns
     close-session-requires
-    same-length-4
     same-length-5
     same-length-6
+    same-length-7
+    same-length-8
     returns-2)

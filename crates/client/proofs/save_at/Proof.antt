@@ -12,26 +12,26 @@ use Rattle.client.proofs.save_at.Tie as tie
 
 -- the buffers as they are lent
 abbrev X : tie.Start → Day
-X s = morning (s .args .image .now) (s .args .kinds .now) (s .args .ledger .now)
+X s = morning (s .args .image .now) (s .args .kinds .now) (s .args .roles .now) (s .args .ledger .now)
 
 -- the places: the call that the test is about, the test, the last call
 abbrev start-of : tie.After-write-first → tie.Start
-start-of c = c .before .before .before .before .before .before .before .before .before
+start-of c = c .before .before .before .before .before .before .before .before .before .before .before
 
-abbrev tested : tie.After-slice-known6 → tie.After-write-first
-tested c = c .before .before .before .before .before .before
+abbrev tested : tie.After-slice-known8 → tie.After-write-first
+tested c = c .before .before .before .before .before .before .before .before
 
 abbrev test-of : tie.After-commit-at → tie.Else1
-test-of c = c .before .before .before .before
+test-of c = c .before .before .before .before .before
 
-abbrev last-call : tie.After-slice-known9 → tie.After-commit-at
-last-call c = c .before .before .before .before .before .before
+abbrev last-call : tie.After-slice-known12 → tie.After-commit-at
+last-call c = c .before .before .before .before .before .before .before .before
 
 -- the first part of the day
 abbrev first-part : tie.Start → List Call
 first-part s = opening (s .args .fresh) ∷ write (some (s .args .v)) (s .args .block .now) ∷ []
 
-begun : (c : tie.After-write-first) → ended (c .write-first .result) (c .write-first .last .0) (c .write-first .last .1 .0) (c .write-first .last .1 .1 .0) ≡ day (X (start-of c)) (first-part (start-of c))
+begun : (c : tie.After-write-first) → ended (c .write-first .result) (c .write-first .last .0) (c .write-first .last .1 .0) (c .write-first .last .1 .1 .0) (c .write-first .last .1 .1 .1 .0) ≡ day (X (start-of c)) (first-part (start-of c))
 begun c = c .write-first .ensures
 
 write-first-requires : tie.Need-write-first-requires
@@ -46,6 +46,9 @@ same-length-2 c = search needs
 same-length-3 : tie.Need-same-length-3
 same-length-3 c = search needs
 
+same-length-4 : tie.Need-same-length-4
+same-length-4 c = search needs
+
 returns : tie.Need-returns
 returns c =
     let o = tested (c .before) in
@@ -55,14 +58,17 @@ returns c =
 commit-at-requires : tie.Need-commit-at-requires
 commit-at-requires c κs = search needs
 
-same-length-4 : tie.Need-same-length-4
-same-length-4 c = search needs
-
 same-length-5 : tie.Need-same-length-5
 same-length-5 c = search needs
 
 same-length-6 : tie.Need-same-length-6
 same-length-6 c = search needs
+
+same-length-7 : tie.Need-same-length-7
+same-length-7 c = search needs
+
+same-length-8 : tie.Need-same-length-8
+same-length-8 c = search needs
 
 returns-2 : tie.Need-returns-2
 returns-2 c =
@@ -70,7 +76,7 @@ returns-2 c =
     let e = test-of l in
     let o = tested (e .before) in
     let s = start-of o in
-    one (o .write-first .last .0) (o .write-first .last .1 .0) (o .write-first .last .1 .1 .0) (commit (some (s .args .stamp .now))) (l .commit-at .ensures) ∙ goes-on (X s) (first-part s) [] (begun o) (commit (some (s .args .stamp .now))) (e .if1 .left)
+    one (o .write-first .last .0) (o .write-first .last .1 .0) (o .write-first .last .1 .1 .0) (o .write-first .last .1 .1 .1 .0) (commit (some (s .args .stamp .now))) (l .commit-at .ensures) ∙ goes-on (X s) (first-part s) [] (begun o) (commit (some (s .args .stamp .now))) (e .if1 .left)
 
 pub save-at-spec : {M : Type 1} → statement M
 save-at-spec =
@@ -80,9 +86,11 @@ save-at-spec =
     same-length
     same-length-2
     same-length-3
+    same-length-4
     returns
     commit-at-requires
-    same-length-4
     same-length-5
     same-length-6
+    same-length-7
+    same-length-8
     returns-2)

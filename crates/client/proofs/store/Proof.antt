@@ -17,29 +17,29 @@ use Rattle.client.proofs.store.Tie as tie
 
 -- the buffers as they are lent
 abbrev X : tie.Start → Day
-X s = morning (s .args .image .now) (s .args .kinds .now) (s .args .ledger .now)
+X s = morning (s .args .image .now) (s .args .kinds .now) (s .args .roles .now) (s .args .ledger .now)
 
 -- the places: the call that the test is about, the test, the entry, the last call
 abbrev start-of : tie.After-write-run → tie.Start
-start-of c = c .before .before .before .before .before .before .before .before
+start-of c = c .before .before .before .before .before .before .before .before .before .before
 
-abbrev tested : tie.After-slice-known6 → tie.After-write-run
-tested c = c .before .before .before .before .before .before
+abbrev tested : tie.After-slice-known8 → tie.After-write-run
+tested c = c .before .before .before .before .before .before .before .before
 
 abbrev test-of : tie.After-words → tie.Else1
 test-of c = c .before .before
 
 abbrev made-of : tie.After-write → tie.After-record
-made-of c = c .before .before .before .before .before .before
+made-of c = c .before .before .before .before .before .before .before
 
-abbrev last-call : tie.After-slice-known9 → tie.After-write
-last-call c = c .before .before .before .before .before .before
+abbrev last-call : tie.After-slice-known12 → tie.After-write
+last-call c = c .before .before .before .before .before .before .before .before
 
 -- the first part of the day
 abbrev first-part : tie.Start → List Call
 first-part s = opening (s .args .fresh) ∷ write none (s .args .block .now) ∷ []
 
-begun : (c : tie.After-write-run) → ended (c .write-run .result) (c .write-run .last .0) (c .write-run .last .1 .0) (c .write-run .last .1 .1 .0) ≡ day (X (start-of c)) (first-part (start-of c))
+begun : (c : tie.After-write-run) → ended (c .write-run .result) (c .write-run .last .0) (c .write-run .last .1 .0) (c .write-run .last .1 .1 .0) (c .write-run .last .1 .1 .1 .0) ≡ day (X (start-of c)) (first-part (start-of c))
 begun c = c .write-run .ensures
 
 -- done, it told a block
@@ -70,6 +70,9 @@ same-length-2 c = search needs
 same-length-3 : tie.Need-same-length-3
 same-length-3 c = search needs
 
+same-length-4 : tie.Need-same-length-4
+same-length-4 c = search needs
+
 returns : tie.Need-returns
 returns c =
     let o = tested (c .before) in
@@ -97,14 +100,17 @@ slice-aggregate-write c = search needs
 write-requires : tie.Need-write-requires
 write-requires c κs = search needs
 
-same-length-4 : tie.Need-same-length-4
-same-length-4 c = search needs
-
 same-length-5 : tie.Need-same-length-5
 same-length-5 c = search needs
 
 same-length-6 : tie.Need-same-length-6
 same-length-6 c = search needs
+
+same-length-7 : tie.Need-same-length-7
+same-length-7 c = search needs
+
+same-length-8 : tie.Need-same-length-8
+same-length-8 c = search needs
 
 returns-2 : tie.Need-returns-2
 returns-2 c =
@@ -115,8 +121,8 @@ returns-2 c =
     let s = start-of o in
     let v : ℕ = s .args .v in
     let named : ℕ → List ℕ = λ b. entry (extent (s .args .n) b ∷ []) (b + 1) in
-    one (o .write-run .last .0) (o .write-run .last .1 .0) (o .write-run .last .1 .1 .0) (write (some v) (r .«record» .last .0)) (l .write .ensures)
-    ∙ ap (λ (x : List ℕ). day (morning (o .write-run .last .0) (o .write-run .last .1 .0) (o .write-run .last .1 .1 .0)) (write (some v) x ∷ [])) (made r ∙ ap named (answered e))
+    one (o .write-run .last .0) (o .write-run .last .1 .0) (o .write-run .last .1 .1 .0) (o .write-run .last .1 .1 .1 .0) (write (some v) (r .«record» .last .0)) (l .write .ensures)
+    ∙ ap (λ (x : List ℕ). day (morning (o .write-run .last .0) (o .write-run .last .1 .0) (o .write-run .last .1 .1 .0) (o .write-run .last .1 .1 .1 .0)) (write (some v) x ∷ [])) (made r ∙ ap named (answered e))
     ∙ goes-on (X s) (first-part s) [] (begun o) (write (some v) (named (day (X s) (first-part s) .answer))) (e .if1 .left)
 
 pub store-spec : {M : Type 1} → statement M
@@ -127,6 +133,7 @@ store-spec =
     same-length
     same-length-2
     same-length-3
+    same-length-4
     returns
     cast-t
     slice-aggregate-record
@@ -135,7 +142,8 @@ store-spec =
     record-requires
     slice-aggregate-write
     write-requires
-    same-length-4
     same-length-5
     same-length-6
+    same-length-7
+    same-length-8
     returns-2)

@@ -13,26 +13,26 @@ use Rattle.client.proofs.store_and_view.Tie as tie
 
 -- the buffers as they are lent
 abbrev X : tie.Start → Day
-X s = morning (s .args .image .now) (s .args .kinds .now) (s .args .ledger .now)
+X s = morning (s .args .image .now) (s .args .kinds .now) (s .args .roles .now) (s .args .ledger .now)
 
 -- the places: the call that the test is about, the test, the last call
 abbrev start-of : tie.After-store → tie.Start
-start-of c = c .before .before .before .before .before .before .before .before .before
+start-of c = c .before .before .before .before .before .before .before .before .before .before .before
 
-abbrev tested : tie.After-slice-known7 → tie.After-store
-tested c = c .before .before .before .before .before .before
+abbrev tested : tie.After-slice-known9 → tie.After-store
+tested c = c .before .before .before .before .before .before .before .before
 
 abbrev test-of : tie.After-view → tie.Else1
 test-of c = c .before .before .before .before .before
 
-abbrev last-call : tie.After-slice-known8 → tie.After-view
+abbrev last-call : tie.After-slice-known10 → tie.After-view
 last-call c = c .before .before
 
 -- the day
 abbrev stored : tie.Start → List Call
 stored s = storing (X s) (s .args .fresh) (s .args .v) (s .args .block .now) (s .args .n)
 
-begun : (c : tie.After-store) → ended (c .store .result) (c .store .last .0) (c .store .last .1 .0) (c .store .last .1 .1 .0) ≡ day (X (start-of c)) (stored (start-of c))
+begun : (c : tie.After-store) → ended (c .store .result) (c .store .last .0) (c .store .last .1 .0) (c .store .last .1 .1 .0) (c .store .last .1 .1 .1 .0) ≡ day (X (start-of c)) (stored (start-of c))
 begun c = c .store .ensures
 
 store-requires : tie.Need-store-requires
@@ -47,6 +47,9 @@ same-length-2 c = search needs
 same-length-3 : tie.Need-same-length-3
 same-length-3 c = search needs
 
+same-length-4 : tie.Need-same-length-4
+same-length-4 c = search needs
+
 returns : tie.Need-returns
 returns c =
     let o = tested (c .before) in
@@ -58,9 +61,6 @@ returns c =
 view-requires : tie.Need-view-requires
 view-requires c κs = search needs
 
-same-length-4 : tie.Need-same-length-4
-same-length-4 c = search needs
-
 same-length-5 : tie.Need-same-length-5
 same-length-5 c = search needs
 
@@ -69,6 +69,12 @@ same-length-6 c = search needs
 
 same-length-7 : tie.Need-same-length-7
 same-length-7 c = search needs
+
+same-length-8 : tie.Need-same-length-8
+same-length-8 c = search needs
+
+same-length-9 : tie.Need-same-length-9
+same-length-9 c = search needs
 
 returns-2 : tie.Need-returns-2
 returns-2 c =
@@ -89,10 +95,12 @@ store-and-view-spec =
     same-length
     same-length-2
     same-length-3
+    same-length-4
     returns
     view-requires
-    same-length-4
     same-length-5
     same-length-6
     same-length-7
+    same-length-8
+    same-length-9
     returns-2)

@@ -19,8 +19,8 @@ const MOST_SECTORS: usize = 360_000;
 /// A closing's pointer stands so many sectors before its table.
 pub const BEFORE_TABLE: usize = 256;
 
-/// Sectors that the search passes over at a time.
-const GROUP: usize = 8;
+/// Sectors that a search passes over at a time.
+pub const GROUP: usize = 8;
 
 /// Kinds that are tested at a time.
 const LANE: usize = 32;
@@ -102,17 +102,28 @@ impl<'a> Disc<'a> {
     /// The newest below a multiple of the group. A group of data sectors of
     /// which none starts as a table does is passed over at one test.
     fn newest_in_groups(&self, end: usize) -> Option<Found<'a>> {
-        let sectors = self.sectors[..end].as_chunks::<GROUP>().0;
-        let kinds = self.kinds[..end].as_chunks::<GROUP>().0;
-        for (group, (sectors, kinds)) in sectors.iter().zip(kinds).enumerate().rev() {
-            if *kinds != [DATA; GROUP] || any_tagged(sectors) {
-                let blocks = GROUP * group..GROUP * (group + 1);
-                if let Some(found) = self.newest_in(blocks) {
-                    return Some(found);
-                }
+        let groups = self.groups(end).enumerate().rev();
+        for (group, _) in groups.filter(|(_, may_have_vat)| *may_have_vat) {
+            let blocks = GROUP * group..GROUP * (group + 1);
+            if let Some(found) = self.newest_in(blocks) {
+                return Some(found);
             }
         }
         None
+    }
+
+    /// The groups below a multiple of the group: whether a table may be there.
+    #[inline(always)]
+    pub fn groups(
+        &self,
+        end: usize,
+    ) -> impl DoubleEndedIterator<Item = bool> + ExactSizeIterator + use<'a> {
+        let sectors = self.sectors[..end].as_chunks::<GROUP>().0;
+        let kinds = self.kinds[..end].as_chunks::<GROUP>().0;
+        let may_have_vat = |(sectors, kinds): (&[Sector; GROUP], &[u8; GROUP])| {
+            *kinds != [DATA; GROUP] || any_tagged(sectors)
+        };
+        sectors.iter().zip(kinds).map(may_have_vat)
     }
 
     /// The newest in some blocks, one by one.

@@ -85,6 +85,19 @@ pub fn block_of(ledger: &Ledger, v: u32) -> Option<u32> {
     (block != NONE).then_some(block)
 }
 
+/// The entries below size.
+#[inline(always)]
+pub fn entries(ledger: &Ledger) -> impl Iterator<Item = u32> + '_ {
+    let used = &ledger[..4 * u32_at(ledger, SIZE) as usize];
+    used.as_chunks().0.iter().map(|x| u32::from_le_bytes(*x))
+}
+
+/// Whether a block is that of one number alone, without an exit.
+#[inline(always)]
+pub fn names_once(ledger: &Ledger, block: u32) -> bool {
+    entries(ledger).fold(0, |times, entry| times + u32::from(entry == block)) == 1
+}
+
 /// "In mode 0 with recorded above 0, write and commit first record seven link
 /// sectors [...]. In mode 1, or with recorded 0, none."
 #[inline(always)]

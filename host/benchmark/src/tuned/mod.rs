@@ -12,6 +12,7 @@
 //!   is closed;
 //! - [`run`]: the entry of a run longer than a block, and what it shows;
 //! - [`ledger`]: the volume's working state, and when it fits the disc;
+//! - [`roles`]: what each sector is used for, scanned and kept up;
 //! - [`calls`]: the thirteen calls; [`answer`]: their two numbers.
 
 #![forbid(unsafe_code)]
@@ -23,6 +24,7 @@ mod crc;
 mod disc;
 mod fields;
 mod ledger;
+mod roles;
 mod run;
 mod table;
 mod time;
@@ -36,49 +38,63 @@ pub use run::MOST_VIEWED;
 pub use table::{put_vat, Sector, LIMIT, NONE, SECTOR};
 pub use time::{Stamp, TIME};
 
-pub fn begin(image: &[u8], kinds: &[u8], ledger: &mut [u8]) -> u64 {
-    packed(calls::begin(image, kinds, ledger))
+pub fn begin(image: &[u8], kinds: &[u8], roles: &mut [u8], ledger: &mut [u8]) -> u64 {
+    packed(calls::begin(image, kinds, roles, ledger))
 }
 
-pub fn mount(image: &[u8], kinds: &[u8], ledger: &mut [u8]) -> u64 {
-    packed(calls::mount(image, kinds, ledger))
+pub fn mount(image: &[u8], kinds: &[u8], roles: &mut [u8], ledger: &mut [u8]) -> u64 {
+    packed(calls::mount(image, kinds, roles, ledger))
 }
 
-pub fn write(image: &mut [u8], kinds: &mut [u8], ledger: &mut [u8], v: u32, block: &[u8]) -> u64 {
-    packed(calls::write(image, kinds, ledger, Some(v), block))
+pub fn write(
+    image: &mut [u8],
+    kinds: &mut [u8],
+    roles: &mut [u8],
+    ledger: &mut [u8],
+    v: u32,
+    block: &[u8],
+) -> u64 {
+    packed(calls::write(image, kinds, roles, ledger, Some(v), block))
 }
 
 pub fn write_unnumbered(
     image: &mut [u8],
     kinds: &mut [u8],
+    roles: &mut [u8],
     ledger: &mut [u8],
     block: &[u8],
 ) -> u64 {
-    packed(calls::write(image, kinds, ledger, None, block))
+    packed(calls::write(image, kinds, roles, ledger, None, block))
 }
 
-pub fn release(image: &[u8], kinds: &[u8], ledger: &mut [u8], v: u32) -> u64 {
-    packed(calls::release(image, kinds, ledger, v))
+pub fn release(image: &[u8], kinds: &[u8], roles: &mut [u8], ledger: &mut [u8], v: u32) -> u64 {
+    packed(calls::release(image, kinds, roles, ledger, v))
 }
 
-pub fn close_packet(image: &[u8], kinds: &[u8], ledger: &mut [u8]) -> u64 {
-    packed(calls::close_packet(image, kinds, ledger))
+pub fn close_packet(image: &[u8], kinds: &[u8], roles: &[u8], ledger: &mut [u8]) -> u64 {
+    packed(calls::close_packet(image, kinds, roles, ledger))
 }
 
-pub fn commit(image: &mut [u8], kinds: &mut [u8], ledger: &mut [u8]) -> u64 {
-    packed(calls::commit(image, kinds, ledger))
+pub fn commit(image: &mut [u8], kinds: &mut [u8], roles: &mut [u8], ledger: &mut [u8]) -> u64 {
+    packed(calls::commit(image, kinds, roles, ledger))
 }
 
-pub fn commit_at(image: &mut [u8], kinds: &mut [u8], ledger: &mut [u8], stamp: &[u8]) -> u64 {
-    packed(calls::commit_at(image, kinds, ledger, stamp))
+pub fn commit_at(
+    image: &mut [u8],
+    kinds: &mut [u8],
+    roles: &mut [u8],
+    ledger: &mut [u8],
+    stamp: &[u8],
+) -> u64 {
+    packed(calls::commit_at(image, kinds, roles, ledger, stamp))
 }
 
 pub fn read(image: &[u8], kinds: &[u8], ledger: &[u8], v: u32, block: &mut [u8]) -> u64 {
     packed(calls::read(image, kinds, ledger, v, block))
 }
 
-pub fn look_back(image: &[u8], kinds: &[u8], ledger: &mut [u8], k: u32) -> u64 {
-    packed(calls::look_back(image, kinds, ledger, k))
+pub fn look_back(image: &[u8], kinds: &[u8], roles: &mut [u8], ledger: &mut [u8], k: u32) -> u64 {
+    packed(calls::look_back(image, kinds, roles, ledger, k))
 }
 
 pub fn view(
@@ -100,6 +116,7 @@ pub fn time_of(image: &[u8], kinds: &[u8], ledger: &[u8], k: u32, answer: &mut [
 pub fn close_session(
     image: &mut [u8],
     kinds: &mut [u8],
+    roles: &mut [u8],
     ledger: &mut [u8],
     main_length: u32,
     main_location: u32,
@@ -118,5 +135,5 @@ pub fn close_session(
         },
         partition_start,
     };
-    packed(calls::close_session(image, kinds, ledger, &anchor))
+    packed(calls::close_session(image, kinds, roles, ledger, &anchor))
 }

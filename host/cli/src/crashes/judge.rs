@@ -10,8 +10,9 @@ use station_model::book::{Content, History, Snapshot};
 use super::noted::State;
 use super::RUN;
 use crate::form::Disc;
+use crate::ledger::Map;
 use crate::listing::listing;
-use crate::map::Map;
+use crate::roles;
 
 /// The first blank sector.
 pub fn recorded(disc: &Disc) -> usize {
@@ -48,16 +49,34 @@ pub fn ledger_is_safe(left: Loaded, before: Loaded, after: Loaded) {
         assert!(recorded_by(after), "a ledger that is ahead of its disc");
     } else if !recorded_by(before) {
         let (image, kinds) = left.1.lent();
-        let answer = station::close_packet(image, kinds, &mut ledger.clone());
+        let scratch = &mut vec![0; kinds.len()];
+        let answer = station::close_packet(image, kinds, scratch, &mut ledger.clone());
         assert_eq!(answer, Err(Refusal::LedgerUnfit));
     }
+}
+
+/// The roles, if a command would believe them.
+pub fn believed<'a>((state, disc): Loaded<'a>) -> Option<&'a [u8]> {
+    let (file, ledger) = (state.roles.as_ref()?, state.ledger.as_ref()?);
+    roles::known(file, ledger, disc.lent().1)
+}
+
+/// Roles that are believed are those that the command before, or this one, left with
+/// just this ledger and so many sectors.
+pub fn roles_are_safe(left: Loaded, before: Loaded, after: Loaded) {
+    let Some(roles) = believed(left) else { return };
+    let left_by = |other: Loaded| {
+        let same = recorded(left.1) == recorded(other.1) && left.0.ledger == other.0.ledger;
+        same && believed(other) == Some(roles)
+    };
+    assert!(left_by(before) || left_by(after), "roles of no command");
 }
 
 /// Document 01's claim after a list, and the rows of the listing.
 pub fn shows_the_book(disc: &Disc, book: &History) {
     let (image, kinds) = disc.lent();
-    let mut ledger = [0x5A; LEDGER];
-    let mounted = station::mount(image, kinds, &mut ledger);
+    let (mut roles, mut ledger) = (vec![0x5A; kinds.len()], [0x5A; LEDGER]);
+    let mounted = station::mount(image, kinds, &mut roles, &mut ledger);
     match book.page_back(0) {
         None => assert_eq!(mounted, Err(Refusal::NoVat)),
         Some(page) => {
@@ -66,7 +85,7 @@ pub fn shows_the_book(disc: &Disc, book: &History) {
         }
     }
     for k in 0..book.pages.len() {
-        let table = station::look_back(image, kinds, &mut ledger, k as u32);
+        let table = station::look_back(image, kinds, &mut roles, &mut ledger, k as u32);
         assert!(table.is_ok(), "{table:?}");
         shows(disc, &ledger, book.page_back(k).expect("a page"));
     }

@@ -5,6 +5,7 @@ mod judge;
 mod noted;
 
 use std::cell::RefCell;
+use std::collections::BTreeSet;
 use std::env;
 use std::ffi::OsString;
 use std::fs::{self, File};
@@ -19,7 +20,9 @@ use station_model::book::{Ending, Fed, History};
 use station_model::calls::Call;
 
 use crate::commands::run;
+use crate::failure::Done;
 use crate::form::Disc;
+use crate::screen::Screen;
 use crate::surroundings::Surroundings;
 use noted::{states, Noted, State, Step, Steps};
 
@@ -64,16 +67,17 @@ impl Desk {
             judged: 0,
         };
         let (mut image, mut kinds) = (vec![0xEE; sectors * SECTOR], vec![0; sectors]);
-        let mut ledger = [0; LEDGER];
-        station::begin(&image, &kinds, &mut ledger).expect("begin");
+        let (mut roles, mut ledger) = (vec![0; sectors], [0; LEDGER]);
+        station::begin(&image, &kinds, &mut roles, &mut ledger).expect("begin");
         for place in 0..recorded {
             let (call, made) = match place {
                 0 => {
-                    let made = station::commit(&mut image, &mut kinds, &mut ledger);
+                    let made = station::commit(&mut image, &mut kinds, &mut roles, &mut ledger);
                     (Call::Commit, made)
                 }
                 _ => {
-                    let made = station::write(&mut image, &mut kinds, &mut ledger, 0, &BLOCK);
+                    let (image, kinds) = (&mut image, &mut kinds);
+                    let made = station::write(image, kinds, &mut roles, &mut ledger, 0, &BLOCK);
                     (Call::Write(0), made)
                 }
             };
@@ -83,8 +87,11 @@ impl Desk {
         let digits: String = kinds.iter().map(u8::to_string).collect();
         let mut file = format!("{sectors:8}\n{digits}\n").into_bytes();
         file.extend(image);
-        fs::write(desk.path("run.disc"), file).expect("a disc");
-        fs::write(desk.path("run.disc.ledger"), ledger).expect("a ledger");
+        desk.put(&State {
+            disc: file,
+            roles: Some([&ledger[..], &roles].concat()),
+            ledger: Some(ledger.to_vec()),
+        });
         desk
     }
 
@@ -96,11 +103,31 @@ impl Desk {
         State {
             disc: fs::read(self.path("run.disc")).expect("the disc"),
             ledger: fs::read(self.path("run.disc.ledger")).ok(),
+            roles: fs::read(self.path("run.disc.roles")).ok(),
         }
     }
 
-    /// Runs a command line, and gives its steps.
+    fn put(&self, state: &State) {
+        fs::write(self.path("run.disc"), &state.disc).expect("the disc");
+        for (name, bytes) in [
+            ("run.disc.ledger", &state.ledger),
+            ("run.disc.roles", &state.roles),
+        ] {
+            match bytes {
+                Some(bytes) => fs::write(self.path(name), bytes).expect(name),
+                None => drop(fs::remove_file(self.path(name))),
+            }
+        }
+    }
+
+    /// Runs a command line that is done, and gives its steps.
     fn run(&self, line: &str) -> Vec<Step> {
+        let (done, steps) = self.try_to_run(line);
+        done.unwrap_or_else(|failure| panic!("{line}: {failure}"));
+        steps
+    }
+
+    fn try_to_run(&self, line: &str) -> (Done, Vec<Step>) {
         let in_folder = |word: &str| match word {
             "run.disc" => self.path(word).into_os_string(),
             _ => word.into(),
@@ -112,6 +139,7 @@ impl Desk {
         let mut around = Surroundings {
             input: &mut &*input,
             output: &mut Vec::new(),
+            screen: Screen::PLAIN,
             aside: &mut Vec::new(),
             watched: false,
             disk: &move |files| {
@@ -120,9 +148,8 @@ impl Desk {
             },
         };
         let done = run(&words, &mut around);
-        done.unwrap_or_else(|failure| panic!("{line}: {failure}"));
         let steps = steps.borrow();
-        steps.clone()
+        (done, steps.clone())
     }
 
     /// Runs a command, and judges every state that a crash in it can leave.
@@ -141,10 +168,17 @@ impl Desk {
         feed(&mut whole, event.call, &written, ending);
         let left = states(&before, &steps);
         assert!(left.contains(&after), "the last state is the command's");
+        let known = judge::believed((&after, &new)).is_some();
+        assert_eq!(known, !event.cut, "{}", event.line);
+        let mut discs = BTreeSet::new();
         for state in &left {
             let disc = self.disc_of(state);
-            judge::is_a_cut(&disc, &old, &new);
             judge::ledger_is_safe((state, &disc), (&before, &old), (&after, &new));
+            judge::roles_are_safe((state, &disc), (&before, &old), (&after, &new));
+            if !discs.insert(&state.disc) {
+                continue;
+            }
+            judge::is_a_cut(&disc, &old, &new);
             let vat_kept = !event.cut && judge::recorded(&disc) == recorded as usize;
             let mut book = self.book.clone();
             feed(&mut book, event.call, &written, Ending::Cut { vat_kept });
@@ -153,6 +187,34 @@ impl Desk {
         }
         self.judged += left.len();
         self.book = whole;
+        for state in &left {
+            self.try_again(event, state, (&after, &new));
+        }
+        self.put(&after);
+    }
+
+    /// Where a crash left the roles unknown, what it wrote of them is not believed
+    /// either when the same command is done after it, with the ledger that it was
+    /// written for.
+    fn try_again(&self, event: &Event, left: &State, after: judge::Loaded) {
+        let disc = self.disc_of(left);
+        if judge::believed((left, &disc)).is_some() {
+            return;
+        }
+        self.put(left);
+        if self.try_to_run(event.line).0.is_err() {
+            return;
+        }
+        let state = self.state();
+        let disc = self.disc_of(&state);
+        if let Some(roles) = judge::believed((&state, &disc)) {
+            let recorded = judge::recorded(&disc) == judge::recorded(after.1);
+            assert!(
+                !recorded || judge::believed(after) == Some(roles),
+                "{}",
+                event.line
+            );
+        }
     }
 
     /// The disc in a file of its own, as a command would load it.

@@ -3,7 +3,7 @@
 use std::cell::RefCell;
 use std::rc::Rc;
 
-use crate::disk::{Disk, Files};
+use crate::disk::{Beside, Disk, Files, InPlace};
 use crate::failure::Done;
 
 /// The disk takes such a piece of a file whole or not at all.
@@ -15,12 +15,12 @@ const MOST_PIECES: usize = 10;
 
 #[derive(Clone, Debug)]
 pub enum Step {
-    WriteDisc(usize, Vec<u8>),
-    FlushDisc,
-    WriteLedger(Vec<u8>),
-    FlushLedger,
-    NameLedger,
-    RemoveLedger,
+    Write(InPlace, usize, Vec<u8>),
+    Flush(InPlace),
+    Make(Beside, Vec<u8>),
+    FlushMade(Beside),
+    Name(Beside),
+    Remove(Beside),
     FlushFolder,
 }
 
@@ -39,38 +39,38 @@ impl Noted {
 }
 
 impl Disk for Noted {
-    fn open_disc(&mut self) -> Done {
-        self.files.open_disc()
+    fn open(&mut self, file: InPlace) -> Done {
+        self.files.open(file)
     }
 
-    fn write_disc(&mut self, place: u64, bytes: &[u8]) -> Done {
-        self.note(Step::WriteDisc(place as usize, bytes.to_vec()));
-        self.files.write_disc(place, bytes)
+    fn write(&mut self, file: InPlace, place: u64, bytes: &[u8]) -> Done {
+        self.note(Step::Write(file, place as usize, bytes.to_vec()));
+        self.files.write(file, place, bytes)
     }
 
-    fn flush_disc(&mut self) -> Done {
-        self.note(Step::FlushDisc);
-        self.files.flush_disc()
+    fn flush(&mut self, file: InPlace) -> Done {
+        self.note(Step::Flush(file));
+        self.files.flush(file)
     }
 
-    fn write_ledger(&mut self, bytes: &[u8]) -> Done {
-        self.note(Step::WriteLedger(bytes.to_vec()));
-        self.files.write_ledger(bytes)
+    fn make(&mut self, file: Beside, bytes: &[u8]) -> Done {
+        self.note(Step::Make(file, bytes.to_vec()));
+        self.files.make(file, bytes)
     }
 
-    fn flush_ledger(&mut self) -> Done {
-        self.note(Step::FlushLedger);
-        self.files.flush_ledger()
+    fn flush_made(&mut self, file: Beside) -> Done {
+        self.note(Step::FlushMade(file));
+        self.files.flush_made(file)
     }
 
-    fn name_ledger(&mut self) -> Done {
-        self.note(Step::NameLedger);
-        self.files.name_ledger()
+    fn name(&mut self, file: Beside) -> Done {
+        self.note(Step::Name(file));
+        self.files.name(file)
     }
 
-    fn remove_ledger(&mut self) -> Done {
-        self.note(Step::RemoveLedger);
-        self.files.remove_ledger()
+    fn remove(&mut self, file: Beside) -> Done {
+        self.note(Step::Remove(file));
+        self.files.remove(file)
     }
 
     fn flush_folder(&mut self) -> Done {
@@ -79,22 +79,50 @@ impl Disk for Noted {
     }
 }
 
-/// The two files, as they are found after a crash.
+/// The three files, as they are found after a crash.
 #[derive(Clone, Debug, PartialEq, Eq)]
 pub struct State {
     pub disc: Vec<u8>,
     pub ledger: Option<Vec<u8>>,
+    pub roles: Option<Vec<u8>>,
 }
+
+impl State {
+    /// A file that is changed in place is there.
+    fn in_place(&mut self, file: InPlace) -> &mut Vec<u8> {
+        match file {
+            InPlace::Disc => &mut self.disc,
+            InPlace::Roles => self.roles.as_mut().expect("a role file"),
+        }
+    }
+
+    fn beside(&mut self, file: Beside) -> &mut Option<Vec<u8>> {
+        match file {
+            Beside::Ledger => &mut self.ledger,
+            Beside::Roles => &mut self.roles,
+        }
+    }
+}
+
+/// A file beside the disc, until the folder is flushed.
+#[derive(Default)]
+struct Renamed {
+    /// One without a name, and whether it is flushed.
+    made: Option<(Vec<u8>, bool)>,
+    /// What the name may stand for.
+    names: Vec<Option<Vec<u8>>>,
+}
+
+/// A piece of a file that waits for a flush.
+type Piece = (InPlace, usize, Vec<u8>);
 
 /// What is on the disk for certain, and what may be.
 struct Model {
     certain: State,
-    /// Pieces of the disc file that wait for a flush, in the order of writing.
-    waiting: Vec<(usize, Vec<u8>)>,
-    /// A ledger without a name, and whether it is flushed.
-    new_ledger: Option<(Vec<u8>, bool)>,
-    /// What the ledger's name may stand for until the folder is flushed.
-    names: Vec<Option<Vec<u8>>>,
+    /// In the order of writing.
+    waiting: Vec<Piece>,
+    ledger: Renamed,
+    roles: Renamed,
 }
 
 /// Every state that a crash before, between or after these steps can leave.
@@ -102,8 +130,8 @@ pub fn states(before: &State, steps: &[Step]) -> Vec<State> {
     let mut model = Model {
         certain: before.clone(),
         waiting: Vec::new(),
-        new_ledger: None,
-        names: Vec::new(),
+        ledger: Renamed::default(),
+        roles: Renamed::default(),
     };
     let mut states = vec![before.clone()];
     let mut note = |model: &Model| {
@@ -115,11 +143,11 @@ pub fn states(before: &State, steps: &[Step]) -> Vec<State> {
     };
     for step in steps {
         // Of what waits before a flush, all that waited earlier is a subset.
-        if matches!(step, Step::FlushDisc) {
+        if matches!(step, Step::Flush(_)) {
             note(&model);
         }
         model.take(step);
-        if !matches!(step, Step::WriteDisc(..)) {
+        if !matches!(step, Step::Write(..)) {
             note(&model);
         }
     }
@@ -148,48 +176,86 @@ fn subsets(pieces: usize) -> Vec<Vec<bool>> {
 }
 
 impl Model {
+    fn renamed(&mut self, file: Beside) -> &mut Renamed {
+        match file {
+            Beside::Ledger => &mut self.ledger,
+            Beside::Roles => &mut self.roles,
+        }
+    }
+
     fn take(&mut self, step: &Step) {
         match step {
-            Step::WriteDisc(place, bytes) => self.waiting.extend(pieces(*place, bytes)),
-            Step::FlushDisc => {
-                for (place, bytes) in self.waiting.drain(..) {
-                    put(&mut self.certain.disc, place, &bytes);
-                }
+            Step::Write(file, place, bytes) => self.write(*file, *place, bytes),
+            Step::Flush(flushed) => {
+                let (on_disk, waiting) = std::mem::take(&mut self.waiting)
+                    .into_iter()
+                    .partition(|(file, ..)| file == flushed);
+                self.waiting = waiting;
+                put_all(&mut self.certain, &on_disk);
             }
-            Step::WriteLedger(bytes) => self.new_ledger = Some((bytes.clone(), false)),
-            Step::FlushLedger => self.new_ledger.iter_mut().for_each(|new| new.1 = true),
-            Step::NameLedger => {
-                let (bytes, flushed) = self.new_ledger.take().expect("a ledger to name");
+            Step::Make(file, bytes) => self.renamed(*file).made = Some((bytes.clone(), false)),
+            Step::FlushMade(file) => {
+                let made = self.renamed(*file).made.as_mut();
+                made.expect("a file to flush").1 = true;
+            }
+            Step::Name(file) => {
+                let renamed = self.renamed(*file);
+                let (bytes, flushed) = renamed.made.take().expect("a file to name");
                 // Of a file that was not flushed, the name may be all that is there.
-                self.names.extend((!flushed).then_some(Some(Vec::new())));
-                self.names.push(Some(bytes));
+                renamed.names.extend((!flushed).then_some(Some(Vec::new())));
+                renamed.names.push(Some(bytes));
             }
-            Step::RemoveLedger => self.names.push(None),
+            Step::Remove(file) => self.renamed(*file).names.push(None),
             Step::FlushFolder => {
-                if let Some(last) = self.names.pop() {
-                    self.certain.ledger = last;
+                for file in [Beside::Ledger, Beside::Roles] {
+                    let names = std::mem::take(&mut self.renamed(file).names);
+                    if let Some(last) = names.into_iter().last() {
+                        *self.certain.beside(file) = last;
+                    }
                 }
-                self.names.clear();
             }
         }
+    }
+
+    /// A piece that changes nothing makes no difference, whether it is on the disk or
+    /// not, unless it waits behind another one for its place.
+    fn write(&mut self, file: InPlace, place: usize, bytes: &[u8]) {
+        let certain = self.certain.in_place(file);
+        let waits = |from: usize| self.waiting.iter().any(|(_, place, _)| *place == from);
+        let changes = |(place, bytes): &(usize, Vec<u8>)| {
+            certain[*place..][..bytes.len()] != bytes[..] || waits(*place)
+        };
+        let pieces: Vec<(usize, Vec<u8>)> =
+            pieces(place, bytes).into_iter().filter(changes).collect();
+        let of_file = |(place, bytes)| (file, place, bytes);
+        self.waiting.extend(pieces.into_iter().map(of_file));
     }
 
     fn states(&self) -> Vec<State> {
         let mut states = Vec::new();
         for subset in subsets(self.waiting.len()) {
-            let mut disc = self.certain.disc.clone();
+            let mut state = self.certain.clone();
             let pieces = self.waiting.iter().zip(subset);
-            for ((place, bytes), _) in pieces.filter(|(_, on_disk)| *on_disk) {
-                put(&mut disc, *place, bytes);
-            }
-            for ledger in self.names.iter().chain([&self.certain.ledger]) {
-                states.push(State {
-                    disc: disc.clone(),
-                    ledger: ledger.clone(),
-                });
+            let on_disk = pieces.filter(|(_, on_disk)| *on_disk);
+            let on_disk: Vec<Piece> = on_disk.map(|(piece, _)| piece.clone()).collect();
+            put_all(&mut state, &on_disk);
+            for ledger in self.ledger.names.iter().chain([&state.ledger]) {
+                for roles in self.roles.names.iter().chain([&state.roles]) {
+                    states.push(State {
+                        disc: state.disc.clone(),
+                        ledger: ledger.clone(),
+                        roles: roles.clone(),
+                    });
+                }
             }
         }
         states
+    }
+}
+
+fn put_all(state: &mut State, pieces: &[Piece]) {
+    for (file, place, bytes) in pieces {
+        put(state.in_place(*file), *place, bytes);
     }
 }
 

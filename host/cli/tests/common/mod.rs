@@ -321,3 +321,8 @@ pub fn disc_file(kinds: &[u8], image: &[u8]) -> Vec<u8> {
     file.extend(image);
     file
 }
+
+/// The role file of this ledger and these roles.
+pub fn role_file(ledger: &[u8], roles: &[u8]) -> Vec<u8> {
+    [ledger, roles].concat()
+}

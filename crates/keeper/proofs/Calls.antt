@@ -1,0 +1,242 @@
+-- What a call that is done leaves for its roles, call by call: a ledger of few numbers, where the tables end, the place of what it recorded, and the
+-- roles kept up.
+-- Assumes nothing.
+use Prim.Native.Nat.{ℕ, _+_, _-_, _*_, _≤_, _<_}
+use native.Mathlib.Nat.{add-zero}
+use native.Mathlib.Omega.{arith}
+use mathlib.Core.Path.{_≡_, refl, sym, ap, ap₂, _∙_, subst}
+use mathlib.Core.Bool.{Bool, true, false, _&&_}
+use mathlib.Core.List.{List, []}
+use mathlib.Core.Option.{Option, none, some}
+use lib.Dec.{eqb, ltb, leb, lit≤}
+use lib.ListN.{length, length-set}
+use Rattle.vat.specs.Table.{sectorLength, limit, unused}
+use Rattle.vat.specs.Sector.{noStamp}
+use Rattle.vat.proofs.Theorems.{Tells, tells}
+use Rattle.anchor.specs.declared.Extent.{Extent}
+use Rattle.disc.specs.declared.Walk.{Walk}
+use Rattle.disc.specs.Disc.{Disc, lent, mostSectors, sized, Sector, recorded, blanks, kindAt, sectorAt}
+use Rattle.disc.specs.Tables.{tableAt, mapAt, blockFound, newest}
+use Rattle.disc.specs.Session.{closing, closingLength}
+use Rattle.disc.proofs.Recording.{Sound, leading-le}
+use Rattle.disc.proofs.Found.{newest-table, newest-below, none-recorded, none-newer}
+use Rattle.volume.specs.Volume.{ledgerLength, idle, readOnly, unpack, pack, mapOf, begun, filled, wrote, released}
+use Rattle.volume.proofs.State.{proper-begun, long-unpack, long-filled, size-kept, recorded-kept, last-kept}
+use Rattle.recorder.specs.Calls.{Call, begin, mount, write, release, commit, closeSession, lookBack}
+use Rattle.recorder.specs.Refusals.{first, links, target, blockOf, outcome}
+use Rattle.recorder.specs.Effects.{effect, blockReached, stampOf, After, left, after}
+use Rattle.recorder.proofs.Sectors.{length-closing}
+use Rattle.recorder.proofs.Done.{Fits, ledger-accepted, begin-done, mount-done, size-fits, WriteDone, write-done, release-done, SaveDone, commit-done, closing-done, look-back-done}
+use Rattle.recorder.proofs.Answers.{walked-table}
+use Rattle.roles.specs.Roles.{inUse, unnumbered, tableRole}
+use Rattle.roles.specs.Keeping.{scanned, supersedeIf, letGo, marked, keptUp, rolesTests}
+use Rattle.roles.proofs.Naming.{beyond-kept}
+use Rattle.keeper.proofs.Kept.{lengths-told}
+
+-- ---- the numbers of the ledger
+
+module _ (d : Disc) (l : List ℕ) where
+  pub begin-few : outcome d l begin ≡ 0 → unpack (effect d l begin .ledger) .size ≤ limit
+  unfolding effect begun
+  begin-few z =
+      let ok = begin-done d l z .0 in
+      size-kept (begun (recorded d)) (proper-begun (recorded d) (omega (arith, leading-le (d .kinds), ok .few)) .long) (lit≤ tt)
+
+  -- filled from a table
+  map-few : (b : ℕ) → tableAt d b ≡ true → length (mapAt d b) ≤ limit
+  map-few b e = let t : Tells (sectorAt d b) b = tells (kindAt d b) (sectorAt d b) b e in omega (arith, t .counted, t .few)
+
+  table-few : (b mode : ℕ) → tableAt d b ≡ true → unpack (pack (filled (mapAt d b) b (recorded d) mode)) .size ≤ limit
+  unfolding filled
+  table-few b mode e = size-kept (filled (mapAt d b) b (recorded d) mode) (long-filled (mapAt d b) b (recorded d) mode (map-few b e)) (map-few b e)
+
+  pub mount-few : outcome d l mount ≡ 0 → unpack (effect d l mount .ledger) .size ≤ limit
+  unfolding effect
+  mount-few z =
+      let f = mount-done d l z .1 in
+      subst (λ (o : Option ℕ). unpack (pack (filled (mapAt d (blockFound o)) (blockFound o) (recorded d) idle)) .size ≤ limit) (sym (f .1))
+      (table-few (f .0) idle (newest-table (tableAt d) (recorded d) (f .0) (f .1)))
+
+  pub look-back-few : (k : ℕ) → outcome d l (lookBack k) ≡ 0 → unpack (effect d l (lookBack k) .ledger) .size ≤ limit
+  unfolding effect
+  look-back-few k z =
+      let f = look-back-done d l k z .1 in
+      subst (λ (w : Walk). unpack (pack (filled (mapAt d (blockReached w)) (blockReached w) (recorded d) readOnly)) .size ≤ limit) (sym (f .1))
+      (table-few (f .0) readOnly (walked-table d k (f .0) (f .1)))
+
+  pub write-few : (n : ℕ) (block : List ℕ) → outcome d l (write (some n) block) ≡ 0 → unpack (effect d l (write (some n) block) .ledger) .size ≤ limit
+  unfolding effect wrote
+  write-few n block z =
+      let f : WriteDone d l (some n) block = write-done d l (some n) block z in
+      let b : ℕ = target (unpack l) in
+      size-kept (wrote (some n) b (unpack l)) (length-set (unpack l .entries) n b ∙ long-unpack l) (size-fits (unpack l) (some n) (f .writable) (f .fit .few))
+
+  pub release-few : (n : ℕ) → outcome d l (release n) ≡ 0 → unpack (effect d l (release n) .ledger) .size ≤ limit
+  unfolding effect released
+  release-few n z = size-kept (released n (unpack l)) (length-set (unpack l .entries) n unused ∙ long-unpack l) (release-done d l n z .1 .fit .few)
+
+-- ---- what is asked behind the log
+
+-- lengths decide whether a disc is sized
+sized-same : (d : Disc) (i k : List ℕ) → length i ≡ length (d .image) → length k ≡ length (d .kinds) → sized (lent i k) ≡ sized d
+unfolding sized
+sized-same d i k p q = ap₂ (λ (x n : ℕ). ltb 0 n && (leb n mostSectors && eqb x (sectorLength * n))) p q
+
+-- a scan and a block let go ask this of the buffers
+abbrev pub Ready : List ℕ → List ℕ → List ℕ → List ℕ → Type 0
+Ready i k rs m = (sized (lent i k) ≡ true) × (length rs ≡ length k) × (length m ≡ ledgerLength) × (unpack m .size ≤ limit)
+
+module _ (d : Disc) (l : List ℕ) (c : Call) (z : outcome d l c ≡ 0) {a : ℕ} {i k m b : List ℕ} (e : left a i k m b ≡ after d l c) where
+  answered : a ≡ effect d l c .second
+  unfolding after
+  answered = ap (λ (x : After). x .answer) e ∙ rw z
+
+  ledger-left : m ≡ effect d l c .ledger
+  unfolding after
+  ledger-left = ap (λ (x : After). x .ledger) e ∙ rw z
+
+  pub ready : (roles : List ℕ) → first (rolesTests true d roles) ≡ 0 → length i ≡ length (d .image) → length k ≡ length (d .kinds) → length m ≡ length l → unpack (effect d l c .ledger) .size ≤ limit
+      → (rs : List ℕ) → length rs ≡ length roles → Ready i k rs m
+  ready roles h p q r few rs s =
+      let t = lengths-told d roles h in (
+        sized-same d i k p q ∙ t .0,
+        s ∙ t .1 ∙ sym q,
+        r ∙ ledger-accepted d l c z,
+        subst (λ (x : List ℕ). unpack x .size ≤ limit) (sym ledger-left) few,
+      )
+
+-- a scan asks where the tables end, too
+abbrev pub Ends : Disc → ℕ → Type 0
+Ends d end = (end ≤ length (d .kinds)) × ((b : ℕ) → end ≤ b → tableAt d b ≡ false)
+
+module _ (d : Disc) (l : List ℕ) where
+  pub begin-ends : outcome d l begin ≡ 0 → Ends d 0
+  begin-ends z = let f = begin-done d l z in (omega arith, λ b h. none-newer d (f .0) b (rw (f .1) h))
+
+  module _ {a : ℕ} {i k m b : List ℕ} where
+    pub mount-ends : outcome d l mount ≡ 0 → left a i k m b ≡ after d l mount → Ends d (unpack m .last + 1)
+    unfolding effect filled
+    mount-ends z e =
+        let f = mount-done d l z in
+        let t : ℕ = f .1 .0 in
+        let found : newest d ≡ some t = f .1 .1 in
+        let below : t < recorded d = newest-below (tableAt d) (recorded d) t found in
+        let small : t < length (d .kinds) = omega (arith, leading-le (d .kinds)) in
+        let few : length (mapAt d t) ≤ limit = map-few d l t (newest-table (tableAt d) (recorded d) t found) in
+        let last-is : unpack m .last ≡ t =
+        ap (λ (x : List ℕ). unpack x .last) (ledger-left d l mount z e)
+        ∙ ap (λ (o : Option ℕ). unpack (pack (filled (mapAt d (blockFound o)) (blockFound o) (recorded d) idle)) .last) found
+        ∙ last-kept (filled (mapAt d t) t (recorded d) idle) (long-filled (mapAt d t) t (recorded d) idle few) (omega (arith, f .0 .few)) in
+        subst (λ (n : ℕ). Ends d (n + 1)) (sym last-is) (omega arith, λ b h. none-newer d (f .0) b (rw found h))
+
+    pub look-back-ends : (j : ℕ) → outcome d l (lookBack j) ≡ 0 → left a i k m b ≡ after d l (lookBack j) → Ends d (unpack m .recorded)
+    unfolding effect filled
+    look-back-ends j z e =
+        let f = look-back-done d l j z in
+        let t : ℕ = f .1 .0 in
+        let within : recorded d ≤ length (d .kinds) = leading-le (d .kinds) in
+        let few : length (mapAt d t) ≤ limit = map-few d l t (walked-table d j t (f .1 .1)) in
+        let recorded-is : unpack m .recorded ≡ recorded d =
+        ap (λ (x : List ℕ). unpack x .recorded) (ledger-left d l (lookBack j) z e)
+        ∙ ap (λ (w : Walk). unpack (pack (filled (mapAt d (blockReached w)) (blockReached w) (recorded d) readOnly)) .recorded) (f .1 .1)
+        ∙ recorded-kept (filled (mapAt d t) t (recorded d) readOnly) (long-filled (mapAt d t) t (recorded d) readOnly few) (omega (arith, f .0 .few)) in
+        subst (Ends d) (sym recorded-is) (within, none-recorded d (f .0))
+
+-- the answer of a call that records is its last block
+pub record Placed (d : Disc) (l : List ℕ) (between a : ℕ) : Type 0 where
+  pub place : a ≡ recorded d + links (unpack l) + between
+  pub within : a < length (d .kinds)
+  pub few : length (d .kinds) ≤ mostSectors
+
+module _ (d : Disc) (l : List ℕ) where
+  placed : (between a : ℕ) → Sound d → Fits d (unpack l) → links (unpack l) + between + 1 ≤ blanks d → a ≡ target (unpack l) + between → Placed d l between a
+  placed between a ok fit room at =
+      record {
+        place = omega (arith, fit .same-recorded);
+        within = omega (arith, fit .same-recorded, leading-le (d .kinds));
+        few = ok .few;
+      }
+
+  module _ {a : ℕ} {i k m b : List ℕ} where
+    pub write-placed : (n : Option ℕ) (block : List ℕ) → outcome d l (write n block) ≡ 0 → left a i k m b ≡ after d l (write n block) → Placed d l 0 a
+    unfolding effect
+    write-placed n block z e =
+        let f : WriteDone d l n block = write-done d l n block z in
+        placed 0 a (f .sound-disc) (f .fit) (omega (arith, f .room)) (answered d l (write n block) z e ∙ sym (add-zero (target (unpack l))))
+
+    pub commit-placed : (stamp : Option (List ℕ)) → outcome d l (commit stamp) ≡ 0 → left a i k m b ≡ after d l (commit stamp) → Placed d l 0 a
+    unfolding effect
+    commit-placed stamp z e =
+        let f : SaveDone d l [] (stampOf stamp) = commit-done d l stamp z .saving in
+        placed 0 a (f .sound-disc) (f .fit) (f .room) (answered d l (commit stamp) z e)
+
+    pub closing-placed : (main reserve : Extent) (start : ℕ) → outcome d l (closeSession main reserve start) ≡ 0 → left a i k m b ≡ after d l (closeSession main reserve start)
+        → Placed d l closingLength a
+    unfolding effect
+    closing-placed main reserve start z e =
+        let between : List Sector = closing main reserve start (target (unpack l)) in
+        let f : SaveDone d l between noStamp = closing-done d l main reserve start z .saving in
+        subst (λ (n : ℕ). Placed d l n a) (length-closing main reserve start (target (unpack l)))
+        (placed (length between) a (f .sound-disc) (f .fit) (f .room) (answered d l (closeSession main reserve start) z e))
+
+-- from it and the count of links, which was taken before the call, the first
+module _ (d : Disc) (l : List ℕ) {a n : ℕ} where
+  pub block-start : Placed d l 0 a → n ≡ links (unpack l) → (n ≤ a) × (a - n ≡ recorded d)
+  block-start p e = (omega (arith, p .place), omega (arith, p .place))
+
+  pub closing-start : Placed d l closingLength a → n ≡ links (unpack l) → (closingLength ≤ a) × (n ≤ a - closingLength) × (a - closingLength - n ≡ recorded d)
+  closing-start p e = (omega (arith, p .place), omega (arith, p .place), omega (arith, p .place))
+
+module _ (d : Disc) (roles l : List ℕ) {a n at between : ℕ} (p : Placed d l between a) (links-are : n ≡ links (unpack l)) (here : at ≡ recorded d) where
+  pub markable : first (rolesTests true d roles) ≡ 0 → (at + n + between < length roles) × (length roles ≤ mostSectors)
+  markable h = let t = lengths-told d roles h in (omega (arith, p .place, p .within, t .1), omega (arith, p .few, t .1))
+
+  pub marked-there : (role : ℕ) {rs : List ℕ} → rs ≡ marked at n between role roles → rs ≡ marked (recorded d) (links (unpack l)) between role roles
+  marked-there role q = q ∙ ap₂ (λ (x y : ℕ). marked x y between role roles) here links-are
+
+-- ---- the roles kept up
+
+module _ (d : Disc) (roles l : List ℕ) {a : ℕ} {i k m b rs : List ℕ} where
+  pub begin-kept : left a i k m b ≡ after d l begin → rs ≡ scanned (lent i k) m → rs ≡ keptUp d roles l begin
+  unfolding keptUp
+  begin-kept e q = q ∙ ap (λ (x : After). scanned (x .disc) (x .ledger)) e
+
+  pub mount-kept : left a i k m b ≡ after d l mount → rs ≡ scanned (lent i k) m → rs ≡ keptUp d roles l mount
+  unfolding keptUp
+  mount-kept e q = q ∙ ap (λ (x : After). scanned (x .disc) (x .ledger)) e
+
+  pub look-back-kept : (j : ℕ) → left a i k m b ≡ after d l (lookBack j) → rs ≡ scanned (lent i k) m → rs ≡ keptUp d roles l (lookBack j)
+  unfolding keptUp
+  look-back-kept j e q = q ∙ ap (λ (x : After). scanned (x .disc) (x .ledger)) e
+
+  -- a block let go, on the disc and the ledger that are left
+  let-go-left : (c : Call) {name : ℕ} {ss : List ℕ} → left a i k m b ≡ after d l c → (name′ : ℕ) → name ≡ name′ → (ss′ : List ℕ) → ss ≡ ss′ → rs ≡ letGo (lent i k) m name ss
+      → rs ≡ letGo (after d l c .disc) (after d l c .ledger) name′ ss′
+  let-go-left c {name} {ss} e name′ p ss′ r q = q ∙ ap₂ (λ (x : ℕ) (y : List ℕ). letGo (lent i k) m x y) p r ∙ ap (λ (x : After). letGo (x .disc) (x .ledger) name′ ss′) e
+
+  pub release-kept : (n : ℕ) {name : ℕ} → left a i k m b ≡ after d l (release n) → name ≡ blockOf (unpack l) n → rs ≡ letGo (lent i k) m name roles → rs ≡ keptUp d roles l (release n)
+  unfolding keptUp
+  release-kept n e p q = let-go-left (release n) e (blockOf (unpack l) n) p roles refl q
+
+  pub write-kept : (n : ℕ) (block : List ℕ) {name : ℕ} {ss : List ℕ} → left a i k m b ≡ after d l (write (some n) block) → name ≡ blockOf (unpack l) n
+      → ss ≡ marked (recorded d) (links (unpack l)) 0 inUse roles → rs ≡ letGo (lent i k) m name ss → rs ≡ keptUp d roles l (write (some n) block)
+  unfolding keptUp
+  write-kept n block e p r q = let-go-left (write (some n) block) e (blockOf (unpack l) n) p (marked (recorded d) (links (unpack l)) 0 inUse roles) r q
+
+  -- a write without a number lets go of none: no block lies there
+  pub unnumbered-kept : (block : List ℕ) → left a i k m b ≡ after d l (write none block) → length k ≡ length (d .kinds) → length (d .kinds) ≤ mostSectors
+      → rs ≡ marked (recorded d) (links (unpack l)) 0 unnumbered roles → rs ≡ keptUp d roles l (write none block)
+  unfolding keptUp letGo
+  unnumbered-kept block e long few q =
+      let ss : List ℕ = marked (recorded d) (links (unpack l)) 0 unnumbered roles in
+      let-go-left (write none block) e unused refl ss q
+      (ap (λ (t : Bool). supersedeIf t unused rs) (sym (beyond-kept (lent i k) (mapOf (unpack m)) unused (omega (arith, long)))))
+
+module _ (d : Disc) (roles l : List ℕ) {rs : List ℕ} where
+  pub commit-kept : (stamp : Option (List ℕ)) → rs ≡ marked (recorded d) (links (unpack l)) 0 tableRole roles → rs ≡ keptUp d roles l (commit stamp)
+  unfolding keptUp
+  commit-kept stamp q = q
+
+  pub closing-kept : (main reserve : Extent) (start : ℕ) → rs ≡ marked (recorded d) (links (unpack l)) closingLength tableRole roles → rs ≡ keptUp d roles l (closeSession main reserve start)
+  unfolding keptUp
+  closing-kept main reserve start q = q

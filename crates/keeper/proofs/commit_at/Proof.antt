@@ -1,0 +1,163 @@
+-- `keeper::commit_at` meets its contract.
+-- Assumes nothing.
+use Prim.Native.Nat.{ℕ, _-_, _≤_}
+use mathlib.Core.Path.{_≡_, refl, sym, ap, _∙_}
+use mathlib.Core.Bool.{true}
+use mathlib.Core.List.{List}
+use mathlib.Core.Option.{some}
+use Rattle.disc.specs.Disc.{Disc, lent, recorded}
+use Rattle.volume.specs.Volume.{unpack}
+use Rattle.recorder.specs.Calls.{Call, commit}
+use Rattle.recorder.specs.Refusals.{first, links, outcome}
+use Rattle.recorder.proofs.Done.{ledger-accepted}
+use Rattle.roles.specs.Roles.{tableRole}
+use Rattle.roles.specs.Keeping.{rolesTests, leftRoles}
+use Rattle.keeper.proofs.Kept.{is-done, turned-away, refused, kept}
+use Rattle.keeper.proofs.Calls.{Placed, commit-placed, block-start, markable, marked-there, commit-kept}
+use borrow.Author.Needs.{needs}
+use Rattle.keeper.proofs.commit_at.Statement.{statement}
+use Rattle.keeper.proofs.commit_at.Tie as tie
+
+-- the places of the function, each found from a later one
+abbrev entered : tie.After-lengths → tie.Start
+entered c = c .before .before .before .before .before .before .before .before .before
+
+abbrev judged : tie.After-commit-at → tie.Else1
+judged c = c .before .before .before .before .before .before
+
+abbrev start-of : tie.After-commit-at → tie.Start
+start-of c = entered (judged c .before)
+
+abbrev called : tie.Else2 → tie.After-commit-at
+called c = c .before .before .before .before .before .before .before
+
+abbrev linked : tie.After-commit-at → tie.After-links-ahead
+linked c = c .before .before .before .before
+
+-- the disc, the roles and the ledger
+abbrev D : tie.Start → Disc
+D s = lent (s .args .image .now) (s .args .kinds .now)
+
+abbrev R : tie.Start → List ℕ
+R s = s .args .roles .now
+
+abbrev L : tie.Start → List ℕ
+L s = s .args .ledger .now
+
+abbrev call : tie.Start → Call
+call s = commit (some (s .args .stamp .now))
+
+lengths-right : (c : tie.After-commit-at) → let s = start-of c in first (rolesTests true (D s) (R s)) ≡ 0
+lengths-right c = let e = judged c in sym (e .before .lengths .ensures) ∙ e .if1 .left
+
+done : (c : tie.Else2) → let s = start-of (called c) in outcome (D s) (L s) (call s) ≡ 0
+done c = let j = called c in let s = start-of j in is-done (D s) (L s) (call s) (j .commit-at .ensures) (c .if2 .left)
+
+-- what it recorded: the last block, the links before it, the first of them
+links-are : (c : tie.Else2) → let j = called c in let s = start-of j in linked j .links-ahead .result ≡ links (unpack (L s))
+links-are c = let j = called c in let s = start-of j in linked j .links-ahead .ensures (ledger-accepted (D s) (L s) (call s) (done c))
+
+placed-at : (c : tie.Else2) → let j = called c in let s = start-of j in Placed (D s) (L s) 0 (j .commit-at .result)
+placed-at c = let j = called c in let s = start-of j in commit-placed (D s) (L s) (some (s .args .stamp .now)) (done c) (j .commit-at .ensures)
+
+start-at : (c : tie.Else2) → let j = called c in let s = start-of j in let a = j .commit-at .result in let n = linked j .links-ahead .result in (n ≤ a) × (a - n ≡ recorded (D s))
+start-at c = let s = start-of (called c) in block-start (D s) (L s) (placed-at c) (links-are c)
+
+lengths-requires : tie.Need-lengths-requires
+lengths-requires c κs = search needs
+
+refusal-requires : tie.Need-refusal-requires
+refusal-requires c κs = search needs
+
+same-length : tie.Need-same-length
+same-length c = refl
+
+same-length-2 : tie.Need-same-length-2
+same-length-2 c = refl
+
+same-length-3 : tie.Need-same-length-3
+same-length-3 c = refl
+
+returns : tie.Need-returns
+returns c =
+    let j = c .before .before in let s = entered j in
+    ap (λ (a : ℕ). leftRoles a (D s .image) (D s .kinds) (R s) (L s) (s .args .stamp .now)) (c .refusal .ensures)
+    ∙ turned-away (D s) (R s) (L s) (call s) refl (j .lengths .result) (j .lengths .ensures) (c .before .if1 .taken)
+
+links-ahead-requires : tie.Need-links-ahead-requires
+links-ahead-requires c κs = search needs
+
+commit-at-requires : tie.Need-commit-at-requires
+commit-at-requires c κs = search needs
+
+same-length-4 : tie.Need-same-length-4
+same-length-4 c = c .before .before .before .before .before .before .image .given
+
+same-length-5 : tie.Need-same-length-5
+same-length-5 c = c .before .before .before .before .kinds .given
+
+same-length-6 : tie.Need-same-length-6
+same-length-6 c = refl
+
+same-length-7 : tie.Need-same-length-7
+same-length-7 c = c .before .before .ledger .given
+
+returns-2 : tie.Need-returns-2
+returns-2 c =
+    let j = c .before .before .before .before .before .before .before in let s = start-of j in
+    refused (D s) (R s) (L s) (call s) refl (lengths-right j) (j .commit-at .ensures) (c .if2 .taken)
+
+cast-b : tie.Need-cast-b
+cast-b c = search needs
+
+sub-mark : tie.Need-sub-mark
+sub-mark c = start-at (c .before) .0
+
+mark-requires : tie.Need-mark-requires
+mark-requires c κs =
+    let e = c .before in let j = called e in let s = start-of j in
+    markable (D s) (R s) (L s) (placed-at e) (links-are e) (start-at e .1) (lengths-right j)
+
+same-length-8 : tie.Need-same-length-8
+same-length-8 c = c .before .before .before .before .before .before .before .before .before .before .image .given
+
+same-length-9 : tie.Need-same-length-9
+same-length-9 c = c .before .before .before .before .before .before .before .before .kinds .given
+
+same-length-10 : tie.Need-same-length-10
+same-length-10 c = c .before .roles .given
+
+same-length-11 : tie.Need-same-length-11
+same-length-11 c = c .before .before .before .before .before .before .ledger .given
+
+returns-3 : tie.Need-returns-3
+returns-3 c =
+    let h = c .before .before in let e = h .before .before in let j = called e in let s = start-of j in
+    kept (D s) (R s) (L s) (call s) refl (lengths-right j) (j .commit-at .ensures) (done e)
+    (commit-kept (D s) (R s) (L s) (some (s .args .stamp .now)) (marked-there (D s) (R s) (L s) (placed-at e) (links-are e) (start-at e .1) tableRole (h .mark .ensures)))
+
+pub commit-at-spec : {M : Type 1} → statement M
+commit-at-spec =
+    tie.close
+    (tie.spec
+    lengths-requires
+    refusal-requires
+    same-length
+    same-length-2
+    same-length-3
+    returns
+    links-ahead-requires
+    commit-at-requires
+    same-length-4
+    same-length-5
+    same-length-6
+    same-length-7
+    returns-2
+    cast-b
+    sub-mark
+    mark-requires
+    same-length-8
+    same-length-9
+    same-length-10
+    same-length-11
+    returns-3)

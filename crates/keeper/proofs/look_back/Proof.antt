@@ -1,0 +1,125 @@
+-- `keeper::look_back` meets its contract.
+-- Assumes nothing.
+use Prim.Native.Nat.{ℕ}
+use mathlib.Core.Path.{_≡_, refl, sym, ap, _∙_, subst}
+use mathlib.Core.Bool.{true}
+use mathlib.Core.List.{List, []}
+use Rattle.disc.specs.Disc.{Disc, lent}
+use Rattle.recorder.specs.Calls.{Call, lookBack}
+use Rattle.recorder.specs.Refusals.{first, outcome}
+use Rattle.recorder.proofs.Done.{ledger-accepted}
+use Rattle.roles.specs.Keeping.{rolesTests, leftRoles}
+use Rattle.keeper.proofs.Kept.{is-done, turned-away, refused, kept}
+use Rattle.keeper.proofs.Calls.{look-back-few, Ends, ready, look-back-ends, look-back-kept}
+use borrow.Author.Needs.{needs}
+use Rattle.keeper.proofs.look_back.Statement.{statement}
+use Rattle.keeper.proofs.look_back.Tie as tie
+
+-- the places of the function, each found from a later one
+abbrev entered : tie.After-lengths → tie.Start
+entered c = c .before .before .before .before .before .before
+
+abbrev judged : tie.After-look-back → tie.Else1
+judged c = c .before .before
+
+abbrev start-of : tie.After-look-back → tie.Start
+start-of c = entered (judged c .before)
+
+abbrev called : tie.Else2 → tie.After-look-back
+called c = c .before .before .before
+
+abbrev accepted : tie.After-recorded → tie.Else2
+accepted c = c .before .before
+
+-- the disc, the roles and the ledger
+abbrev D : tie.Start → Disc
+D s = lent (s .args .image .now) (s .args .kinds .now)
+
+abbrev R : tie.Start → List ℕ
+R s = s .args .roles .now
+
+abbrev L : tie.Start → List ℕ
+L s = s .args .ledger .now
+
+abbrev call : tie.Start → Call
+call s = lookBack (s .args .k)
+
+lengths-right : (c : tie.After-look-back) → let s = start-of c in first (rolesTests true (D s) (R s)) ≡ 0
+lengths-right c = let e = judged c in sym (e .before .lengths .ensures) ∙ e .if1 .left
+
+done : (c : tie.Else2) → let s = start-of (called c) in outcome (D s) (L s) (call s) ≡ 0
+done c = let j = called c in let s = start-of j in is-done (D s) (L s) (call s) (j .look-back .ensures) (c .if2 .left)
+
+lengths-requires : tie.Need-lengths-requires
+lengths-requires c κs = search needs
+
+refusal-requires : tie.Need-refusal-requires
+refusal-requires c κs = search needs
+
+same-length : tie.Need-same-length
+same-length c = refl
+
+returns : tie.Need-returns
+returns c =
+    let j = c .before .before in let s = entered j in
+    ap (λ (a : ℕ). leftRoles a (D s .image) (D s .kinds) (R s) (L s) []) (c .refusal .ensures)
+    ∙ turned-away (D s) (R s) (L s) (call s) refl (j .lengths .result) (j .lengths .ensures) (c .before .if1 .taken)
+
+look-back-requires : tie.Need-look-back-requires
+look-back-requires c κs = search needs
+
+same-length-2 : tie.Need-same-length-2
+same-length-2 c = refl
+
+same-length-3 : tie.Need-same-length-3
+same-length-3 c = c .before .before .ledger .given
+
+returns-2 : tie.Need-returns-2
+returns-2 c =
+    let j = c .before .before .before in let s = start-of j in
+    refused (D s) (R s) (L s) (call s) refl (lengths-right j) (j .look-back .ensures) (c .if2 .taken)
+
+recorded-requires : tie.Need-recorded-requires
+recorded-requires c κs = let e = c .before in let s = start-of (called e) in e .before .before .ledger .given ∙ ledger-accepted (D s) (L s) (call s) (done e)
+
+-- where the tables end
+ends : (c : tie.After-recorded) → Ends (D (start-of (called (accepted c)))) (c .recorded .result)
+ends c =
+    let e = accepted c in let j = called e in let s = start-of j in
+    subst (Ends (D s)) (sym (c .recorded .ensures)) (look-back-ends (D s) (L s) (s .args .k) (done e) (j .look-back .ensures))
+
+scan-requires : tie.Need-scan-requires
+scan-requires c κs =
+    let q = c .before .before in let e = accepted q in let j = called e in let s = start-of j in
+    let r = ready (D s) (L s) (call s) (done e) (j .look-back .ensures) (R s) (lengths-right j) refl refl (e .before .before .ledger .given) (look-back-few (D s) (L s) (s .args .k) (done e)) (R s) refl in
+    let t = ends q in
+    (r .0, r .1, r .2, r .3, t .0, t .1)
+
+same-length-4 : tie.Need-same-length-4
+same-length-4 c = c .before .roles .given
+
+same-length-5 : tie.Need-same-length-5
+same-length-5 c = accepted (c .before .before .before .before .before) .before .before .ledger .given
+
+returns-3 : tie.Need-returns-3
+returns-3 c =
+    let h = c .before .before in let e = accepted (h .before .before .before) in let j = called e in let s = start-of j in
+    kept (D s) (R s) (L s) (call s) refl (lengths-right j) (j .look-back .ensures) (done e) (look-back-kept (D s) (R s) (L s) (s .args .k) (j .look-back .ensures) (h .scan .ensures))
+
+pub look-back-spec : {M : Type 1} → statement M
+look-back-spec =
+    tie.close
+    (tie.spec
+    lengths-requires
+    refusal-requires
+    same-length
+    returns
+    look-back-requires
+    same-length-2
+    same-length-3
+    returns-2
+    recorded-requires
+    scan-requires
+    same-length-4
+    same-length-5
+    returns-3)

@@ -1,0 +1,4 @@
+pub mod Roles
+pub mod Lent
+pub mod Naming
+pub mod Scanning

@@ -1,0 +1,141 @@
+-- What one entry more of the map makes of all roles, when a scan calls a block superseded, and what a call recorded as runs of roles.
+-- Assumes nothing.
+use Prim.Native.Nat.{ℕ, zero, suc, _+_, _≤_, _<_}
+use native.Mathlib.Numerals.{add-one}
+use native.Mathlib.Omega.{arith}
+use mathlib.Core.Path.{_≡_, refl, sym, ap, _∙_}
+use mathlib.Core.Bool.{Bool, true, false, not, false≢true}
+use mathlib.Core.List.{List, [], _∷_, _++_}
+use lib.Dec.{eqb, ltb}
+use lib.ListN.{length, getD, take, set, replicate, length-replicate, List·getD-eq-default}
+use lib.Seq.{take-suc}
+use borrow.Author.Tests.{eqb-true, eqb-false, ltb-true, ltb-false}
+use Rattle.le.proofs.Runs.{length-words}
+use Rattle.vat.specs.Table.{limit, unused}
+use Rattle.disc.specs.Disc.{Disc, kindAt, stored}
+use Rattle.disc.specs.Tables.{tableAt}
+use Rattle.disc.proofs.Recording.{length-stored}
+use Rattle.volume.specs.Volume.{unpack}
+use Rattle.roles.specs.Roles.{inUse, superseded, unnumbered, linkRole, names, roleOfKind, roleOfData, roleAt, rolesOf}
+use Rattle.roles.specs.Keeping.{marked}
+use Rattle.roles.proofs.Roles.{length-tabulate, getD-tabulate, tabulate-same, set-tabulate, names-none, names-last, names-other, role-names, role-data, stored-append}
+
+-- the map, one entry further
+pub map-suc : (l : List ℕ) (n : ℕ) → n < limit → take (n + 1) (unpack l .entries) ≡ take n (unpack l .entries) ++ (getD (unpack l .entries) n unused ∷ [])
+unfolding unpack
+map-suc l n h =
+    let entries : List ℕ = unpack l .entries in
+    ap (λ (k : ℕ). take k entries) (add-one n) ∙ take-suc entries n unused (omega (arith, length-words limit l 0))
+
+-- ---- one entry more of the map
+
+comes-in-use : (k : ℕ) (table named : Bool) → roleOfKind k (roleOfData table named false) ≡ superseded → roleOfKind k (roleOfData table true false) ≡ inUse
+comes-in-use zero table named e = absurd (omega arith)
+comes-in-use (suc zero) true named e = absurd (omega arith)
+comes-in-use (suc zero) false named e = refl
+comes-in-use (suc (suc zero)) table named e = absurd (omega arith)
+comes-in-use (suc (suc (suc k))) table named e = absurd (omega arith)
+
+stays : (k : ℕ) (table named : Bool) → (roleOfKind k (roleOfData table named false) ≡ superseded → ⊥)
+    → roleOfKind k (roleOfData table named false) ≡ roleOfKind k (roleOfData table true false)
+stays zero table named h = refl
+stays (suc zero) true named h = refl
+stays (suc zero) false true h = refl
+stays (suc zero) false false h = absurd (h refl)
+stays (suc (suc zero)) table named h = refl
+stays (suc (suc (suc k))) table named h = refl
+
+module _ (d : Disc) (map : List ℕ) (b : ℕ) (roles : List ℕ) (e : roles ≡ rolesOf d map []) where
+  long : length roles ≡ length (d .kinds)
+  long = ap length e ∙ length-tabulate (roleAt d map []) (length (d .kinds))
+
+  told : b < length (d .kinds) → getD roles b 0 ≡ roleAt d map [] b
+  told h = ap (λ (l : List ℕ). getD l b 0) e ∙ getD-tabulate (roleAt d map []) (length (d .kinds)) b 0 h
+
+  elsewhere : (i : ℕ) → (i ≡ b → ⊥) → roleAt d map [] i ≡ roleAt d (map ++ (b ∷ [])) [] i
+  elsewhere i h = role-names d map (map ++ (b ∷ [])) [] [] i (sym (names-other map b i h)) refl
+
+  pub named-now : b < length roles → getD roles b 0 ≡ superseded → set roles b inUse ≡ rolesOf d (map ++ (b ∷ [])) []
+  unfolding roleAt names
+  named-now h was =
+      let inside : b < length (d .kinds) = omega (arith, long) in
+      let here : roleAt d (map ++ (b ∷ [])) [] b ≡ inUse =
+      ap (λ (t : Bool). roleOfKind (kindAt d b) (roleOfData (tableAt d b) t false)) (names-last map b)
+      ∙ comes-in-use (kindAt d b) (tableAt d b) (names map b) (sym (told inside) ∙ was) in
+      ap (λ (l : List ℕ). set l b inUse) e
+      ∙ set-tabulate (roleAt d map []) (roleAt d (map ++ (b ∷ [])) []) (length (d .kinds)) b inUse inside here (λ i low other. elsewhere i other)
+
+  pub named-already : (b < length roles → getD roles b 0 ≡ superseded → ⊥) → roles ≡ rolesOf d (map ++ (b ∷ [])) []
+  unfolding roleAt names
+  named-already h = e ∙ tabulate-same (roleAt d map []) (roleAt d (map ++ (b ∷ [])) []) (length (d .kinds)) (λ i low. go i low (eqb i b) refl)
+    where
+      go : (i : ℕ) → i < length (d .kinds) → (t : Bool) → eqb i b ≡ t → roleAt d map [] i ≡ roleAt d (map ++ (b ∷ [])) [] i
+      go i low true eq =
+          let same : b ≡ i = sym (eqb-true i b eq) in
+          let inside : b < length (d .kinds) = omega arith in
+          ap (roleAt d map []) (sym same)
+          ∙ stays (kindAt d b) (tableAt d b) (names map b) (λ was. h (omega (arith, long)) (told inside ∙ was))
+          ∙ ap (λ (t : Bool). roleOfKind (kindAt d b) (roleOfData (tableAt d b) t false)) (sym (names-last map b))
+          ∙ ap (roleAt d (map ++ (b ∷ [])) []) same
+      go i low false other = elsewhere i (eqb-false i b other)
+
+-- ---- a block that a scan calls superseded
+
+no-data : (k own : ℕ) → (k ≡ 1 → ⊥) → eqb (roleOfKind k own) superseded ≡ false
+no-data zero own h = refl
+no-data (suc zero) own h = absurd (h refl)
+no-data (suc (suc zero)) own h = refl
+no-data (suc (suc (suc k))) own h = refl
+
+module _ (d : Disc) (map : List ℕ) (b : ℕ) where
+  pub kind-kept : (kindAt d b ≡ 1 → ⊥) → eqb (roleAt d map [] b) superseded ≡ false
+  unfolding roleAt
+  kind-kept h = no-data (kindAt d b) (roleOfData (tableAt d b) (names map b) (names [] b)) h
+
+  pub beyond-kept : length (d .kinds) ≤ b → eqb (roleAt d map [] b) superseded ≡ false
+  beyond-kept h = kind-kept (λ e. let none : kindAt d b ≡ 0 = List·getD-eq-default (d .kinds) 0 h in omega arith)
+
+  pub named-kept : names map b ≡ true → eqb (roleAt d map [] b) superseded ≡ false
+  unfolding roleAt
+  named-kept n = rw n (go (kindAt d b) (tableAt d b) (names [] b))
+    where
+      go : (k : ℕ) (t a : Bool) → eqb (roleOfKind k (roleOfData t true a)) superseded ≡ false
+      go zero t a = refl
+      go (suc zero) true a = refl
+      go (suc zero) false a = refl
+      go (suc (suc zero)) t a = refl
+      go (suc (suc (suc k))) t a = refl
+
+  pub data-superseded : kindAt d b ≡ 1 → names map b ≡ false → eqb (roleAt d map [] b) superseded ≡ not (tableAt d b)
+  data-superseded e n = ap (λ (r : ℕ). eqb r superseded) (role-data d map [] b (tableAt d b) false false e refl n (names-none b)) ∙ go (tableAt d b)
+    where
+      go : (t : Bool) → eqb (roleOfData t false false) superseded ≡ not t
+      go true = refl
+      go false = refl
+
+  pub superseded-within : eqb (roleAt d map [] b) superseded ≡ true → b < length (d .kinds)
+  superseded-within e = go (ltb b (length (d .kinds))) refl
+    where
+      go : (t : Bool) → ltb b (length (d .kinds)) ≡ t → b < length (d .kinds)
+      go true h = ltb-true b (length (d .kinds)) h
+      go false h = absurd (false≢true (sym (beyond-kept (ltb-false b (length (d .kinds)) h)) ∙ e))
+
+-- ---- what a call recorded
+
+-- the links, the sectors between and the last one, each behind the other
+pub marked-runs : (at links between role : ℕ) (xs : List ℕ) → at + links + between < length xs
+    → stored (stored (stored xs at (replicate links linkRole)) (at + links) (replicate between unnumbered)) (at + links + between) (role ∷ [])
+    ≡ marked at links between role xs
+unfolding marked
+marked-runs at links between role xs h =
+    let first : List ℕ = replicate links linkRole in
+    let second : List ℕ = replicate between unnumbered in
+    let m : length first ≡ links = length-replicate {A = ℕ} links linkRole in
+    let n : length second ≡ between = length-replicate {A = ℕ} between unnumbered in
+    let room : at + length first ≤ length xs = omega arith in
+    let linked : List ℕ = stored xs at first in
+    let still : length linked ≡ length xs = length-stored xs at first room in
+    sym (stored-append first (second ++ (role ∷ [])) xs at room
+    ∙ ap (λ (k : ℕ). stored linked (at + k) (second ++ (role ∷ []))) m
+    ∙ stored-append second (role ∷ []) linked (at + links) (omega arith)
+    ∙ ap (λ (k : ℕ). stored (stored linked (at + links) second) (at + links + k) (role ∷ [])) n)

@@ -1,0 +1,195 @@
+// The role of each sector.
+use vat::table::SECTOR;
+ghost use mathlib.Core.Path.{_≡_};
+ghost use mathlib.Core.Bool.{true, false};
+ghost use mathlib.Core.List.{List, [], _∷_, _++_};
+ghost use Prim.Native.Nat.{ℕ, _+_, _≤_, _<_};
+ghost use lib.Dec.{eqb};
+ghost use lib.ListN.{length, getD, replicate};
+ghost use Rattle.vat.specs.Table.{limit};
+ghost use Rattle.disc.specs.Disc.{Disc, lent, sized, stored};
+ghost use Rattle.disc.specs.Tables.{tableAt};
+ghost use Rattle.volume.specs.Volume.{ledgerLength, unpack, mapOf};
+ghost use Rattle.roles.specs.Roles.{superseded, names, roleOfKind, roleAt, tabulate, rolesOf};
+ghost use Rattle.roles.specs.Keeping.{scanned, letGo, marked};
+
+pub const IN_USE: u8 = 0;
+
+pub const SUPERSEDED: u8 = 1;
+
+pub const UNNUMBERED: u8 = 2;
+
+pub const TABLE: u8 = 3;
+
+pub const LINK: u8 = 4;
+
+pub const UNREADABLE: u8 = 5;
+
+const BLANK: u8 = 6;
+
+// The role that a kind alone gives, data as superseded. With no early exit, so that the pass over all kinds takes many at a time.
+fn of_kind(kind: u8) -> u8
+    ensures { λ r. ⌜ r ≡ roleOfKind kind superseded ⌝ }
+{
+    let mut role = UNREADABLE;
+    if kind == 2 {
+        role = LINK;
+    }
+    if kind == 1 {
+        role = SUPERSEDED;
+    }
+    if kind == 0 {
+        role = BLANK;
+    }
+    role
+}
+
+// Every role by its kind alone.
+fn scan_kinds(kinds: &[u8], roles: &mut [u8])
+    requires { ⌜ length (now roles) ≡ length (now kinds) ⌝ }
+    ensures { λ _. ⌜ now (roles .exit) ≡ tabulate (λ b. roleOfKind (getD (now (kinds .entry)) b 0) superseded) (length (now (kinds .entry))) ⌝ }
+{
+    let mut place = 0;
+    while place < kinds.len() {
+        roles[place] = of_kind(kinds[place]);
+        place += 1;
+    }
+}
+
+// The tag identifier first: of nearly every data sector no other byte is looked at.
+fn is_table(image: &[u8], kinds: &[u8], b: u32) -> bool
+    requires { ⌜ (sized (lent (now image) (now kinds)) ≡ true) × (b < length (now kinds)) ⌝ }
+    ensures { λ r. ⌜ r ≡ tableAt (lent (now (image .entry)) (now (kinds .entry))) b ⌝ }
+{
+    let place = b as usize;
+    let kind = kinds[place];
+    if kind != 1 {
+        return false;
+    }
+    let at = SECTOR * place;
+    let end = at + SECTOR;
+    let s = &image[at..end];
+    if !vat::table::tagged(s) {
+        return false;
+    }
+    vat::table::is_table(kind, s, b)
+}
+
+// The tables, all of which stand below `end`: the roles where the map is empty.
+fn mark_tables(image: &[u8], kinds: &[u8], roles: &mut [u8], end: u32)
+    requires { ⌜ (sized (lent (now image) (now kinds)) ≡ true) × (now roles ≡ tabulate (λ b. roleOfKind (getD (now kinds) b 0) superseded) (length (now kinds))) × (end ≤ length (now kinds)) × ((b : ℕ) → end ≤ b → tableAt (lent (now image) (now kinds)) b ≡ false) ⌝ }
+    ensures { λ _. ⌜ now (roles .exit) ≡ rolesOf (lent (now (image .entry)) (now (kinds .entry))) [] [] ⌝ }
+{
+    let mut b = 0;
+    while b < end {
+        if is_table(image, kinds, b) {
+            let place = b as usize;
+            roles[place] = TABLE;
+        }
+        b += 1;
+    }
+}
+
+// One entry more of the map: what it names is in use, if it is data and no table.
+fn name_block(roles: &mut [u8], b: u32)
+    ensures { λ _. ⌜ ((d : Disc) (map : List ℕ) → now (roles .entry) ≡ rolesOf d map [] → now (roles .exit) ≡ rolesOf d (map ++ (b ∷ [])) []) ⌝ }
+{
+    let place = b as usize;
+    if place < roles.len() {
+        if roles[place] == SUPERSEDED {
+            roles[place] = IN_USE;
+        }
+    }
+}
+
+// All entries of the map.
+fn name_blocks(roles: &mut [u8], ledger: &[u8])
+    requires { ⌜ (length (now ledger) ≡ ledgerLength) × (unpack (now ledger) .size ≤ limit) ⌝ }
+    ensures { λ _. ⌜ ((d : Disc) → now (roles .entry) ≡ rolesOf d [] [] → now (roles .exit) ≡ rolesOf d (mapOf (unpack (now (ledger .entry)))) []) ⌝ }
+{
+    let size = volume::ledger::size(ledger);
+    let mut n = 0;
+    while n < size {
+        name_block(roles, volume::ledger::entry(ledger, n));
+        n += 1;
+    }
+}
+
+// Begin, mount and look back make all bytes anew. The caller's own search tells where the tables end: no sector from there on is read.
+pub fn scan(image: &[u8], kinds: &[u8], roles: &mut [u8], ledger: &[u8], end: u32)
+    requires { ⌜ (sized (lent (now image) (now kinds)) ≡ true) × (length (now roles) ≡ length (now kinds)) × (length (now ledger) ≡ ledgerLength) × (unpack (now ledger) .size ≤ limit) × (end ≤ length (now kinds)) × ((b : ℕ) → end ≤ b → tableAt (lent (now image) (now kinds)) b ≡ false) ⌝ }
+    ensures { λ _. ⌜ now (roles .exit) ≡ scanned (lent (now (image .entry)) (now (kinds .entry))) (now (ledger .entry)) ⌝ }
+{
+    scan_kinds(kinds, roles);
+    mark_tables(image, kinds, roles, end);
+    name_blocks(roles, ledger);
+}
+
+// A number names block b. With no early exit: nearly always none does.
+fn named(ledger: &[u8], b: u32) -> bool
+    requires { ⌜ (length (now ledger) ≡ ledgerLength) × (unpack (now ledger) .size ≤ limit) ⌝ }
+    ensures { λ r. ⌜ r ≡ names (mapOf (unpack (now (ledger .entry)))) b ⌝ }
+{
+    let size = volume::ledger::size(ledger);
+    let mut found = false;
+    let mut n = 0;
+    while n < size {
+        found = found | (volume::ledger::entry(ledger, n) == b);
+        n += 1;
+    }
+    found
+}
+
+// A scan would call block b superseded.
+fn is_superseded(image: &[u8], kinds: &[u8], ledger: &[u8], b: u32) -> bool
+    requires { ⌜ (sized (lent (now image) (now kinds)) ≡ true) × (length (now ledger) ≡ ledgerLength) × (unpack (now ledger) .size ≤ limit) ⌝ }
+    ensures { λ r. ⌜ r ≡ eqb (roleAt (lent (now (image .entry)) (now (kinds .entry))) (mapOf (unpack (now (ledger .entry)))) [] b) superseded ⌝ }
+{
+    let place = b as usize;
+    if kinds.len() <= place {
+        return false;
+    }
+    if kinds[place] != 1 {
+        return false;
+    }
+    if named(ledger, b) {
+        return false;
+    }
+    !disc::tables::table_at(image, kinds, b)
+}
+
+// A number lets go of block b.
+pub fn let_go(image: &[u8], kinds: &[u8], roles: &mut [u8], ledger: &[u8], b: u32)
+    requires { ⌜ (sized (lent (now image) (now kinds)) ≡ true) × (length (now roles) ≡ length (now kinds)) × (length (now ledger) ≡ ledgerLength) × (unpack (now ledger) .size ≤ limit) ⌝ }
+    ensures { λ _. ⌜ now (roles .exit) ≡ letGo (lent (now (image .entry)) (now (kinds .entry))) (now (ledger .entry)) b (now (roles .entry)) ⌝ }
+{
+    if is_superseded(image, kinds, ledger, b) {
+        let place = b as usize;
+        roles[place] = SUPERSEDED;
+    }
+}
+
+fn fill(roles: &mut [u8], at: usize, n: usize, role: u8)
+    requires { ⌜ at + n ≤ length (now roles) ⌝ }
+    ensures { λ _. ⌜ now (roles .exit) ≡ stored (now (roles .entry)) at (replicate n role) ⌝ }
+{
+    let mut place = at;
+    let mut left = n;
+    while 0 < left {
+        roles[place] = role;
+        place += 1;
+        left -= 1;
+    }
+}
+
+// What a call recorded, from block `at` on.
+pub fn mark(roles: &mut [u8], at: u32, links: u32, between: u32, role: u8)
+    requires { ⌜ (at + links + between < length (now roles)) × (length (now roles) ≤ 360000) ⌝ }
+    ensures { λ _. ⌜ now (roles .exit) ≡ marked at links between role (now (roles .entry)) ⌝ }
+{
+    let behind = (at + links) as usize;
+    let last = behind + (between as usize);
+    fill(roles, at as usize, links as usize, LINK);
+    fill(roles, behind, between as usize, UNNUMBERED);
+    fill(roles, last, 1, role);
+}

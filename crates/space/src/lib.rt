@@ -1,0 +1,1 @@
+// The claim about roles, and its proof. There is no code here.

@@ -1,0 +1,135 @@
+//! The page of a picture for the wall: title, answer, the disc, the legend, and what
+//! a cell is, on an A3 sheet in landscape.
+
+use std::fmt::Write;
+
+use station::{Role, Space};
+
+use super::cells::cell;
+use super::lettering::{escaped, Lettering, INK, QUIET};
+use super::role::meaning;
+use super::signs::{strong, swatch, WHITE};
+use super::squares::Squares;
+use super::words::{answer, balanced, name, number, number_of, share, title, AFTER_A_MOUNT};
+use super::Plan;
+
+const LEFT: f64 = 84.0;
+const RIGHT: f64 = 1596.0;
+/// Where the legend begins, and its texts.
+const LEGEND: f64 = 1262.0;
+const BESIDE: f64 = LEGEND + 56.0;
+
+const TITLE: Lettering = Lettering::bold(50.0, INK);
+const DISC: Lettering = Lettering::ending(26.0, QUIET);
+const ANSWER: Lettering = Lettering::new(25.0, INK);
+const ROLE: Lettering = Lettering::bold(20.0, INK);
+const COUNT: Lettering = Lettering::bold_ending(20.0, INK);
+const SHARE: Lettering = Lettering::ending(16.0, QUIET);
+const MEANING: Lettering = Lettering::new(15.0, QUIET);
+const FOOT: Lettering = Lettering::new(16.5, QUIET);
+
+/// XML that needs no other file: no script, no font, no picture.
+pub fn svg(plan: &Plan) -> String {
+    let space = station::space(plan.roles);
+    let answer = answer(&space);
+    let squares = Squares::of(plan);
+    let mut out = String::from(
+        "<svg xmlns=\"http://www.w3.org/2000/svg\" width=\"420mm\" height=\"297mm\" \
+         viewBox=\"0 0 1680 1188\" role=\"img\" fill=\"none\" \
+         font-family=\"Helvetica, Arial, 'Liberation Sans', 'DejaVu Sans', sans-serif\">\n",
+    );
+    let _ = writeln!(out, "<title>{}</title>", escaped(&title(plan)));
+    let _ = writeln!(out, "<desc>{}</desc>", escaped(&answer));
+    let _ = writeln!(
+        out,
+        "<rect width=\"1680\" height=\"1188\" fill=\"{WHITE}\"/>"
+    );
+    head(&mut out, plan, &answer);
+    out.push_str(&squares.drawn());
+    let below = legend(&mut out, &space);
+    if squares.group > 1 {
+        marks(&mut out, below);
+    }
+    foot(&mut out, &space, squares.group);
+    out.push_str("</svg>\n");
+    out
+}
+
+fn head(out: &mut String, plan: &Plan, answer: &str) {
+    TITLE.write(out, LEFT, 130.0, "Where the space went");
+    let disc = format!("{}, {}", name(plan), number_of(plan.roles.len()));
+    DISC.write(out, RIGHT, 130.0, &disc);
+    lines(out, ANSWER, (LEFT, 184.0), 34.0, &balanced(answer, 120));
+}
+
+/// One below the other, so far apart.
+fn lines(out: &mut String, with: Lettering, (x, y): (f64, f64), apart: f64, lines: &[String]) {
+    for (place, words) in lines.iter().enumerate() {
+        with.write(out, x, y + place as f64 * apart, words);
+    }
+}
+
+/// Each role with its count, its share, and a bar of that length. Answers where it ends.
+fn legend(out: &mut String, space: &Space) -> f64 {
+    let mut y = 296.0;
+    let sectors = space.sectors();
+    for role in Role::ALL {
+        let count = space.count(role);
+        swatch(out, (LEGEND, y), 40.0, &cell(&[role.number()]));
+        ROLE.write(out, BESIDE, y + 16.0, &role.to_string());
+        COUNT.write(out, RIGHT, y + 16.0, &number(count));
+        SHARE.write(out, RIGHT, y + 37.0, &share(count, sectors));
+        let meaning = balanced(meaning(role), 29);
+        lines(out, MEANING, (BESIDE, y + 37.0), 18.0, &meaning);
+        bar(out, y + 69.0, role, count as f64 / sectors.max(1) as f64);
+        y += 94.0;
+    }
+    y
+}
+
+/// Some is never shown as none.
+fn bar(out: &mut String, y: f64, role: Role, share: f64) {
+    let fill = strong(role);
+    let whole = RIGHT - LEGEND;
+    let long = match share > 0.0 {
+        true => (whole * share).max(1.5),
+        false => 0.0,
+    };
+    let _ = writeln!(
+        out,
+        "<path d=\"M{LEGEND} {y}h{whole}\" stroke=\"#dcdbd6\"/>\
+         <path d=\"M{LEGEND} {y}h{long:.1}\" stroke=\"{fill}\" stroke-width=\"7\"/>"
+    );
+}
+
+/// What a cell for a group of sectors tells beside its role.
+fn marks(out: &mut String, y: f64) {
+    let among_them = [
+        (Role::Table, "a table is among the sectors"),
+        (Role::InUse, "a sector in use is among them"),
+        (Role::Unreadable, "an unreadable sector is among them"),
+    ];
+    for (place, (rare, words)) in among_them.into_iter().enumerate() {
+        let y = y + place as f64 * 31.0;
+        let example = cell(&[Role::Superseded, Role::Superseded, rare].map(Role::number));
+        swatch(out, (LEGEND + 8.0, y), 24.0, &example);
+        MEANING.write(out, BESIDE, y + 17.0, words);
+    }
+}
+
+fn foot(out: &mut String, space: &Space, group: usize) {
+    let cell_is = match group {
+        1 => "One cell is one sector.".into(),
+        _ => format!(
+            "One cell is {}, in the colour of what most of the recorded ones are.",
+            number_of(group)
+        ),
+    };
+    let mut words = cell_is
+        + " At the left of a row is its first block. At the right are the saves in it, counted \
+           back from the newest, which has a ring.";
+    if space.count(Role::Superseded) > 0 {
+        words = words + " " + AFTER_A_MOUNT;
+    }
+    lines(out, FOOT, (LEFT, 1094.0), 24.0, &balanced(&words, 180));
+}

@@ -1,0 +1,81 @@
+//! The saves of a disc, counted back from the newest.
+
+use station::{Refusal, Role, LEDGER, SECTOR};
+
+use crate::form::Disc;
+use crate::ledger::Map;
+
+const DATA: u8 = 1;
+const LINK: u8 = 2;
+
+/// Where counting back came to.
+pub struct Counted {
+    /// Whether the newest save is the last thing recorded.
+    pub clean: bool,
+    /// The refusal 8, if older saves cannot be reached.
+    pub broken: Option<Refusal>,
+}
+
+/// Shows the map of each save, newest first, or gives the refusal of the mount. Roles
+/// and ledger are its own, and no file is changed.
+///
+/// Each step looks back by one on the disc that ends with the table it comes from:
+/// mount would find that table there, so what is counted back from it is what the
+/// whole disc has further back. Counting from the newest table for every save would
+/// make long rows of them slow.
+pub fn each_save(disc: &Disc, mut show: impl FnMut(&Map)) -> Result<Counted, Refusal> {
+    let (image, kinds) = disc.lent();
+    let (mut roles, mut ledger) = (vec![0; kinds.len()], [0; LEDGER]);
+    let clean = station::mount(image, kinds, &mut roles, &mut ledger)?;
+    let tables = tables_among(&roles);
+    loop {
+        let map = Map::of(&ledger);
+        show(&map);
+        let table = map.table as usize;
+        let below = &tables[..tables.partition_point(|other| *other < table)];
+        let broken = match step_back(image, &mut roles, &mut ledger, table, below) {
+            Ok(_) => continue,
+            // "refusal 9 ends the rows"
+            Err(Refusal::ChainEnded) => None,
+            Err(refusal) => Some(refusal),
+        };
+        return Ok(Counted { clean, broken });
+    }
+}
+
+/// The blocks of the tables, ascending.
+fn tables_among(roles: &[u8]) -> Vec<usize> {
+    let is_table = |role: &u8| *role == Role::Table.number();
+    let numbered = roles.iter().enumerate();
+    numbered
+        .filter(|(_, role)| is_table(role))
+        .map(|(block, _)| block)
+        .collect()
+}
+
+/// Looks back by one from a table. A look back scans the disc for its tables; here all
+/// sectors are links but this table and the nearest one below, which nearly always is
+/// the one that it names, so that no other sector is read. Where it is not, all
+/// tables below are shown.
+fn step_back(
+    image: &[u8],
+    roles: &mut [u8],
+    ledger: &mut [u8],
+    table: usize,
+    below: &[usize],
+) -> Result<u32, Refusal> {
+    let mut among = |shown: &[usize]| {
+        let mut kinds = vec![LINK; table + 1];
+        kinds[table] = DATA;
+        for block in shown {
+            kinds[*block] = DATA;
+        }
+        let sectors = kinds.len();
+        let image = &image[..sectors * SECTOR];
+        station::look_back(image, &kinds, &mut roles[..sectors], ledger, 1)
+    };
+    match among(&below[below.len().saturating_sub(1)..]) {
+        Err(Refusal::ChainBroken) if below.len() > 1 => among(below),
+        told => told,
+    }
+}

@@ -1,0 +1,68 @@
+//! The picture in docs/OPERATORS.md is what the program draws of the disc of a lesson
+//! in which every role occurs.
+
+mod common;
+
+use std::fs;
+
+use common::Folder;
+use station::SECTOR;
+
+const PICTURE: &str = concat!(env!("CARGO_MANIFEST_DIR"), "/../../docs/pictures/space.svg");
+
+/// Six runs are driven again and again in the morning, each time with a save, and late
+/// in the morning some with a save each. A save is cut in its links. In the afternoon
+/// the operator mounts, goes on, stores a long run, gives up a number, and after a pause
+/// drives the last runs.
+fn lesson(folder: &Folder) {
+    for drive in 1..8 {
+        for v in 0..6 {
+            folder.write(v, &format!("run {v}, drive {drive}"));
+        }
+        folder.done("commit run.disc");
+    }
+    folder.done("close run.disc");
+    for v in 2..6 {
+        folder.write(v, &format!("run {v}, late in the morning"));
+        folder.done("commit run.disc");
+    }
+    folder.done("close run.disc");
+    folder.done("cut 3 --torn commit run.disc");
+    folder.done("mount run.disc");
+    for drive in ["after lunch", "again"] {
+        for v in 4..9 {
+            folder.write(v, &format!("run {v}, {drive}"));
+        }
+        folder.done("commit run.disc --at 2026-11-16T14:05Z");
+    }
+    folder.done_with("store run.disc 9", &[7; 20 * SECTOR]);
+    folder.done("commit run.disc --at 2026-11-16T14:40Z");
+    folder.done("release run.disc 3");
+    folder.done("close run.disc");
+    for v in [0, 1, 8, 8] {
+        folder.write(v, &format!("run {v}, before the end"));
+    }
+    folder.done("commit run.disc --at 2026-11-16T16:55Z");
+}
+
+#[test]
+fn the_handbook_shows_what_is_drawn() {
+    let folder = Folder::begun(160);
+    lesson(&folder);
+    folder.done("map run.disc --svg drawn.svg");
+    let shown = fs::read(PICTURE).expect("the picture of the handbook");
+    assert!(
+        folder.bytes("drawn.svg") == shown,
+        "docs/pictures/space.svg is not what the program draws of the lesson; the test \
+         `drawn_for_the_handbook`, run alone, draws it anew"
+    );
+}
+
+#[test]
+#[ignore = "writes docs/pictures/space.svg"]
+fn drawn_for_the_handbook() {
+    let folder = Folder::begun(160);
+    lesson(&folder);
+    folder.done("map run.disc --svg drawn.svg");
+    fs::write(PICTURE, folder.bytes("drawn.svg")).expect("the picture is written");
+}
