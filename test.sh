@@ -32,6 +32,7 @@ set_up() {
     need c++ g++
     need mkudffs udftools
     need strace strace
+    need script bsdutils
     need_rust host/Cargo.toml
 }
 

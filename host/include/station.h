@@ -6,9 +6,9 @@
  *
  * Every call is lent a disc and a ledger, and the ten that alter disc or ledger
  * the roles too, each buffer as a pointer and its length in bytes. The pointer
- * points at that many bytes, also where there are none, and is not null; buffers
- * of one call do not overlap. Apart from that any lengths and any contents may be
- * lent: they are tested.
+ * points at that many bytes, also where there are none, and is not null; one that
+ * the call may change overlaps no other. Apart from that any lengths and any
+ * contents may be lent: they are tested.
  *
  *   image   2048 bytes a sector. A disc has 1 to 360,000 sectors; a block
  *           number counts from 0.

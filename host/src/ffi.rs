@@ -10,7 +10,7 @@ mod archive;
 
 /// `station_begin_roles`: the answer of [`crate::begin`] as one number.
 pub fn begin(image: &[u8], kinds: &[u8], roles: &mut [u8], ledger: &mut [u8]) -> u64 {
-    // SAFETY: each pointer and length is one live slice, and no two overlap.
+    // SAFETY: each pointer and length is one live slice, and one that changes overlaps no other.
     unsafe {
         archive::station_begin_roles(
             image.as_ptr(),
@@ -28,7 +28,7 @@ pub fn begin(image: &[u8], kinds: &[u8], roles: &mut [u8], ledger: &mut [u8]) ->
 /// `station_mount_roles`: the answer of [`crate::mount`] as one number; the second
 /// is 1 if clean and 0 if dirty.
 pub fn mount(image: &[u8], kinds: &[u8], roles: &mut [u8], ledger: &mut [u8]) -> u64 {
-    // SAFETY: each pointer and length is one live slice, and no two overlap.
+    // SAFETY: each pointer and length is one live slice, and one that changes overlaps no other.
     unsafe {
         archive::station_mount_roles(
             image.as_ptr(),
@@ -53,7 +53,7 @@ pub fn write(
     v: u32,
     block: &[u8],
 ) -> u64 {
-    // SAFETY: each pointer and length is one live slice, and no two overlap.
+    // SAFETY: each pointer and length is one live slice, and one that changes overlaps no other.
     unsafe {
         archive::station_write_roles(
             image.as_mut_ptr(),
@@ -80,7 +80,7 @@ pub fn write_unnumbered(
     ledger: &mut [u8],
     block: &[u8],
 ) -> u64 {
-    // SAFETY: each pointer and length is one live slice, and no two overlap.
+    // SAFETY: each pointer and length is one live slice, and one that changes overlaps no other.
     unsafe {
         archive::station_write_unnumbered_roles(
             image.as_mut_ptr(),
@@ -99,7 +99,7 @@ pub fn write_unnumbered(
 
 /// `station_release_roles`: the answer of [`crate::release`] as one number.
 pub fn release(image: &[u8], kinds: &[u8], roles: &mut [u8], ledger: &mut [u8], v: u32) -> u64 {
-    // SAFETY: each pointer and length is one live slice, and no two overlap.
+    // SAFETY: each pointer and length is one live slice, and one that changes overlaps no other.
     unsafe {
         archive::station_release_roles(
             image.as_ptr(),
@@ -117,7 +117,7 @@ pub fn release(image: &[u8], kinds: &[u8], roles: &mut [u8], ledger: &mut [u8], 
 
 /// `station_close_packet_roles`: the answer of [`crate::close_packet`] as one number.
 pub fn close_packet(image: &[u8], kinds: &[u8], roles: &[u8], ledger: &mut [u8]) -> u64 {
-    // SAFETY: each pointer and length is one live slice, and no two overlap.
+    // SAFETY: each pointer and length is one live slice, and one that changes overlaps no other.
     unsafe {
         archive::station_close_packet_roles(
             image.as_ptr(),
@@ -135,7 +135,7 @@ pub fn close_packet(image: &[u8], kinds: &[u8], roles: &[u8], ledger: &mut [u8])
 /// `station_commit_roles`: the answer of [`crate::commit`] as one number; the second
 /// is the block recorded.
 pub fn commit(image: &mut [u8], kinds: &mut [u8], roles: &mut [u8], ledger: &mut [u8]) -> u64 {
-    // SAFETY: each pointer and length is one live slice, and no two overlap.
+    // SAFETY: each pointer and length is one live slice, and one that changes overlaps no other.
     unsafe {
         archive::station_commit_roles(
             image.as_mut_ptr(),
@@ -159,7 +159,7 @@ pub fn commit_at(
     ledger: &mut [u8],
     stamp: &[u8],
 ) -> u64 {
-    // SAFETY: each pointer and length is one live slice, and no two overlap.
+    // SAFETY: each pointer and length is one live slice, and one that changes overlaps no other.
     unsafe {
         archive::station_commit_at_roles(
             image.as_mut_ptr(),
@@ -204,7 +204,7 @@ pub fn view(
     offset: u64,
     buffer: &mut [u8],
 ) -> u64 {
-    // SAFETY: each pointer and length is one live slice, and no two overlap.
+    // SAFETY: each pointer and length is one live slice, and one that changes overlaps no other.
     unsafe {
         archive::station_view(
             image.as_ptr(),
@@ -224,7 +224,7 @@ pub fn view(
 /// `station_look_back_roles`: the answer of [`crate::look_back`] as one number; the
 /// second is the table's block.
 pub fn look_back(image: &[u8], kinds: &[u8], roles: &mut [u8], ledger: &mut [u8], k: u32) -> u64 {
-    // SAFETY: each pointer and length is one live slice, and no two overlap.
+    // SAFETY: each pointer and length is one live slice, and one that changes overlaps no other.
     unsafe {
         archive::station_look_back_roles(
             image.as_ptr(),
@@ -277,7 +277,7 @@ pub fn close_session(
     reserve_location: u32,
     partition_start: u32,
 ) -> u64 {
-    // SAFETY: each pointer and length is one live slice, and no two overlap.
+    // SAFETY: each pointer and length is one live slice, and one that changes overlaps no other.
     unsafe {
         archive::station_close_session_roles(
             image.as_mut_ptr(),

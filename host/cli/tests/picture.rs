@@ -4,6 +4,7 @@
 mod common;
 
 use std::fs;
+use std::path::Path;
 
 use common::Folder;
 use station::SECTOR;
@@ -50,19 +51,13 @@ fn the_handbook_shows_what_is_drawn() {
     let folder = Folder::begun(160);
     lesson(&folder);
     folder.done("map run.disc --svg drawn.svg");
+    let drawn = folder.bytes("drawn.svg");
+    let left = Path::new(env!("CARGO_TARGET_TMPDIR")).join("space.svg");
+    fs::write(&left, &drawn).expect("the picture is left for a look");
     let shown = fs::read(PICTURE).expect("the picture of the handbook");
     assert!(
-        folder.bytes("drawn.svg") == shown,
-        "docs/pictures/space.svg is not what the program draws of the lesson; the test \
-         `drawn_for_the_handbook`, run alone, draws it anew"
+        drawn == shown,
+        "docs/pictures/space.svg is not what the program draws of the lesson: {}",
+        left.display()
     );
-}
-
-#[test]
-#[ignore = "writes docs/pictures/space.svg"]
-fn drawn_for_the_handbook() {
-    let folder = Folder::begun(160);
-    lesson(&folder);
-    folder.done("map run.disc --svg drawn.svg");
-    fs::write(PICTURE, folder.bytes("drawn.svg")).expect("the picture is written");
 }
