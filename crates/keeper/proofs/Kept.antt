@@ -7,12 +7,12 @@ use mathlib.Core.Bool.{Bool, true, false, _||_, not}
 use mathlib.Core.List.{List, [], _∷_, _++_}
 use lib.Dec.{eqb}
 use lib.ListN.{length}
-use borrow.Author.Tests.{eqb-true}
+use borrow.Author.Tests.{eqb-true, not-false}
 use Rattle.disc.specs.Disc.{Disc, sized}
 use Rattle.recorder.specs.Calls.{Call, closePacket, bufferOf, restores, mayRecord}
 use Rattle.recorder.specs.Refusals.{Test, test, first, tests, outcome}
 use Rattle.recorder.specs.Effects.{effect, After, left, settled, after}
-use Rattle.recorder.proofs.Done.{skip, stop, none-left, stopped, resumed}
+use Rattle.recorder.proofs.Done.{skip, stop, none-left, stopped, none-applies, resumed}
 use Rattle.recorder.proofs.Answers.{done-small, done-of}
 use Rattle.roles.specs.Keeping.{keptUp, rolesTests, outcomeRoles, AfterRoles, leftRoles, rolesIf, afterRoles}
 
@@ -36,14 +36,9 @@ module _ (d : Disc) (roles : List ℕ) where
 
   -- what they leave when neither applies
   pub lengths-told : first (rolesTests true d roles) ≡ 0 → (sized d ≡ true) × (length roles ≡ length (d .kinds))
-  unfolding first
-  lengths-told e = go (sized d) (eqb (length roles) (length (d .kinds))) refl refl e
-    where
-      go : (s t : Bool) → sized d ≡ s → eqb (length roles) (length (d .kinds)) ≡ t → first (test 1 (not s) ∷ test 2 (not t) ∷ []) ≡ 0
-          → (sized d ≡ true) × (length roles ≡ length (d .kinds))
-      go false t p q e = absurd (omega arith)
-      go true false p q e = absurd (omega arith)
-      go true true p q e = (p, eqb-true (length roles) (length (d .kinds)) q)
+  lengths-told e =
+      let p = none-applies (rolesTests true d roles) refl e in
+      (not-false (sized d) (p .0), eqb-true (length roles) (length (d .kinds)) (not-false (eqb (length roles) (length (d .kinds))) (p .1 .0)))
 
 -- ---- all that a call leaves
 
