@@ -67,12 +67,19 @@ counted() {
     rm -f "$log"
 }
 
-# told_by PID FILE: what a command that was started before has written to the file, once it has ended, and its exit status
+# in_background FILE COMMAND...: starts the command, which writes to the file and leaves its exit status in FILE.status. The shell's own word for how a
+# child ended is lost once another child has its number.
+in_background() {
+    local file=$1
+    shift
+    { "$@" >"$file" 2>&1; echo $? >"$file.status"; } &
+}
+
+# told_by FILE: what the command has written to the file, once all that was started so has ended, and its exit status
 told_by() {
-    wait "$1"
-    local status=$?
-    cat "$2"
-    return "$status"
+    wait
+    cat "$1"
+    return "$(cat "$1.status")"
 }
 
 # A crate that is proved is one, and each of its must-fail edits.
@@ -124,11 +131,10 @@ counted "rt ci" "$(rattle_tests)" rt ci
 one "rt staticlib station" archive
 # These two at once: each leaves a processor idle now and then.
 edits=$(mktemp)
-tests/must_fail.sh >"$edits" 2>&1 &
-edits_tried=$!
+in_background "$edits" tests/must_fail.sh
 counted "host tests" "$(host_tests_written)" host_tests
-counted "tests/must_fail.sh" "$(must_fail_tests)" told_by "$edits_tried" "$edits"
-rm -f "$edits"
+counted "tests/must_fail.sh" "$(must_fail_tests)" told_by "$edits"
+rm -f "$edits" "$edits.status"
 
 for name in "${broken[@]}"; do
     echo "failed: $name"
