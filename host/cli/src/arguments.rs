@@ -146,7 +146,7 @@ impl Arguments {
     }
 
     /// Behind an option that may be missing.
-    fn option_number(&self, option: &str) -> Result<Option<u32>, Failure> {
+    pub fn option_number(&self, option: &str) -> Result<Option<u32>, Failure> {
         let word = self.value(option);
         word.map(|word| self.number_in(option, word, u32::MAX))
             .transpose()

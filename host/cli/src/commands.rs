@@ -4,14 +4,17 @@ use std::ffi::OsString;
 
 use crate::arguments::{parse, Arguments, Asked};
 use crate::calls;
+use crate::contents::contents;
 use crate::cut::cut;
 use crate::demo;
+use crate::explain::explain;
 use crate::failure::{Done, Failure};
 use crate::help;
 use crate::images::{export, import};
 use crate::listing::list;
 use crate::nearly::nearest;
 use crate::space;
+use crate::status::status;
 use crate::surroundings::{say, Surroundings};
 use crate::syntax::{self, Syntax};
 use crate::viewing::{read, view};
@@ -28,7 +31,7 @@ const fn command(
     Command { syntax, run }
 }
 
-static COMMANDS: [Command; 20] = [
+static COMMANDS: [Command; 23] = [
     command(&syntax::NEW, calls::new),
     command(&syntax::BEGIN, calls::begin),
     command(&syntax::MOUNT, calls::mount),
@@ -43,11 +46,14 @@ static COMMANDS: [Command; 20] = [
     command(&syntax::LOOK_BACK, calls::look_back),
     command(&syntax::TIME, calls::time),
     command(&syntax::LIST, list),
+    command(&syntax::STATUS, status),
+    command(&syntax::CONTENTS, contents),
     command(&syntax::SPACE, space::space),
     command(&syntax::MAP, space::map),
     command(&syntax::IMPORT, import),
     command(&syntax::EXPORT, export),
     command(&syntax::CUT, cut),
+    command(&syntax::EXPLAIN, explain),
     command(&syntax::DEMO, show_demo),
 ];
 

@@ -8,7 +8,7 @@ use std::process::Command;
 
 use common::{Folder, STATION};
 
-const COMMANDS: [&str; 20] = [
+const COMMANDS: [&str; 23] = [
     "new",
     "begin",
     "mount",
@@ -23,11 +23,14 @@ const COMMANDS: [&str; 20] = [
     "look-back",
     "time",
     "list",
+    "status",
+    "contents",
     "space",
     "map",
     "import",
     "export",
     "cut",
+    "explain",
     "demo",
 ];
 
