@@ -26,7 +26,7 @@ Usage: station COMMAND DISC ...
   cut J COMMAND ...     what a power cut leaves of a command that records
   demo                  a worked example
 
-'station COMMAND --help' tells more. '--version' tells the version.
+'station COMMAND --help' tells more. '-V' or '--version' tells the version.
 
 DISC is a file; its ledger is kept beside it in DISC.ledger, and the roles of
 its sectors in DISC.roles. Until a commit, only the ledger knows where a written

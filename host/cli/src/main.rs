@@ -22,8 +22,9 @@
 //! - `ledger`: what the ledger says;
 //! - `arguments`, `syntax`, `help`, `nearly`: the words of a command line;
 //! - `stamps`: the time that a save is to carry; `calendar`: dates;
-//! - `mapping`, `lock`, `clock`, `screen`: what is asked of the system;
-//! - `failure`, `advice`: what can go wrong, in words and as an exit status.
+//! - `mapping`, `lock`, `clock`, `screen`, `zone`: what is asked of the system;
+//! - `failure`, `advice`: what can go wrong, in words and as an exit status;
+//! - `names`: a file's name as it is shown.
 
 #![deny(unsafe_code)]
 
@@ -54,6 +55,7 @@ mod lock;
 mod making;
 #[allow(unsafe_code)]
 mod mapping;
+mod names;
 mod nearly;
 mod roles;
 mod saves;
@@ -68,6 +70,7 @@ mod syntax;
 mod times;
 mod viewing;
 mod writing;
+mod zone;
 
 use std::env;
 use std::ffi::OsString;
