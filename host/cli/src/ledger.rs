@@ -10,6 +10,8 @@ pub struct Map {
     pub size: u32,
     /// The numbers in use, ascending.
     pub used: Vec<u32>,
+    /// The block of each number below the size, if it is in use.
+    blocks: Vec<Option<u32>>,
     /// The block of the table that the map was read from.
     pub table: u32,
     /// Whether a look back has filled the ledger: "looking only".
@@ -38,27 +40,24 @@ pub fn recorded(ledger: &[u8]) -> usize {
 }
 
 impl Map {
+    /// Of a whole ledger. No number is at or above the limit, whatever a file says.
     pub fn of(ledger: &[u8]) -> Map {
-        let size = word(ledger, SIZE);
-        let in_use = |v: &u32| word(ledger, *v as usize) != UNUSED;
+        let size = word(ledger, SIZE).min(LIMIT);
+        let block = |v| Some(word(ledger, v as usize)).filter(|block| *block != UNUSED);
+        let blocks: Vec<Option<u32>> = (0..size).map(block).collect();
+        let in_use = |v: &u32| blocks[*v as usize].is_some();
         Map {
             size,
             used: (0..size).filter(in_use).collect(),
+            blocks,
             table: word(ledger, LAST_TABLE),
             looking: word(ledger, MODE) == LOOKING,
         }
     }
 
-    /// First and last number of each run of numbers in use.
-    fn runs(&self) -> Vec<(u32, u32)> {
-        let mut runs: Vec<(u32, u32)> = Vec::new();
-        for v in &self.used {
-            match runs.last_mut() {
-                Some((_, last)) if *last + 1 == *v => *last = *v,
-                _ => runs.push((*v, *v)),
-            }
-        }
-        runs
+    /// The block that the number names, if it is in use.
+    pub fn block(&self, v: u32) -> Option<u32> {
+        self.blocks.get(v as usize).copied().flatten()
     }
 }
 
@@ -66,13 +65,25 @@ impl Map {
 impl fmt::Display for Map {
     fn fmt(&self, out: &mut fmt::Formatter) -> fmt::Result {
         write!(out, "size {}, {} in use", self.size, self.used.len())?;
-        for (place, (first, last)) in self.runs().into_iter().enumerate() {
-            let before = if place == 0 { ": " } else { ", " };
-            match last - first {
-                0 => write!(out, "{before}{first}")?,
-                _ => write!(out, "{before}{first} to {last}")?,
-            }
+        match self.used.is_empty() {
+            true => Ok(()),
+            false => write!(out, ": {}", in_words(&self.used)),
         }
-        Ok(())
     }
+}
+
+/// Ascending numbers, for example `0, 3 to 5`.
+pub fn in_words(numbers: &[u32]) -> String {
+    let mut runs: Vec<(u32, u32)> = Vec::new();
+    for v in numbers {
+        match runs.last_mut() {
+            Some((_, last)) if *last + 1 == *v => *last = *v,
+            _ => runs.push((*v, *v)),
+        }
+    }
+    let words = runs.into_iter().map(|(first, last)| match last - first {
+        0 => first.to_string(),
+        _ => format!("{first} to {last}"),
+    });
+    words.collect::<Vec<String>>().join(", ")
 }

@@ -18,6 +18,7 @@
 //! - `times`: when a save was made, in words;
 //! - `saves`: every save of a disc, newest first;
 //! - `drawing`: a disc drawn, by the roles of its sectors;
+//! - `runs`: the numbers in use, and the parts of their runs;
 //! - `form`: the disc file's form; `roles`: the role file's;
 //! - `ledger`: what the ledger says;
 //! - `arguments`, `syntax`, `help`, `nearly`: the words of a command line;
@@ -58,6 +59,7 @@ mod mapping;
 mod names;
 mod nearly;
 mod roles;
+mod runs;
 mod saves;
 #[allow(unsafe_code)]
 mod screen;
