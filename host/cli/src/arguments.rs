@@ -1,17 +1,22 @@
 //! The words behind a command: operands and options, in any order.
 
-use std::borrow::Cow;
 use std::ffi::{OsStr, OsString};
-use std::fmt::Display;
+use std::ops::RangeInclusive;
 use std::os::unix::ffi::OsStrExt;
 use std::path::Path;
-use std::str::FromStr;
 
 use station::{Extent, Timestamp, MOST_SECTORS};
 
 use crate::failure::Failure;
+use crate::names::shown;
 use crate::stamps;
-use crate::syntax::Syntax;
+use crate::syntax::{is_number, Syntax};
+
+/// "The numbers v and k have 32 bits", and so have those of a closing.
+const NUMBERS: RangeInclusive<u64> = 0..=u32::MAX as u64;
+
+/// "It has 1 to 360,000 sectors."
+const SECTORS: RangeInclusive<u64> = 1..=MOST_SECTORS as u64;
 
 /// What the operator wants of a command.
 pub enum Asked {
@@ -39,7 +44,8 @@ pub fn parse(command: &'static Syntax, words: &[OsString]) -> Result<Asked, Fail
     let mut words = words.iter();
     let mut options_end = false;
     while let Some(word) = words.next() {
-        let is_option = !options_end && word.as_bytes().starts_with(b"-") && word != "-";
+        let dashed = word.as_bytes().starts_with(b"-") && word != "-";
+        let is_option = dashed && !options_end && !given.wants_number_like(word);
         if is_option && (word == "-h" || word == "--help") {
             return Ok(Asked::Help);
         } else if is_option && word == "--" {
@@ -58,6 +64,13 @@ pub fn parse(command: &'static Syntax, words: &[OsString]) -> Result<Asked, Fail
 }
 
 impl Arguments {
+    /// Whether the word is a number below zero where the next operand is a number: it
+    /// is told as one that is too small, and not as an option.
+    fn wants_number_like(&self, word: &OsStr) -> bool {
+        let next = self.command.operands.get(self.operands.len());
+        next.is_some_and(|next| is_number(next)) && word.to_str().is_some_and(is_below_zero)
+    }
+
     /// `--from FILE` or `--from=FILE`, or an option without a value.
     fn take_option<'a>(
         &mut self,
@@ -73,7 +86,7 @@ impl Arguments {
             .iter()
             .find(|(known, _)| name == *known);
         let Some((known, follows)) = known else {
-            let name = name.to_string_lossy();
+            let name = shown(Path::new(name));
             return Err(self.wrong(format!("{} has no option {name}", self.command.name)));
         };
         let missing = |what| self.wrong(format!("{known} needs {what} behind it"));
@@ -97,7 +110,7 @@ impl Arguments {
         }
         match self.operands.get(wanted.len()) {
             Some(extra) => {
-                let extra = extra.to_string_lossy();
+                let extra = shown(Path::new(extra));
                 Err(self.wrong(format!("{name} has no use for {extra}")))
             }
             None => Ok(()),
@@ -133,56 +146,74 @@ impl Arguments {
         Path::new(&self.operands[place])
     }
 
-    pub fn text(&self, place: usize) -> Cow<'_, str> {
-        self.operands[place].to_string_lossy()
+    pub fn text(&self, place: usize) -> String {
+        shown(self.path(place))
     }
 
     pub fn number(&self, place: usize) -> Result<u32, Failure> {
-        self.number_in(
-            self.command.operands[place],
-            &self.operands[place],
-            u32::MAX,
-        )
+        let number = self.operand_in(place, NUMBERS)?;
+        Ok(number as u32)
+    }
+
+    fn operand_in(&self, place: usize, range: RangeInclusive<u64>) -> Result<u64, Failure> {
+        self.number_in(self.command.operands[place], &self.operands[place], range)
+    }
+
+    /// Of 32 bits, behind an option that may be missing.
+    pub fn option_number(&self, option: &str) -> Result<Option<u32>, Failure> {
+        let number = self.option_in(option, NUMBERS)?;
+        Ok(number.map(|number| number as u32))
     }
 
     /// Behind an option that may be missing.
-    pub fn option_number(&self, option: &str) -> Result<Option<u32>, Failure> {
+    fn option_in(&self, option: &str, range: RangeInclusive<u64>) -> Result<Option<u64>, Failure> {
         let word = self.value(option);
-        word.map(|word| self.number_in(option, word, u32::MAX))
+        word.map(|word| self.number_in(option, word, range))
             .transpose()
     }
 
     /// The same, of 64 bits: a run has more bytes than a number may count.
     pub fn option_long(&self, option: &str) -> Result<Option<u64>, Failure> {
-        let word = self.value(option);
-        word.map(|word| self.number_in(option, word, u64::MAX))
-            .transpose()
+        self.option_in(option, 0..=u64::MAX)
     }
 
     /// What stands behind an option without which the command means nothing.
-    fn needed(&self, option: &str) -> Result<&OsStr, Failure> {
+    pub fn needed(&self, option: &str) -> Result<&OsStr, Failure> {
         let missing = || self.wrong(format!("{} needs {option}", self.command.name));
         self.value(option).ok_or_else(missing)
     }
 
     pub fn needed_number(&self, option: &str) -> Result<u32, Failure> {
-        self.number_in(option, self.needed(option)?, u32::MAX)
+        let number = self.number_in(option, self.needed(option)?, NUMBERS)?;
+        Ok(number as u32)
     }
 
-    fn number_in<N: FromStr + Display>(
+    /// The same where there are only so many: from 0 to below the end.
+    pub fn needed_below(&self, option: &str, end: usize) -> Result<usize, Failure> {
+        let last = end.saturating_sub(1) as u64;
+        let number = self.number_in(option, self.needed(option)?, 0..=last)?;
+        Ok(number as usize)
+    }
+
+    /// The range that is told is the one that is tested.
+    fn number_in(
         &self,
         name: &str,
         word: &OsStr,
-        most: N,
-    ) -> Result<N, Failure> {
-        let text = word.to_string_lossy();
-        number(&text)
-            .ok_or_else(|| self.wrong(format!("{name} is a number from 0 to {most}, not '{text}'")))
+        range: RangeInclusive<u64>,
+    ) -> Result<u64, Failure> {
+        let text = shown(Path::new(word));
+        let found = number(&text).filter(|number| range.contains(number));
+        found.ok_or_else(|| {
+            let (least, most) = (range.start(), range.end());
+            let missed = missed(&text, *least);
+            self.wrong(format!("{name} is a number from {least} to {most}{missed}"))
+        })
     }
 
     /// `LENGTH,LOCATION`: an extent as a descriptor names it.
     pub fn needed_extent(&self, option: &str) -> Result<Extent, Failure> {
-        let text = self.needed(option)?.to_string_lossy();
+        let text = shown(Path::new(self.needed(option)?));
         extent(&text).ok_or_else(|| {
             let most = u32::MAX;
             self.wrong(format!(
@@ -196,7 +227,7 @@ impl Arguments {
         let Some(word) = self.value(option) else {
             return Ok(None);
         };
-        let text = word.to_string_lossy();
+        let text = shown(Path::new(word));
         let time = stamps::parse(&text);
         time.map(Some).ok_or_else(|| {
             let example = stamps::EXAMPLE;
@@ -207,38 +238,43 @@ impl Arguments {
     }
 
     pub fn sectors(&self, place: usize) -> Result<usize, Failure> {
-        self.sectors_of_a_disc(self.number(place)?)
+        let sectors = self.operand_in(place, SECTORS)?;
+        Ok(sectors as usize)
     }
 
     /// Behind an option that may be missing.
     pub fn option_sectors(&self, option: &str) -> Result<Option<usize>, Failure> {
-        let number = self.option_number(option)?;
-        number
-            .map(|number| self.sectors_of_a_disc(number))
-            .transpose()
-    }
-
-    /// "It has 1 to 360,000 sectors."
-    fn sectors_of_a_disc(&self, number: u32) -> Result<usize, Failure> {
-        let sectors = number as usize;
-        if (1..=MOST_SECTORS).contains(&sectors) {
-            return Ok(sectors);
-        }
-        Err(self.wrong(format!(
-            "a disc has 1 to {MOST_SECTORS} sectors, not {sectors}"
-        )))
+        let sectors = self.option_in(option, SECTORS)?;
+        Ok(sectors.map(|sectors| sectors as usize))
     }
 }
 
-/// "The numbers v and k have 32 bits", and so have those of a closing; an offset
-/// has 64.
-fn number<N: FromStr>(text: &str) -> Option<N> {
-    let digits = text.bytes().all(|byte| byte.is_ascii_digit());
-    text.parse().ok().filter(|_| digits)
+/// The number in a text of digits alone, if it has no more than 64 bits.
+fn number(text: &str) -> Option<u64> {
+    text.parse().ok().filter(|_| is_digits(text))
+}
+
+fn is_digits(text: &str) -> bool {
+    !text.is_empty() && text.bytes().all(|byte| byte.is_ascii_digit())
+}
+
+fn is_below_zero(text: &str) -> bool {
+    text.strip_prefix('-').is_some_and(is_digits)
+}
+
+/// How a text misses a range: as a number outside of it, or as none.
+fn missed(text: &str, least: u64) -> String {
+    let below = number(text).is_some_and(|number| number < least);
+    match (is_below_zero(text) || below, is_digits(text)) {
+        (true, _) => format!(": {text} is too small"),
+        (false, true) => format!(": {text} is too large"),
+        (false, false) => format!(", not '{text}'"),
+    }
 }
 
 fn extent(text: &str) -> Option<Extent> {
     let (length, location) = text.split_once(',')?;
+    let number = |text| number(text).and_then(|number| u32::try_from(number).ok());
     Some(Extent {
         length: number(length)?,
         location: number(location)?,

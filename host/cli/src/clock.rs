@@ -5,6 +5,8 @@ use std::ffi::CStr;
 use std::mem::MaybeUninit;
 use std::time::{SystemTime, UNIX_EPOCH};
 
+use crate::zone;
+
 /// The name of a zone that nobody has set, in the system's files of zones.
 const NEVER_SET: &[u8] = b"-00";
 
@@ -25,7 +27,7 @@ pub fn now() -> Now {
     Now {
         seconds,
         microseconds: since.subsec_micros(),
-        zone: zone_at(seconds),
+        zone: zone_at(seconds).filter(|_| zone::is_known()),
     }
 }
 

@@ -8,6 +8,7 @@ use station::Extent;
 use crate::arguments::Arguments;
 use crate::failure::{Done, Failure};
 use crate::form::Disc;
+use crate::names::shown;
 use crate::reasons::{refused, Asked};
 use crate::session::Session;
 use crate::surroundings::{say_aside, Surroundings};
@@ -51,7 +52,7 @@ pub fn pointer_before(table: u32) -> u32 {
 /// either: a script goes on. Where it cannot be told, the disc stays as it is, since
 /// nobody can take a closing back.
 pub fn announce(disc: &Path, around: &mut Surroundings) -> Done {
-    let disc = disc.display();
+    let disc = shown(disc);
     let text =
         format!("station: closing {disc}: after this nothing can be recorded on it any more\n");
     say_aside(around, text)

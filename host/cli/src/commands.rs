@@ -1,6 +1,7 @@
 //! The commands: which function runs each, and the command line as a whole.
 
 use std::ffi::OsString;
+use std::path::Path;
 
 use crate::arguments::{parse, Arguments, Asked};
 use crate::calls;
@@ -12,6 +13,7 @@ use crate::failure::{Done, Failure};
 use crate::help;
 use crate::images::{export, import};
 use crate::listing::list;
+use crate::names::shown;
 use crate::nearly::nearest;
 use crate::space;
 use crate::status::status;
@@ -83,12 +85,12 @@ pub fn run(words: &[OsString], around: &mut Surroundings) -> Done {
     let Some((first, rest)) = words.split_first() else {
         return Err(Failure::Usage("a command is missing".into(), ""));
     };
-    match first.to_string_lossy().as_ref() {
-        word @ ("-h" | "--help" | "--version") if !rest.is_empty() => {
+    match shown(Path::new(first)).as_str() {
+        word @ ("-h" | "--help" | "-V" | "--version") if !rest.is_empty() => {
             Err(Failure::Usage(format!("{word} stands alone"), ""))
         }
         "-h" | "--help" => say(around, help::PROGRAM),
-        "--version" => say(around, concat!("station ", env!("CARGO_PKG_VERSION"), "\n")),
+        "-V" | "--version" => say(around, concat!("station ", env!("CARGO_PKG_VERSION"), "\n")),
         name => {
             let command = find(name)?;
             match parse(command.syntax, rest)? {

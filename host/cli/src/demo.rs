@@ -11,6 +11,7 @@ use std::process;
 
 use crate::arguments::Arguments;
 use crate::failure::{Done, Failure};
+use crate::names::shown;
 use crate::surroundings::{say, Surroundings};
 
 /// What runs one command line.
@@ -169,10 +170,7 @@ pub fn demo(given: &Arguments, around: &mut Surroundings, run: Run) -> Done {
     };
     fs::create_dir_all(folder).map_err(|error| Failure::unwritable(folder, error))?;
     play(folder, around, run)?;
-    say(
-        around,
-        format!("# The files are in {}.\n", folder.display()),
-    )
+    say(around, format!("# The files are in {}.\n", shown(folder)))
 }
 
 fn play(folder: &Path, around: &mut Surroundings, run: Run) -> Done {

@@ -1,17 +1,18 @@
 //! Where the space of a disc went: drawn in letters, in a terminal's colours, and as
-//! a picture for the wall, from one role a sector.
+//! a picture for the screen and the wall, from one role a sector and what is in use.
 //!
 //! - `terminal`: letters, and the same in colours;
 //! - `picture`: the page of a picture; `squares`: the disc on it; `signs`: its colours;
-//! - `lettering`: the texts of a picture;
+//! - `lettering`: the texts of a picture; `pointer`: what is told under the pointer;
 //! - `words`: what is said beside the cells;
 //! - `cells`: the sectors that a cell stands for;
-//! - `role`: a role in words and as a letter.
+//! - `shown`: what is shown of a sector, in words and as a letter.
 
 mod cells;
 mod lettering;
 mod picture;
-mod role;
+mod pointer;
+mod shown;
 mod signs;
 mod squares;
 mod terminal;
@@ -19,9 +20,14 @@ mod terminal;
 mod tests;
 mod words;
 
+use std::path::Path;
+
 pub use picture::svg;
+pub use shown::Count;
 pub use terminal::{colours, letters};
-pub use words::{answer, share, AFTER_A_MOUNT};
+pub use words::{answer, share};
+
+use crate::runs::InUse;
 
 /// A save that counting back reaches.
 pub struct Save {
@@ -34,9 +40,10 @@ pub struct Save {
 /// What is drawn of a disc.
 pub struct Plan<'a> {
     /// The name of its file.
-    pub name: &'a str,
+    pub name: &'a Path,
     /// One byte a sector, 0 to 6.
     pub roles: &'a [u8],
+    pub in_use: &'a InUse,
     /// Newest first.
     pub saves: &'a [Save],
 }

@@ -6,6 +6,8 @@ use std::path::{Path, PathBuf};
 
 use station::Refusal;
 
+use crate::names::shown;
+
 /// What a command comes to, or a part of one that answers nothing.
 pub type Done = Result<(), Failure>;
 
@@ -78,27 +80,23 @@ impl fmt::Display for Failure {
                 writeln!(out, "Try 'station{space}{command} --help'.")
             }
             Failure::NoDisc(file, reason) => {
-                writeln!(out, "station: {} is no disc: {reason}", file.display())
+                writeln!(out, "station: {} is no disc: {reason}", shown(file))
             }
             Failure::NoImage(file, reason) => {
-                let file = file.display();
+                let file = shown(file);
                 writeln!(out, "station: {file} is no raw image of a disc: {reason}")
             }
             Failure::NoRun(file, reason) => {
-                writeln!(out, "station: {} is no run: {reason}", file.display())
+                writeln!(out, "station: {} is no run: {reason}", shown(file))
             }
             Failure::Unreadable(file, error) => {
-                writeln!(out, "station: {}", unreadable(&file.display(), error))
+                writeln!(out, "station: {}", unreadable(&shown(file), error))
             }
             Failure::Unwritable(file, reason) => {
-                writeln!(
-                    out,
-                    "station: {} cannot be written: {reason}",
-                    file.display()
-                )
+                writeln!(out, "station: {} cannot be written: {reason}", shown(file))
             }
             Failure::RolesUnknown(disc) => {
-                let disc = disc.display();
+                let disc = shown(disc);
                 writeln!(
                     out,
                     "station: where the space of {disc} went since it was begun or mounted is not \

@@ -29,7 +29,7 @@ Usage: station COMMAND DISC ...
   explain N             what refusal N means, and what to do
   demo                  a worked example
 
-'station COMMAND --help' tells more. '--version' tells the version.
+'station COMMAND --help' tells more. '-V' or '--version' tells the version.
 
 DISC is a file; its ledger is kept beside it in DISC.ledger, and the roles of
 its sectors in DISC.roles. Until a commit, only the ledger knows where a written
@@ -222,17 +222,22 @@ pub const SPACE: &str = "\
 Usage: station space DISC [--back K]
 
 Where the space went: how many sectors have each role, their share of the disc,
-and what took the most. Changes nothing.
+and in a sentence what is in use and what took the most of the rest. Changes
+nothing.
 
   in use             a number names the block
   superseded         no number names it: written again or released; after a
-                     mount, also what is not in the save, and blocks of runs
-  without a number   blocks of runs, and those of a closing before its table,
+                     mount, also what the save does not name, and parts of runs
+  without a number   parts of runs, and those of a closing before its table,
                      recorded since the last begin, mount or look-back
   table              one for each save
   link               seven where recording goes on after a close or a mount
   unreadable         left by a power cut, or damaged
   blank              not recorded yet
+
+Of a run only the entry has a number. Its other sectors, its parts, count as
+superseded or without a number also while the run is in use; the sentence then
+tells how many they are.
 
   --back K   as the save K before the newest has it, worked out anew; 0 is the
              newest. Neither ledger nor roles are needed or changed
@@ -245,13 +250,23 @@ begin, mount and look-back work them out anew.
 pub const MAP: &str = "\
 Usage: station map DISC [--back K] [--svg FILE]
 
-The disc drawn from block 0 on, by the role of each sector; 'station space
---help' tells what the roles mean. In colours on a terminal, else, and where
-NO_COLOR is set, in letters. Changes nothing of the disc.
+The disc drawn from block 0 on, a letter for each sector, or on a large disc for
+as many as it says. In colours on a terminal, else, and where NO_COLOR is set,
+in letters alone. Changes nothing of the disc.
+
+  u  in use              T  table
+  s  superseded          l  link
+  w  without a number    x  unreadable
+  p  part of a run       .  blank
+
+'station space --help' tells what these roles mean; p is a sector of a run in
+use, which its role counts as superseded or without a number.
 
   --back K     as the save K before the newest has it; 0 is the newest
-  --svg FILE   make a picture in FILE instead, which a browser shows; overwrites
-               nothing; - is standard output
+  --svg FILE   make a picture in FILE instead. A browser shows it in a window of
+               any size, tells block, role and number of a square under the
+               pointer, and prints it on A3. Overwrites nothing; - is standard
+               output
 ";
 
 pub const IMPORT: &str = "\

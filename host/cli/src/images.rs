@@ -24,10 +24,10 @@ const PIECE: usize = 32;
 /// The partition of another deck's disc as a disc file. It has no ledger, as
 /// after a power cut.
 pub fn import(given: &Arguments, around: &mut Surroundings) -> Done {
-    let start = given.needed_number("--start")? as usize;
+    given.needed("--start")?;
     let wanted = given.option_sectors("--sectors")?;
-    let image = Image::open(given, start)?;
-    let data = image.sectors;
+    let image = Image::open(given)?;
+    let (data, start) = (image.sectors, image.start);
     let sectors = wanted.unwrap_or(data);
     if sectors < data {
         let has = counted(data, "sector");
@@ -55,7 +55,7 @@ struct Image<'a> {
 }
 
 impl Image<'_> {
-    fn open(given: &Arguments, start: usize) -> Result<Image<'_>, Failure> {
+    fn open(given: &Arguments) -> Result<Image<'_>, Failure> {
         let name = given.path(0);
         let file = open(name, name, Failure::NoImage)?;
         let about = file.metadata();
@@ -70,10 +70,7 @@ impl Image<'_> {
             return no_image(format!("it has {bytes} bytes, and a sector has {SECTOR}"));
         }
         let all = bytes / SECTOR;
-        if start >= all {
-            let has = counted(all, "sector");
-            return Err(given.wrong(format!("--start {start} is too high: the image has {has}")));
-        }
+        let start = given.needed_below("--start", all)?;
         let sectors = all - start;
         if sectors > MOST_SECTORS {
             return no_image(format!(

@@ -18,17 +18,19 @@
 //! - `disk`: the steps of keeping, on files;
 //! - `making`: a file where there is none, a disc's or another;
 //! - `files`: names, locks, and replacing a file in one step;
-//! - `times`: when a save was made, in words; `runs`: the entry of a run;
+//! - `times`: when a save was made, in words;
 //! - `unsaved`: what a ledger has and no save has yet;
 //! - `saves`: every save of a disc, newest first;
 //! - `drawing`: a disc drawn, by the roles of its sectors;
+//! - `runs`: the entries of runs, the numbers in use, and the parts of their runs;
 //! - `roles`: the role file's form; `mark`: the ledger file's; `form`: the disc file's;
 //! - `ledger`: what the ledger says;
 //! - `arguments`, `syntax`, `help`, `nearly`: the words of a command line;
 //! - `stamps`: the time that a save is to carry; `calendar`: dates;
-//! - `mapping`, `lock`, `clock`, `screen`: what is asked of the system;
+//! - `mapping`, `lock`, `clock`, `screen`, `zone`: what is asked of the system;
 //! - `failure`: what can go wrong, in words and as an exit status; `advice`: each refusal
-//!   explained.
+//!   explained;
+//! - `names`: a file's name as it is shown.
 
 #![deny(unsafe_code)]
 
@@ -63,6 +65,7 @@ mod making;
 #[allow(unsafe_code)]
 mod mapping;
 mod mark;
+mod names;
 mod nearly;
 mod reasons;
 mod roles;
@@ -82,6 +85,7 @@ mod times;
 mod unsaved;
 mod viewing;
 mod writing;
+mod zone;
 
 use std::env;
 use std::ffi::OsString;

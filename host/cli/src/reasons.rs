@@ -6,6 +6,7 @@ use station::{Refusal, LIMIT, SECTOR};
 use crate::failure::Failure;
 use crate::form::counted;
 use crate::ledger::{in_words, recorded, Map};
+use crate::names::shown;
 use crate::room::Room;
 use crate::runs;
 use crate::saves::{each_save, newest};
@@ -51,7 +52,7 @@ pub fn refused(refusal: Refusal, asked: &Asked, session: &Session) -> Failure {
         asked,
         session,
         map: Map::of(&session.ledger),
-        disc: session.name.display().to_string(),
+        disc: shown(&session.name),
     };
     Failure::Refused(refusal, why.sentence(refusal))
 }

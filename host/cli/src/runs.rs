@@ -1,25 +1,33 @@
-//! The entry of a run, as far as the program looks into it. Whether a block is one, the
-//! core says.
+//! The entries of runs, the numbers in use, and of each sector whether it is a part of a
+//! run in use. Whether a block is an entry, the core says.
+//!
+//! A run's entry has a number, and its parts have none. So their role tells that no
+//! number names them, and does not tell that one leads to them: superseded after a
+//! mount, without a number before it.
 
-use station::{Refusal, SECTOR};
+use station::{Extent, Refusal, Role, SECTOR};
 
 use crate::form::Disc;
 use crate::ledger::Map;
 
-/// ECMA-167's file entry: tag identifier 261; the file type of an ordinary file, 5; and
-/// where its information length stands, 64 bits.
+/// Of an entry, a file entry of ECMA-167 4/14.9: its tag identifier, 261; where its file
+/// type stands, and that of an ordinary file, 5; where its information length stands, 64
+/// bits; where the length of its descriptors, and where they begin, each a length and a
+/// block (4/14.14.1).
 const IDENTIFIER: [u8; 2] = [5, 1];
 const FILE_TYPE: (usize, u8) = (27, 5);
 const INFORMATION_LENGTH: usize = 56;
+const DESCRIPTORS_LENGTH: usize = 172;
+const DESCRIPTORS: usize = 176;
+const DESCRIPTOR: usize = 8;
 
 /// How many bytes the run has whose entry the number names, or why it names none.
 pub fn length(disc: &Disc, ledger: &[u8], v: u32) -> Result<u64, Refusal> {
     let (image, kinds) = disc.lent();
     station::view(image, kinds, ledger, v, 0, &mut [])?;
     let entry = block(disc, ledger, v).unwrap_or_default();
-    let length = entry
-        .get(INFORMATION_LENGTH..)
-        .and_then(<[u8]>::first_chunk);
+    let length = entry.get(INFORMATION_LENGTH..);
+    let length = length.and_then(<[u8]>::first_chunk);
     Ok(u64::from_le_bytes(*length.unwrap_or(&[0; 8])))
 }
 
@@ -35,4 +43,129 @@ fn block<'a>(disc: &'a Disc, ledger: &[u8], v: u32) -> Option<&'a [u8]> {
     let (image, _) = disc.lent();
     let block = Map::of(ledger).block(v)? as usize;
     image.get(block * SECTOR..)?.get(..SECTOR)
+}
+
+/// A number in use.
+pub struct Number {
+    pub v: u32,
+    pub block: usize,
+    /// Whether the block is a run's entry.
+    pub run: bool,
+}
+
+/// What the numbers of a map lead to.
+pub struct InUse {
+    /// By their blocks, ascending.
+    pub numbers: Vec<Number>,
+    /// Of each sector, the number of the run that it is a part of; of several, the
+    /// one that comes to it first.
+    pub parts: Vec<Option<u32>>,
+}
+
+/// An extent of a run: its blocks from the first to before the end.
+type Stretch = (usize, usize, u32);
+
+impl InUse {
+    /// By the ledger's map, on a disc whose sectors have these roles. The core says
+    /// what is a run's entry.
+    pub fn of(disc: &Disc, ledger: &[u8], roles: &[u8]) -> InUse {
+        let (image, kinds) = disc.lent();
+        let map = Map::of(ledger);
+        let (mut numbers, mut stretches) = (Vec::new(), Vec::new());
+        for &v in &map.used {
+            let run = station::view(image, kinds, ledger, v, 0, &mut []).is_ok();
+            let mut entry = [0; SECTOR];
+            if run && station::read(image, kinds, ledger, v, &mut entry).is_ok() {
+                stretches.extend(extents(&entry).map(|extent| stretch(extent, v)));
+            }
+            let block = map.block(v).unwrap_or_default() as usize;
+            numbers.push(Number { v, block, run });
+        }
+        numbers.sort_by_key(|number| number.block);
+        let parts = parts(stretches, roles);
+        InUse { numbers, parts }
+    }
+}
+
+/// What a run's entry names.
+fn extents(entry: &[u8; SECTOR]) -> impl Iterator<Item = Extent> + '_ {
+    let count = word(entry, DESCRIPTORS_LENGTH) as usize / DESCRIPTOR;
+    let places = (DESCRIPTORS..).step_by(DESCRIPTOR).take(count);
+    places.map(|place| Extent {
+        length: word(entry, place),
+        location: word(entry, place + 4),
+    })
+}
+
+fn word(entry: &[u8; SECTOR], place: usize) -> u32 {
+    let bytes = &entry[place..][..4];
+    u32::from_le_bytes([bytes[0], bytes[1], bytes[2], bytes[3]])
+}
+
+fn stretch(extent: Extent, v: u32) -> Stretch {
+    let first = extent.location as usize;
+    (first, first + (extent.length as usize).div_ceil(SECTOR), v)
+}
+
+/// Only what no number names is a part: the others are told as what they are. Each
+/// sector is looked at once, however many runs share it.
+fn parts(mut stretches: Vec<Stretch>, roles: &[u8]) -> Vec<Option<u32>> {
+    let named_by_none = [Role::Superseded, Role::WithoutNumber].map(Role::number);
+    let mut parts = vec![None; roles.len()];
+    let mut looked_at = 0;
+    stretches.sort_unstable();
+    for (first, end, v) in stretches {
+        for block in first.max(looked_at)..end.min(roles.len()) {
+            parts[block] = Some(v).filter(|_| named_by_none.contains(&roles[block]));
+        }
+        looked_at = looked_at.max(end);
+    }
+    parts
+}
+
+#[cfg(test)]
+mod tests {
+    use super::{extents, parts, stretch};
+    use station::{Extent, MOST_EXTENTS, MOST_SECTORS};
+
+    #[test]
+    fn only_what_no_number_names() {
+        let roles = [0, 1, 2, 3, 4, 5, 1, 1, 6];
+        let one = parts(vec![(0, 7, 4)], &roles);
+        let some = Some(4);
+        assert_eq!(one, [None, some, some, None, None, None, some, None, None]);
+        assert_eq!(parts(vec![], &roles), [None; 9]);
+        assert_eq!(parts(vec![(8, 12, 4)], &[1; 9])[7..], [None, some]);
+    }
+
+    #[test]
+    fn runs_that_share_sectors() {
+        let shared = parts(vec![(4, 8, 0), (2, 6, 1), (3, 4, 2)], &[1; 9]);
+        let digit = |part: &Option<u32>| part.map_or("-".into(), |v| v.to_string());
+        assert_eq!(shared.iter().map(digit).collect::<String>(), "--111100-");
+    }
+
+    /// As many runs as there are numbers, each of as many extents as an entry names,
+    /// and each of these nearly the whole disc.
+    #[test]
+    fn each_sector_is_looked_at_once() {
+        let all = (0..458u32).flat_map(|v| (0..100).map(move |place| (place, MOST_SECTORS, v)));
+        let parts = parts(all.collect(), &vec![1; MOST_SECTORS]);
+        assert!(parts.iter().all(|part| *part == Some(0)));
+    }
+
+    #[test]
+    fn the_extents_of_an_entry() {
+        let extent = |place: usize| Extent {
+            length: 2048 * (place as u32 + 1) - u32::from(place + 1 == MOST_EXTENTS),
+            location: 7 * place as u32,
+        };
+        for count in [1, 2, MOST_EXTENTS] {
+            let named: Vec<Extent> = (0..count).map(extent).collect();
+            let entry = station::file_entry(&named, 9000);
+            assert_eq!(extents(&entry).collect::<Vec<_>>(), named);
+        }
+        assert_eq!(stretch(extent(1), 5), (7, 9, 5));
+        assert_eq!(stretch(extent(99), 5), (693, 793, 5));
+    }
 }

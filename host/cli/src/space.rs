@@ -5,13 +5,14 @@ use std::path::Path;
 use station::{Refusal, Role};
 
 use crate::arguments::Arguments;
-use crate::drawing::{self, Plan, Save};
+use crate::drawing::{self, Count, Plan, Save};
 use crate::failure::{Done, Failure};
 use crate::form::counted;
 use crate::ledger::Map;
 use crate::looking;
 use crate::making::make;
 use crate::reasons::{refused, Asked};
+use crate::runs::InUse;
 use crate::saves::each_save;
 use crate::session::Session;
 use crate::surroundings::{say, Surroundings};
@@ -19,7 +20,8 @@ use crate::surroundings::{say, Surroundings};
 /// A line for each role, and the answer in words.
 pub fn space(given: &Arguments, around: &mut Surroundings) -> Done {
     let session = open(given, around)?;
-    let text = in_words(&session.roles) + &looking_at(&session);
+    let in_use = in_use(&session);
+    let text = in_words(&session.roles, &in_use) + &looking_at(&session);
     drop(session);
     say(around, text)
 }
@@ -32,13 +34,15 @@ pub fn map(given: &Arguments, around: &mut Surroundings) -> Done {
         return Err(given.wrong("--svg names the disc, its ledger or its roles".into()));
     }
     let saves = saves(&session)?;
+    let in_use = in_use(&session);
     let looking = looking_at(&session);
     let roles = session.roles.clone();
     drop(session);
     let name = given.path(0).file_name().unwrap_or_default();
     let plan = Plan {
-        name: &name.to_string_lossy(),
+        name: Path::new(name),
         roles: &roles,
+        in_use: &in_use,
         saves: &saves,
     };
     match (given.has("--svg"), file) {
@@ -73,21 +77,23 @@ fn open(given: &Arguments, around: &mut Surroundings) -> Result<Session, Failure
     }
 }
 
+/// What the numbers of the ledger's map lead to.
+fn in_use(session: &Session) -> InUse {
+    InUse::of(&session.disc, &session.ledger, &session.roles)
+}
+
 /// A line for each role: its name, how many sectors have it, and their share of the
-/// disc; and behind them what took the most.
-fn in_words(roles: &[u8]) -> String {
-    let space = station::space(roles);
+/// disc; and behind them what is in use, and what took the most of the rest.
+fn in_words(roles: &[u8], in_use: &InUse) -> String {
+    let count = Count::of(roles, &in_use.parts);
+    let space = &count.roles;
     let line = |role: Role| {
         let count = space.count(role);
         let share = drawing::share(count, space.sectors());
         format!("{role:16} {count:>8} {share:>9}\n")
     };
-    let mut text: String = Role::ALL.map(line).concat();
-    text += &format!("{}\n", drawing::answer(&space));
-    if space.count(Role::Superseded) > 0 {
-        text += &format!("{}\n", drawing::AFTER_A_MOUNT);
-    }
-    text
+    let lines: String = Role::ALL.map(line).concat();
+    format!("{lines}{}\n", drawing::answer(&count))
 }
 
 /// The line that is told while looking back; else nothing.

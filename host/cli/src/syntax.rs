@@ -12,6 +12,11 @@ pub struct Syntax {
     pub help: &'static str,
 }
 
+/// Whether an operand of this name is a number.
+pub fn is_number(operand: &str) -> bool {
+    ["SECTORS", "V", "K", "J"].contains(&operand)
+}
+
 /// What may follow an option.
 const NAME: Option<&str> = Some("a name");
 const NUMBER: Option<&str> = Some("a number");

@@ -132,10 +132,10 @@ const WRONG: &str = "\
 import empty.img x.disc --start 0 | 65 | empty.img is no raw image of a disc: it is empty
 import odd.img x.disc --start 0 | 65 | odd.img is no raw image of a disc: it has 1000 bytes, and a sector has 2048
 import desk x.disc --start 0 | 65 | desk is no raw image of a disc: it is not a file
-import deck.img x.disc --start 17 | 64 | --start 17 is too high: the image has 17 sectors
-import deck.img x.disc --start 4294967295 | 64 | --start 4294967295 is too high: the image has 17 sectors
+import deck.img x.disc --start 17 | 64 | --start is a number from 0 to 16: 17 is too large
+import deck.img x.disc --start 4294967295 | 64 | --start is a number from 0 to 16: 4294967295 is too large
 import deck.img x.disc --start 5 --sectors 11 | 64 | --sectors 11 is too few: the image has 12 sectors from block 5 on
-import deck.img x.disc --start 16 --sectors 0 | 64 | a disc has 1 to 360000 sectors, not 0
+import deck.img x.disc --start 16 --sectors 0 | 64 | --sectors is a number from 1 to 360000: 0 is too small
 import none.img x.disc --start 0 | 66 | there is no file or folder none.img
 import deck.img nowhere/x.disc --start 0 | 66 | there is no file or folder nowhere
 import deck.img odd.disc --start 0 | 73 | odd.disc cannot be written: it is there already

@@ -1,5 +1,5 @@
 //! The picture in docs/OPERATORS.md is what the program draws of the disc of a lesson
-//! in which every role occurs.
+//! in which every role occurs, and parts of runs in use.
 
 mod common;
 
@@ -13,8 +13,8 @@ const PICTURE: &str = concat!(env!("CARGO_MANIFEST_DIR"), "/../../docs/pictures/
 
 /// Six runs are driven again and again in the morning, each time with a save, and late
 /// in the morning some with a save each. A save is cut in its links. In the afternoon
-/// the operator mounts, goes on, stores a long run, gives up a number, and after a pause
-/// drives the last runs.
+/// the operator mounts, goes on, stores a long run, and again since it was broken off,
+/// gives up a number, and after a pause drives the last runs.
 fn lesson(folder: &Folder) {
     for drive in 1..8 {
         for v in 0..6 {
@@ -36,7 +36,8 @@ fn lesson(folder: &Folder) {
         }
         folder.done("commit run.disc --at 2026-11-16T14:05Z");
     }
-    folder.done_with("store run.disc 9", &[7; 20 * SECTOR]);
+    folder.done_with("store run.disc 9", &[7; 5 * SECTOR]);
+    folder.done_with("store run.disc 9", &[7; 14 * SECTOR]);
     folder.done("commit run.disc --at 2026-11-16T14:40Z");
     folder.done("release run.disc 3");
     folder.done("close run.disc");

@@ -350,7 +350,21 @@ fn a_picture() {
         "drawn, 31 sectors\n"
     );
     let picture = folder.done("map run.disc --svg -");
-    assert!(picture.starts_with("<svg ") || picture.starts_with("<?xml"));
+    assert!(picture.starts_with("<svg "));
+    for told in [
+        "block 0: superseded",
+        "block 2: in use, number 1",
+        "block 3: table, the save 1 back",
+        "blocks 4 to 10: link",
+        "block 11: table, the newest save",
+        "blocks 12 to 30: blank",
+    ] {
+        assert_eq!(
+            picture.matches(&format!("<title>{told}</title>")).count(),
+            1,
+            "{told}"
+        );
+    }
     assert!(folder.bytes("disc.svg") == picture.as_bytes());
     let told = folder.fails("map run.disc --svg disc.svg", 73);
     assert!(told.contains("disc.svg cannot be written: it is there already"));

@@ -236,6 +236,83 @@ fn a_machine_that_knows_no_zone() {
     );
 }
 
+/// A file of a zone, in the first form of RFC 8536, with one time so far ahead of UTC.
+fn zone_file(seconds: i32) -> Vec<u8> {
+    let counts: [u32; 6] = [0, 0, 0, 0, 1, 4];
+    let mut file = b"TZif".to_vec();
+    file.extend([0; 16]);
+    file.extend(counts.iter().flat_map(|count| count.to_be_bytes()));
+    file.extend(seconds.to_be_bytes());
+    file.extend([0, 0]);
+    file.extend(b"AAA\0");
+    file
+}
+
+/// Where the zones are those in a folder of the test.
+fn saved_in_zone(folder: &Folder, zone: &str) -> String {
+    let line = format!("TZDIR=\"$PWD\" {zone} station commit run.disc --now");
+    folder.shell(&line).lines().nth(1).expect("a time").into()
+}
+
+/// A name among the zones, with a colon and without, and a file's own; and a rule.
+#[test]
+fn a_zone_that_is_named() {
+    let folder = Folder::begun(60);
+    folder.put("Bench", &zone_file(5 * 3600 + 45 * 60));
+    for (zone, told) in [
+        ("TZ=Bench", "+05:45"),
+        ("TZ=:Bench", "+05:45"),
+        ("TZ=\"$PWD/Bench\"", "+05:45"),
+        ("TZ=\":$PWD/Bench\"", "+05:45"),
+        ("TZ=UTC0", "+00:00"),
+        ("TZ=CET-1", "+01:00"),
+        ("TZ=CET-1CEST,0/0,J365/25", "+02:00"),
+    ] {
+        let line = saved_in_zone(&folder, zone);
+        assert!(line.contains(&format!(" {told} (")), "{zone}: {line}");
+    }
+}
+
+/// The library takes UTC for all of them, as if somebody had set it.
+#[test]
+fn a_zone_that_is_not_known() {
+    let folder = Folder::begun(60);
+    folder.put("notes", b"the bench is in Berlin");
+    for zone in [
+        "TZ=",
+        "TZ=:",
+        "TZ=Europe/Berlin",
+        "TZ=Berlin",
+        "TZ=UTC",
+        "TZ=notes",
+        "TZ=\"$PWD\"",
+        "TZ=/nowhere",
+        "TZ=CET-1CEST,rule",
+        "TZ=CET-99",
+        "TZ=+01:00",
+    ] {
+        let before = clock();
+        let line = saved_in_zone(&folder, zone);
+        let end = ", zone not given, taken as UTC";
+        assert!(line.ends_with(end), "{zone}: {line}");
+        let found = newest(&folder);
+        assert!(!found.zone_given && (before..=clock()).contains(&found.minutes));
+    }
+}
+
+/// Without `TZ` it is the machine's file, and without that one no zone is given.
+#[test]
+fn a_machine_without_tz() {
+    let folder = Folder::begun(60);
+    let line = saved_in_zone(&folder, "env -u TZ");
+    let file = fs::read("/etc/localtime").unwrap_or_default();
+    assert_eq!(
+        line.contains("not given"),
+        !file.starts_with(b"TZif"),
+        "{line}"
+    );
+}
+
 /// A zone that no save can carry is the core's to refuse.
 #[test]
 fn a_machine_with_a_wrong_zone() {

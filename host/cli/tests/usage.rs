@@ -7,6 +7,7 @@ use std::os::unix::ffi::OsStrExt;
 use std::process::Command;
 
 use common::{Folder, STATION};
+use station::SECTOR;
 
 const COMMANDS: [&str; 23] = [
     "new",
@@ -57,6 +58,7 @@ fn help_of_the_program_and_of_each_command() {
 fn version() {
     let version = format!("station {}\n", env!("CARGO_PKG_VERSION"));
     assert_eq!(Folder::new().done("--version"), version);
+    assert_eq!(Folder::new().done("-V"), version);
 }
 
 /// The words typed, the fault that is told, and the command whose help is
@@ -86,12 +88,23 @@ map run.disc --svg | --svg needs a name behind it | map
 --quiet mount run.disc | there is no option --quiet |
 mount --quick run.disc | mount has no option --quick | mount
 commit run.disc -f | commit has no option -f | commit
-read run.disc -1 | read has no option -1 | read
+read run.disc -1 | V is a number from 0 to 4294967295: -1 is too small | read
+write run.disc -5 --pad | V is a number from 0 to 4294967295: -5 is too small | write
+look-back run.disc -99999999999999999999 | K is a number from 0 to 4294967295: -99999999999999999999 is too small | look-back
+new other.disc -5 | SECTORS is a number from 1 to 360000: -5 is too small | new
+cut -1 commit run.disc | J is a number from 0 to 4294967295: -1 is too small | cut
+view run.disc 0 --offset -1 | --offset is a number from 0 to 18446744073709551615: -1 is too small | view
+mount -5 | mount has no option -5 | mount
+read -5 0 | read has no option -5 | read
+read run.disc -x | read has no option -x | read
+read run.disc -5x | read has no option -5x | read
+read run.disc 0 -5 | read has no option -5 | read
 write run.disc 0 --to x | write has no option --to | write
 write run.disc 0 --pad=9 | --pad takes no value | write
 write run.disc 0 --from | --from needs a name behind it | write
 write run.disc 0 --pad --pad | --pad is given twice | write
 --version --quick | --version stands alone |
+-V run.disc | -V stands alone |
 --help mount | --help stands alone |
 mount | mount needs DISC | mount
 write run.disc | write needs V | write
@@ -103,9 +116,9 @@ view run.disc 0 --offset | --offset needs a number behind it | view
 view run.disc 0 --offset 1 --offset 2 | --offset is given twice | view
 view run.disc 0 --offset x | --offset is a number from 0 to 18446744073709551615, not 'x' | view
 view run.disc 0 --offset +1 | --offset is a number from 0 to 18446744073709551615, not '+1' | view
-view run.disc 0 --length 18446744073709551616 | --length is a number from 0 to 18446744073709551615, not '18446744073709551616' | view
+view run.disc 0 --length 18446744073709551616 | --length is a number from 0 to 18446744073709551615: 18446744073709551616 is too large | view
 view run.disc 0 --from x | view has no option --from | view
-view run.disc 4294967296 | V is a number from 0 to 4294967295, not '4294967296' | view
+view run.disc 4294967296 | V is a number from 0 to 4294967295: 4294967296 is too large | view
 look-back run.disc | look-back needs K | look-back
 time run.disc | time needs K | time
 time run.disc 0 --utc | time has no option --utc | time
@@ -161,44 +174,95 @@ fn wrong_command_lines() {
     }
 }
 
+/// Words that are no numbers, and numbers that are outside of every range.
+const NO_NUMBERS: [(&str, &str); 9] = [
+    ("x", ", not 'x'"),
+    ("1x", ", not '1x'"),
+    ("+1", ", not '+1'"),
+    ("1.0", ", not '1.0'"),
+    ("--1", ", not '--1'"),
+    ("١", ", not '١'"),
+    ("4294967296", ": 4294967296 is too large"),
+    (
+        "99999999999999999999",
+        ": 99999999999999999999 is too large",
+    ),
+    ("-1", ": -1 is too small"),
+];
+
+/// What stands before a number, its name, and its true range.
+const RANGES: [(&str, &str); 11] = [
+    ("write run.disc", "V is a number from 0 to 4294967295"),
+    ("release run.disc", "V is a number from 0 to 4294967295"),
+    ("read run.disc", "V is a number from 0 to 4294967295"),
+    ("look-back run.disc", "K is a number from 0 to 4294967295"),
+    ("time run.disc", "K is a number from 0 to 4294967295"),
+    ("cut", "J is a number from 0 to 4294967295"),
+    ("new other.disc", "SECTORS is a number from 1 to 360000"),
+    (
+        "import deck.img x.disc --start 0 --sectors",
+        "--sectors is a number from 1 to 360000",
+    ),
+    // The image has five sectors.
+    (
+        "import deck.img x.disc --start",
+        "--start is a number from 0 to 4",
+    ),
+    (
+        "close-session run.disc --main 1,2 --reserve 3,4 --start",
+        "--start is a number from 0 to 4294967295",
+    ),
+    (
+        "close-session run.disc --start",
+        "--start is a number from 0 to 4294967295",
+    ),
+];
+
 #[test]
 fn numbers_are_checked() {
     let folder = Folder::example();
-    for number in [
-        "x",
-        "1x",
-        "+1",
-        "1.0",
-        "4294967296",
-        "99999999999999999999",
-        "١",
-    ] {
-        for line in ["write", "release", "read", "look-back", "time"] {
-            let told = folder.fails(&format!("{line} run.disc {number}"), 64);
-            assert!(told.contains("a number from 0 to 4294967295"), "{told}");
-        }
-        for line in [
-            "import deck.img x.disc --start",
-            "import deck.img x.disc --start 0 --sectors",
-            "close-session run.disc --main 1,2 --reserve 3,4 --start",
-        ] {
-            let told = folder.fails(&format!("{line} {number}"), 64);
-            let name = line.split(' ').next_back().expect("a word");
-            let start = format!("station: {name} is a number from 0 to 4294967295, not '");
+    folder.put("deck.img", &[7; 5 * SECTOR]);
+    let behind = |line: &str| match line {
+        "cut" => " commit run.disc",
+        "close-session run.disc --start" => " --main 1,2 --reserve 3,4",
+        _ => "",
+    };
+    for (line, range) in RANGES {
+        for (word, fault) in NO_NUMBERS {
+            // Two dashes begin an option where an operand is wanted.
+            let is_operand = !range.starts_with('-');
+            if word == "--1" && is_operand {
+                continue;
+            }
+            let told = folder.fails(&format!("{line} {word}{}", behind(line)), 64);
+            let start = format!("station: {range}{fault}\nTry 'station ");
             assert!(told.starts_with(&start), "{told}");
         }
-        folder.fails(&format!("new other.disc {number}"), 64);
-        folder.fails(&format!("cut {number} commit run.disc"), 64);
     }
-    for sectors in ["0", "360001"] {
-        for line in [
-            "new other.disc",
-            "import deck.img x.disc --start 0 --sectors",
-        ] {
-            let told = folder.fails(&format!("{line} {sectors}"), 64);
-            let fault = format!("a disc has 1 to 360000 sectors, not {sectors}");
-            assert!(told.contains(&fault), "{told}");
-        }
+    for (line, fault) in [
+        (
+            "new x.disc 0",
+            "SECTORS is a number from 1 to 360000: 0 is too small",
+        ),
+        (
+            "new x.disc 360001",
+            "SECTORS is a number from 1 to 360000: 360001 is too large",
+        ),
+        (
+            "import deck.img x.disc --start 0 --sectors 0",
+            "--sectors is a number from 1 to 360000: 0 is too small",
+        ),
+        (
+            "import deck.img x.disc --start 0 --sectors 360001",
+            "--sectors is a number from 1 to 360000: 360001 is too large",
+        ),
+        (
+            "import deck.img x.disc --start 5",
+            "--start is a number from 0 to 4: 5 is too large",
+        ),
+    ] {
+        let told = folder.fails(line, 64);
+        assert!(told.starts_with(&format!("station: {fault}\n")), "{told}");
     }
     let empty = Command::new(STATION)
         .args(["read", "run.disc", ""])
@@ -270,4 +334,41 @@ fn names_of_any_bytes() {
         assert!(output.status.success(), "{output:?}");
     }
     assert!(folder.path("").join(name).is_file());
+}
+
+/// What is typed commands no terminal where it is told again.
+#[test]
+fn words_are_told_as_text() {
+    let folder = Folder::example();
+    let escape = "a\u{1b}[2J\n";
+    let told = "a\\u{1b}[2J\\n";
+    for (words, fault) in [
+        (&[escape][..], format!("there is no command {told}")),
+        (
+            &["mount", "run.disc", escape],
+            format!("mount has no use for {told}"),
+        ),
+        (&["mount", "--\t"], "mount has no option --\\t".into()),
+        (&["--\t"], "there is no option --\\t".into()),
+        (
+            &["read", "run.disc", escape],
+            format!("V is a number from 0 to 4294967295, not '{told}'"),
+        ),
+        (
+            &["cut", "0", escape],
+            format!("only write, store, commit and close-session can be cut, not {told}"),
+        ),
+        (
+            &["commit", "run.disc", "--at", escape],
+            format!("--at is a time such as 2026-11-15T14:05+01:00, not '{told}'"),
+        ),
+    ] {
+        let mut command = Command::new(STATION);
+        let output = command.current_dir(&folder.0).args(words).output();
+        let output = output.expect("the program runs");
+        assert_eq!(output.status.code(), Some(64));
+        let lines = String::from_utf8(output.stderr).expect("text");
+        assert!(lines.starts_with(&format!("station: {fault}\n")), "{lines}");
+        assert_eq!(lines.lines().count(), 2, "{lines}");
+    }
 }

@@ -3,33 +3,55 @@
 
 use station::Role;
 
-use super::role::commonest;
+use super::shown::{Count, Shown};
+use super::Plan;
 
 /// What is rare and matters must not be lost in a group, so a cell tells of it beside
-/// its role.
+/// what it is shown as.
 pub struct Cell {
     /// The commonest among its recorded sectors; blank only if all are.
-    pub role: Role,
+    pub shown: Shown,
     pub in_use: bool,
     pub table: bool,
     pub unreadable: bool,
 }
 
 /// Each cell for so many sectors, the last for those that are left.
-pub fn cells(roles: &[u8], group: usize) -> Vec<Cell> {
-    roles.chunks(group).map(cell).collect()
+pub fn cells(plan: &Plan, group: usize) -> Vec<Cell> {
+    let pieces = plan
+        .roles
+        .chunks(group)
+        .zip(plan.in_use.parts.chunks(group));
+    let cell = |(roles, parts)| Cell::of(&Count::of(roles, parts));
+    pieces.map(cell).collect()
 }
 
-/// One for all these sectors.
-pub fn cell(roles: &[u8]) -> Cell {
-    let space = station::space(roles);
-    let has = |role| space.count(role) > 0;
-    let recorded = Role::ALL.into_iter().filter(|role| *role != Role::Blank);
-    Cell {
-        role: commonest(&space, recorded).unwrap_or(Role::Blank),
-        in_use: has(Role::InUse),
-        table: has(Role::Table),
-        unreadable: has(Role::Unreadable),
+impl Cell {
+    /// One for all these sectors.
+    pub fn of(count: &Count) -> Cell {
+        let has = |role| count.roles.count(role) > 0;
+        let blank = Shown::Role(Role::Blank);
+        Cell {
+            shown: count.commonest(|shown| shown != blank).unwrap_or(blank),
+            in_use: has(Role::InUse),
+            table: has(Role::Table),
+            unreadable: has(Role::Unreadable),
+        }
+    }
+
+    /// For sectors that are all shown so.
+    pub fn only(shown: Shown) -> Cell {
+        let is = |role| shown == Shown::Role(role);
+        Cell {
+            shown,
+            in_use: is(Role::InUse),
+            table: is(Role::Table),
+            unreadable: is(Role::Unreadable),
+        }
+    }
+
+    pub fn has_role(&self, role: Role) -> bool {
+        self.shown == Shown::Role(role)
     }
 }
 

@@ -1,16 +1,16 @@
-//! The page of a picture for the wall: title, answer, the disc, the legend, and what
-//! a cell is, on an A3 sheet in landscape.
+//! The page of a picture: title, answer, the disc, the legend, and what a cell is. It
+//! fits a window of any size, and prints for the wall on an A3 sheet in landscape.
 
 use std::fmt::Write;
 
-use station::{Role, Space};
+use station::Role;
 
-use super::cells::cell;
+use super::cells::Cell;
 use super::lettering::{escaped, Lettering, INK, QUIET};
-use super::role::meaning;
+use super::shown::{Count, Shown};
 use super::signs::{strong, swatch, WHITE};
 use super::squares::Squares;
-use super::words::{answer, balanced, name, number, number_of, share, title, AFTER_A_MOUNT};
+use super::words::{answer, balanced, name, number, number_of, share, title};
 use super::Plan;
 
 const LEFT: f64 = 84.0;
@@ -28,16 +28,21 @@ const SHARE: Lettering = Lettering::ending(16.0, QUIET);
 const MEANING: Lettering = Lettering::new(15.0, QUIET);
 const FOOT: Lettering = Lettering::new(16.5, QUIET);
 
+/// Without a size of its own the page takes that of the window, whole. On paper
+/// nobody has a pointer.
+const OPENING: &str = "\
+<svg xmlns=\"http://www.w3.org/2000/svg\" viewBox=\"0 0 1680 1188\" role=\"img\" fill=\"none\" \
+font-family=\"Helvetica, Arial, 'Liberation Sans', 'DejaVu Sans', sans-serif\">
+<style>@page{size:A3 landscape;margin:0}@media print{.on-screen{display:none}}</style>
+";
+const POINTER: &str = "The pointer on a square tells its block, role and number.";
+
 /// XML that needs no other file: no script, no font, no picture.
 pub fn svg(plan: &Plan) -> String {
-    let space = station::space(plan.roles);
-    let answer = answer(&space);
+    let count = Count::of(plan.roles, &plan.in_use.parts);
+    let answer = answer(&count);
     let squares = Squares::of(plan);
-    let mut out = String::from(
-        "<svg xmlns=\"http://www.w3.org/2000/svg\" width=\"420mm\" height=\"297mm\" \
-         viewBox=\"0 0 1680 1188\" role=\"img\" fill=\"none\" \
-         font-family=\"Helvetica, Arial, 'Liberation Sans', 'DejaVu Sans', sans-serif\">\n",
-    );
+    let mut out = String::from(OPENING);
     let _ = writeln!(out, "<title>{}</title>", escaped(&title(plan)));
     let _ = writeln!(out, "<desc>{}</desc>", escaped(&answer));
     let _ = writeln!(
@@ -45,12 +50,12 @@ pub fn svg(plan: &Plan) -> String {
         "<rect width=\"1680\" height=\"1188\" fill=\"{WHITE}\"/>"
     );
     head(&mut out, plan, &answer);
-    out.push_str(&squares.drawn());
-    let below = legend(&mut out, &space);
+    let below = legend(&mut out, &count);
     if squares.group > 1 {
         marks(&mut out, below);
     }
-    foot(&mut out, &space, squares.group);
+    foot(&mut out, squares.group);
+    out.push_str(&squares.drawn());
     out.push_str("</svg>\n");
     out
 }
@@ -69,27 +74,28 @@ fn lines(out: &mut String, with: Lettering, (x, y): (f64, f64), apart: f64, line
     }
 }
 
-/// Each role with its count, its share, and a bar of that length. Answers where it ends.
-fn legend(out: &mut String, space: &Space) -> f64 {
+/// Each role with its count, its share, and a bar of that length, and parts of runs in
+/// the same way. Answers where it ends.
+fn legend(out: &mut String, count: &Count) -> f64 {
     let mut y = 296.0;
-    let sectors = space.sectors();
-    for role in Role::ALL {
-        let count = space.count(role);
-        swatch(out, (LEGEND, y), 40.0, &cell(&[role.number()]));
-        ROLE.write(out, BESIDE, y + 16.0, &role.to_string());
-        COUNT.write(out, RIGHT, y + 16.0, &number(count));
-        SHARE.write(out, RIGHT, y + 37.0, &share(count, sectors));
-        let meaning = balanced(meaning(role), 29);
+    let sectors = count.roles.sectors();
+    for shown in count.legend() {
+        let listed = count.listed(shown);
+        swatch(out, (LEGEND, y), 40.0, &Cell::only(shown));
+        ROLE.write(out, BESIDE, y + 16.0, &shown.to_string());
+        COUNT.write(out, RIGHT, y + 16.0, &number(listed));
+        SHARE.write(out, RIGHT, y + 37.0, &share(listed, sectors));
+        let meaning = balanced(shown.meaning(), 29);
         lines(out, MEANING, (BESIDE, y + 37.0), 18.0, &meaning);
-        bar(out, y + 69.0, role, count as f64 / sectors.max(1) as f64);
-        y += 94.0;
+        bar(out, y + 67.0, shown, listed as f64 / sectors.max(1) as f64);
+        y += 84.0;
     }
     y
 }
 
 /// Some is never shown as none.
-fn bar(out: &mut String, y: f64, role: Role, share: f64) {
-    let fill = strong(role);
+fn bar(out: &mut String, y: f64, shown: Shown, share: f64) {
+    let fill = strong(shown);
     let whole = RIGHT - LEGEND;
     let long = match share > 0.0 {
         true => (whole * share).max(1.5),
@@ -111,13 +117,17 @@ fn marks(out: &mut String, y: f64) {
     ];
     for (place, (rare, words)) in among_them.into_iter().enumerate() {
         let y = y + place as f64 * 31.0;
-        let example = cell(&[Role::Superseded, Role::Superseded, rare].map(Role::number));
+        let shown = Shown::Role(Role::Superseded);
+        let example = Cell {
+            shown,
+            ..Cell::only(Shown::Role(rare))
+        };
         swatch(out, (LEGEND + 8.0, y), 24.0, &example);
         MEANING.write(out, BESIDE, y + 17.0, words);
     }
 }
 
-fn foot(out: &mut String, space: &Space, group: usize) {
+fn foot(out: &mut String, group: usize) {
     let cell_is = match group {
         1 => "One cell is one sector.".into(),
         _ => format!(
@@ -125,11 +135,12 @@ fn foot(out: &mut String, space: &Space, group: usize) {
             number_of(group)
         ),
     };
-    let mut words = cell_is
+    let words = cell_is
         + " At the left of a row is its first block. At the right are the saves in it, counted \
            back from the newest, which has a ring.";
-    if space.count(Role::Superseded) > 0 {
-        words = words + " " + AFTER_A_MOUNT;
-    }
-    lines(out, FOOT, (LEFT, 1094.0), 24.0, &balanced(&words, 180));
+    let words = balanced(&words, 180);
+    lines(out, FOOT, (LEFT, 1094.0), 24.0, &words);
+    out.push_str("<g class=\"on-screen\">\n");
+    FOOT.write(out, LEFT, 1094.0 + words.len() as f64 * 24.0, POINTER);
+    out.push_str("</g>\n");
 }

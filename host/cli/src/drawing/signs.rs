@@ -1,8 +1,8 @@
-//! The squares of a picture: a colour and a sign for each role, and marks for what
-//! is rare in a group.
+//! The squares of a picture: a colour and a sign for each role and for parts of runs,
+//! and marks for what is rare in a group.
 //!
-//! A role is known by its colour, by its lightness, and by its sign, so that it is
-//! told apart in print, on a projector, and by a colour-blind eye.
+//! Each is known by its colour, by its lightness, and by its sign, so that it is told
+//! apart in print, on a projector, and by a colour-blind eye.
 
 use std::fmt::Write;
 
@@ -10,6 +10,7 @@ use station::Role;
 
 use super::cells::Cell;
 use super::lettering::INK;
+use super::shown::Shown;
 
 pub const WHITE: &str = "#ffffff";
 const BLUE: &str = "#0b62a4";
@@ -18,24 +19,25 @@ const GREY: &str = "#a9a9a4";
 const NONE: &str = "none";
 
 /// The colour of a square.
-pub fn fill(role: Role) -> &'static str {
-    match role {
-        Role::InUse => BLUE,
-        Role::Superseded => "#f0a830",
-        Role::WithoutNumber => "#b4def5",
-        Role::Table => INK,
-        Role::Link => "#c6cad0",
-        Role::Unreadable => "#fbe4e6",
-        Role::Blank => "#ecebe5",
+pub fn fill(shown: Shown) -> &'static str {
+    match shown {
+        Shown::Role(Role::InUse) => BLUE,
+        Shown::Part => "#4389c6",
+        Shown::Role(Role::Superseded) => "#f0a830",
+        Shown::Role(Role::WithoutNumber) => "#cfe8f7",
+        Shown::Role(Role::Table) => INK,
+        Shown::Role(Role::Link) => "#c6cad0",
+        Shown::Role(Role::Unreadable) => "#fbe4e6",
+        Shown::Role(Role::Blank) => "#ecebe5",
     }
 }
 
 /// The colour of a thin bar, where the square's would be too pale.
-pub fn strong(role: Role) -> &'static str {
-    match role {
-        Role::Unreadable => RED,
-        Role::Blank => GREY,
-        _ => fill(role),
+pub fn strong(shown: Shown) -> &'static str {
+    match shown {
+        Shown::Role(Role::Unreadable) => RED,
+        Shown::Role(Role::Blank) => GREY,
+        _ => fill(shown),
     }
 }
 
@@ -50,6 +52,10 @@ pub enum Shape {
 
 pub const SQUARE: Shape = Shape::Run(|x, y, long| format!("M{x} {y}h{long}v1h-{long}z"));
 const BAR: Shape = Shape::Run(|x, y, long| format!("M{x}.2 {y}.5h{}.6", long - 1));
+const TAPE: Shape = Shape::Run(|x, y, long| {
+    let long = long - 1;
+    format!("M{x}.2 {y}.34h{long}.6M{x}.2 {y}.66h{long}.6")
+});
 const STROKE: Shape = Shape::Each("m.24 .76l.52-.52");
 const DOT: Shape = Shape::Each("m.5 .5h.01");
 const CROSS: Shape = Shape::Each("m.26 .26l.48 .48m-.48 0l.48-.48");
@@ -106,19 +112,25 @@ impl Sign {
     }
 }
 
-/// Each over those before it: the roles' own, then what a group holds beside its role.
+/// Each over those before it: of what a cell is shown as, then of what else it holds.
 /// The cross has a light edge.
-pub const SIGNS: [Sign; 7] = [
-    Sign::line(|cell| cell.role == Role::Superseded, STROKE, "#7a4300", 0.1),
-    Sign::line(|cell| cell.role == Role::WithoutNumber, DOT, BLUE, 0.26),
-    Sign::line(|cell| cell.role == Role::Link, BAR, "#6c737d", 0.14),
+pub const SIGNS: [Sign; 8] = [
+    Sign::line(
+        |cell| cell.has_role(Role::Superseded),
+        STROKE,
+        "#7a4300",
+        0.1,
+    ),
+    Sign::line(|cell| cell.has_role(Role::WithoutNumber), DOT, BLUE, 0.26),
+    Sign::line(|cell| cell.shown == Shown::Part, TAPE, WHITE, 0.1),
+    Sign::line(|cell| cell.has_role(Role::Link), BAR, "#6c737d", 0.14),
     Sign::corner(
-        |cell| cell.in_use && cell.role != Role::InUse,
+        |cell| cell.in_use && !cell.has_role(Role::InUse),
         LOWER_CORNER,
         BLUE,
     ),
     Sign::corner(
-        |cell| cell.table && cell.role != Role::Table,
+        |cell| cell.table && !cell.has_role(Role::Table),
         UPPER_CORNER,
         INK,
     ),
@@ -132,21 +144,28 @@ pub fn path(out: &mut String, shapes: &str, look: &str) {
     }
 }
 
-/// What follows is drawn in units of a square, up to the end of the group.
-pub fn scaled(out: &mut String, (x, y): (f64, f64), size: f64) {
+/// The ends of what is drawn.
+pub const ROUND: &str = " stroke-linecap=\"round\"";
+
+/// What follows is in units of a square, up to the end of the group.
+pub fn scaled(out: &mut String, (x, y): (f64, f64), size: f64, look: &str) {
     let _ = writeln!(
         out,
-        "<g transform=\"translate({x:.1} {y:.1}) scale({size:.3})\" stroke-linecap=\"round\">"
+        "<g transform=\"translate({x:.1} {y:.1}) scale({size:.3})\"{look}>"
     );
 }
 
 /// A square of the legend.
 pub fn swatch(out: &mut String, place: (f64, f64), size: f64, cell: &Cell) {
-    scaled(out, place, size);
-    let edge = if cell.role == Role::Blank { GREY } else { NONE };
+    scaled(out, place, size, ROUND);
+    let edge = if cell.has_role(Role::Blank) {
+        GREY
+    } else {
+        NONE
+    };
     let look = format!(
         "fill=\"{}\" stroke=\"{edge}\" stroke-width=\".04\"",
-        fill(cell.role)
+        fill(cell.shown)
     );
     path(out, &SQUARE.on(0, 0, 1), &look);
     for sign in SIGNS.iter().filter(|sign| (sign.on)(cell)) {

@@ -1,15 +1,19 @@
 //! The disc on the page of a picture: a square for each cell, block numbers at the
 //! left of the rows and the saves at their right.
 //!
-//! The squares of a role are one path, and neighbours in a row one piece of it.
+//! The squares of a role are one path, and neighbours in a row one piece of it. What
+//! is told under the pointer lies over them, unseen, a path for each stretch.
 
 use std::fmt::Write;
+use std::ops::Range;
 
 use station::Role;
 
 use super::cells::{cells, group, Cell};
 use super::lettering::{Lettering, INK, QUIET};
-use super::signs::{fill, path, scaled, Shape, SIGNS, SQUARE, WHITE};
+use super::pointer::stretches;
+use super::shown::Shown;
+use super::signs::{fill, path, scaled, Shape, ROUND, SIGNS, SQUARE, WHITE};
 use super::{Plan, Save};
 
 /// Where the squares may stand, without the texts beside them.
@@ -37,7 +41,7 @@ pub struct Squares<'a> {
 impl<'a> Squares<'a> {
     pub fn of(plan: &'a Plan<'a>) -> Squares<'a> {
         let group = group(plan.roles.len(), MOST_CELLS);
-        let cells = cells(plan.roles, group);
+        let cells = cells(plan, group);
         let (columns, size) = largest(cells.len());
         Squares {
             plan,
@@ -50,10 +54,10 @@ impl<'a> Squares<'a> {
 
     pub fn drawn(&self) -> String {
         let mut out = String::new();
-        scaled(&mut out, (LEFT, TOP), self.size);
-        for role in Role::ALL {
-            let squares = self.runs(|cell| cell.role == role, SQUARE);
-            path(&mut out, &squares, &format!("fill=\"{}\"", fill(role)));
+        scaled(&mut out, (LEFT, TOP), self.size, ROUND);
+        for shown in Shown::ALL {
+            let squares = self.runs(|cell| cell.shown == shown, SQUARE);
+            path(&mut out, &squares, &format!("fill=\"{}\"", fill(shown)));
         }
         for (step, wide) in [(1, 1.2), (10, 3.6)] {
             let wide = (wide / self.size).max(0.07);
@@ -66,7 +70,33 @@ impl<'a> Squares<'a> {
         out.push_str("</g>\n");
         self.numbers(&mut out);
         self.saves(&mut out);
+        self.told(&mut out);
         out
+    }
+
+    /// Over all that is drawn, since the pointer meets what is uppermost.
+    fn told(&self, out: &mut String) {
+        scaled(out, (LEFT, TOP), self.size, " pointer-events=\"all\"");
+        for stretch in stretches(self.plan, self.group) {
+            let blocks = &stretch.blocks;
+            let squares = blocks.start / self.group..blocks.end.div_ceil(self.group);
+            let (area, told) = (self.area(squares), stretch.told());
+            let _ = writeln!(out, "<path d=\"{area}\"><title>{told}</title></path>");
+        }
+        out.push_str("</g>\n");
+    }
+
+    /// These squares, a piece in each row.
+    fn area(&self, squares: Range<usize>) -> String {
+        let mut area = String::new();
+        let mut from = squares.start;
+        while from < squares.end {
+            let (x, y) = (from % self.columns, from / self.columns);
+            let long = (self.columns - x).min(squares.end - from);
+            area += &SQUARE.on(x, y, long);
+            from += long;
+        }
+        area
     }
 
     /// The shape on all such cells.
@@ -107,10 +137,8 @@ impl<'a> Squares<'a> {
         }
         for (block, cell) in self.cells.iter().enumerate() {
             let (x, y) = self.place(block);
-            let ink = match cell.role {
-                Role::InUse | Role::Table => WHITE,
-                _ => INK,
-            };
+            let dark = cell.has_role(Role::InUse) || cell.has_role(Role::Table);
+            let ink = if dark { WHITE } else { INK };
             let small = Lettering::new(self.size * 0.17, ink);
             let corner = self.size * 0.15;
             small.write_level(out, x + corner / 2.0, y + corner, &block.to_string());

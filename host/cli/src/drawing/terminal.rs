@@ -1,11 +1,11 @@
 //! The drawing for a terminal or a text file: rows of letters, in tens, the legend,
 //! and the saves.
 
-use station::{Role, Space};
+use station::Role;
 
 use super::cells::{cells, group, Cell};
-use super::role::{letter, meaning};
-use super::words::{answer, number, number_of, share, title, wrapped, AFTER_A_MOUNT};
+use super::shown::{Count, Shown};
+use super::words::{answer, number, number_of, share, title, wrapped};
 use super::{Plan, Save};
 
 /// Below this the lines are no shorter.
@@ -27,21 +27,22 @@ pub fn letters(plan: &Plan, width: usize) -> String {
 pub fn colours(plan: &Plan, width: usize) -> String {
     drawn(plan, width, |letters, look| {
         let underlined = if look.marked { ";1;4" } else { "" };
-        format!("\x1b[{}{underlined}m{letters}\x1b[0m", colour(look.role))
+        format!("\x1b[{}{underlined}m{letters}\x1b[0m", colour(look.shown))
     })
 }
 
 /// Of 256 colours: far apart in lightness where they are alike to a colour-blind eye,
 /// and each with its letter.
-fn colour(role: Role) -> &'static str {
-    match role {
-        Role::InUse => "48;5;25;38;5;231",
-        Role::Superseded => "48;5;214;38;5;16",
-        Role::WithoutNumber => "48;5;117;38;5;16",
-        Role::Table => "48;5;16;38;5;231;1",
-        Role::Link => "48;5;250;38;5;16",
-        Role::Unreadable => "48;5;160;38;5;231;1",
-        Role::Blank => "38;5;245",
+fn colour(shown: Shown) -> &'static str {
+    match shown {
+        Shown::Role(Role::InUse) => "48;5;25;38;5;231",
+        Shown::Part => "48;5;68;38;5;16",
+        Shown::Role(Role::Superseded) => "48;5;214;38;5;16",
+        Shown::Role(Role::WithoutNumber) => "48;5;117;38;5;16",
+        Shown::Role(Role::Table) => "48;5;16;38;5;231;1",
+        Shown::Role(Role::Link) => "48;5;250;38;5;16",
+        Shown::Role(Role::Unreadable) => "48;5;160;38;5;231;1",
+        Shown::Role(Role::Blank) => "38;5;245",
     }
 }
 
@@ -50,23 +51,23 @@ type Paint = fn(&str, Look) -> String;
 
 #[derive(PartialEq)]
 struct Look {
-    role: Role,
-    /// A table is among the sectors of another role.
+    shown: Shown,
+    /// A table is among sectors that are shown as something else.
     marked: bool,
 }
 
 /// An unreadable sector goes before what is commoner.
 fn look(cell: &Cell) -> Look {
-    let role = match cell.unreadable {
-        true => Role::Unreadable,
-        false => cell.role,
+    let shown = match cell.unreadable {
+        true => Shown::Role(Role::Unreadable),
+        false => cell.shown,
     };
-    let marked = cell.table && role != Role::Table;
-    Look { role, marked }
+    let marked = cell.table && shown != Shown::Role(Role::Table);
+    Look { shown, marked }
 }
 
 fn letter_of(cell: &Cell) -> char {
-    let letter = letter(look(cell).role);
+    let letter = look(cell).shown.letter();
     match cell.table {
         true => letter.to_ascii_uppercase(),
         false => letter,
@@ -77,22 +78,19 @@ fn drawn(plan: &Plan, width: usize, paint: Paint) -> String {
     let width = width.max(NARROWEST);
     let columns = (width - MARGIN + 1) / 11 * 10;
     let group = group(plan.roles.len(), columns * MOST_ROWS);
-    let space = station::space(plan.roles);
+    let count = Count::of(plan.roles, &plan.in_use.parts);
     let mut lines = wrapped(&title(plan), width);
-    lines.extend(wrapped(&answer(&space), width));
+    lines.extend(wrapped(&answer(&count), width));
     lines.push(String::new());
-    let cells = cells(plan.roles, group);
+    let cells = cells(plan, group);
     for (place, row) in cells.chunks(columns).enumerate() {
         lines.push(row_of(row, place * columns * group, paint));
     }
     lines.push(String::new());
-    lines.extend(legend(&space, width, paint));
+    lines.extend(legend(&count, width, paint));
     lines.push(String::new());
     lines.extend(wrapped(&cell_in_words(group), width));
     lines.extend(wrapped(&saves_in_words(plan.saves), width));
-    if space.count(Role::Superseded) > 0 {
-        lines.extend(wrapped(AFTER_A_MOUNT, width));
-    }
     lines.join("\n") + "\n"
 }
 
@@ -109,20 +107,21 @@ fn row_of(row: &[Cell], first_block: usize, paint: Paint) -> String {
     format!("{first_block:6}  {}", tens.join(" "))
 }
 
-fn legend(space: &Space, width: usize, paint: Paint) -> Vec<String> {
+fn legend(count: &Count, width: usize, paint: Paint) -> Vec<String> {
     let mut lines = Vec::new();
-    for role in Role::ALL {
+    for shown in count.legend() {
         let marked = false;
-        let letter = paint(&letter(role).to_string(), Look { role, marked });
-        let count = number(space.count(role));
-        let share = share(space.count(role), space.sectors());
-        let line = format!("  {letter}  {role:16} {count:>8} {share:>9}");
+        let letter = paint(&shown.letter().to_string(), Look { shown, marked });
+        let listed = count.listed(shown);
+        let share = share(listed, count.roles.sectors());
+        let listed = number(listed);
+        let line = format!("  {letter}  {shown:16} {listed:>8} {share:>9}");
         if width < TELLING {
             lines.push(line);
             continue;
         }
         let indent = 42;
-        let mut meaning = wrapped(meaning(role), width - indent).into_iter();
+        let mut meaning = wrapped(shown.meaning(), width - indent).into_iter();
         lines.push(line + "  " + &meaning.next().unwrap_or_default());
         lines.extend(meaning.map(|more| " ".repeat(indent) + &more));
     }
@@ -133,7 +132,7 @@ fn cell_in_words(group: usize) -> String {
     match group {
         1 => "One cell is one sector.".into(),
         _ => format!(
-            "One cell is {}: its letter is the commonest role of those recorded, a capital \
+            "One cell is {}: its letter is the commonest of those recorded, a capital \
              if a table is among them, and x if an unreadable sector is.",
             number_of(group)
         ),

@@ -1,19 +1,17 @@
 //! What is said beside the cells: the answer in one sentence, counts, shares, and
 //! what a cell is.
 
-use station::{Role, Space};
+use station::Role;
 
-use super::role::{commonest, meaning};
+use super::shown::{Count, Shown};
 use super::Plan;
-
-/// What the count of superseded sectors does not tell.
-pub const AFTER_A_MOUNT: &str =
-    "A mount counts the parts of runs stored before it as superseded too; the runs stay whole.";
+use crate::names::shown;
 
 /// Where the space went, in one sentence: how full the disc is, how much of that is
-/// in use, and what took the most of the rest, with the reason.
-pub fn answer(space: &Space) -> String {
-    let (sectors, recorded) = (space.sectors(), space.recorded());
+/// in use or a part of what is, and what took the most of the rest, with the reason.
+/// No sector is told twice.
+pub fn answer(count: &Count) -> String {
+    let (sectors, recorded) = (count.roles.sectors(), count.roles.recorded());
     if recorded == 0 {
         return format!(
             "Nothing is recorded: the disc is blank, {}.",
@@ -26,28 +24,70 @@ pub fn answer(space: &Space) -> String {
         number(recorded),
         number_of(sectors)
     );
-    let is_loss = |role: &Role| !matches!(role, Role::InUse | Role::Blank);
-    let Some(most) = commonest(space, Role::ALL.into_iter().filter(is_loss)) else {
-        return format!("{full}, all in use.");
-    };
-    let in_use = match space.count(Role::InUse) {
-        0 => "none of them in use; the space".into(),
-        some => format!("{} of them in use; the rest", number(some)),
-    };
-    let (into, meaning) = (noun(most), meaning(most));
-    let taken = number(space.count(most));
-    format!("{full}, {in_use} went above all into {into} ({taken}): {meaning}.")
+    let in_use = in_use(count);
+    match (rest(count), count.drawn(Shown::Part)) {
+        (None, 0) => format!("{full}, all in use."),
+        (None, _) => format!("{full}, {in_use}."),
+        (Some(rest), _) if in_use.is_empty() => {
+            format!("{full}, none of them in use; the space {rest}.")
+        }
+        (Some(rest), _) => format!("{full}, {in_use}; the rest {rest}."),
+    }
 }
 
-fn noun(role: Role) -> &'static str {
-    match role {
-        Role::InUse => "data in use",
-        Role::Superseded => "superseded data",
-        Role::WithoutNumber => "data without a number",
-        Role::Table => "tables",
-        Role::Link => "links",
-        Role::Unreadable => "unreadable sectors",
-        Role::Blank => "blank sectors",
+/// What numbers name, and what they lead to behind an entry. Without a number in use
+/// there is neither.
+fn in_use(count: &Count) -> String {
+    let named = match count.drawn(Shown::Role(Role::InUse)) {
+        0 => return String::new(),
+        some => format!("{} of them in use", number(some)),
+    };
+    let of_parts = |role| count.parts.count(role) > 0;
+    let counted_as = match (of_parts(Role::Superseded), of_parts(Role::WithoutNumber)) {
+        (false, false) => return named,
+        (true, false) => "superseded, since only a run's entry has a number",
+        (false, true) => "without a number, since only a run's entry has one",
+        (true, true) => "superseded or without a number, since only a run's entry has one",
+    };
+    let parts = match count.drawn(Shown::Part) {
+        1 => "1 as a part of a run in use".into(),
+        some => format!("{} as parts of runs in use", number(some)),
+    };
+    format!("{named} and {parts} (counted as {counted_as})")
+}
+
+/// What took the most of what is not in use, if anything is not.
+fn rest(count: &Count) -> Option<String> {
+    let is_loss = |shown| {
+        let kept = [
+            Shown::Role(Role::InUse),
+            Shown::Part,
+            Shown::Role(Role::Blank),
+        ];
+        !kept.contains(&shown)
+    };
+    let most = count.commonest(is_loss)?;
+    let reason = match most {
+        Shown::Role(Role::WithoutNumber) => "parts of runs that are not in use, or of a closing",
+        _ => most.meaning(),
+    };
+    let taken = number(count.drawn(most));
+    Some(format!(
+        "went above all into {} ({taken}): {reason}",
+        noun(most)
+    ))
+}
+
+fn noun(shown: Shown) -> &'static str {
+    match shown {
+        Shown::Role(Role::InUse) => "data in use",
+        Shown::Part => "parts of runs in use",
+        Shown::Role(Role::Superseded) => "superseded data",
+        Shown::Role(Role::WithoutNumber) => "data without a number",
+        Shown::Role(Role::Table) => "tables",
+        Shown::Role(Role::Link) => "links",
+        Shown::Role(Role::Unreadable) => "unreadable sectors",
+        Shown::Role(Role::Blank) => "blank sectors",
     }
 }
 
@@ -55,17 +95,11 @@ pub fn title(plan: &Plan) -> String {
     format!("Where the space of {} went", name(plan))
 }
 
-/// The disc's name, fit for a line of a terminal or of XML: what is no letter or
-/// sign to read, such as a terminal's command, becomes a question mark, and the
-/// middle of a long name is left out.
+/// The disc's name, fit for a line of a terminal or of XML; the middle of a long one
+/// is left out.
 pub fn name(plan: &Plan) -> String {
     const MOST: usize = 40;
-    let readable = |letter: char| match letter {
-        '\u{FFFE}' | '\u{FFFF}' => '?',
-        _ if letter.is_control() => '?',
-        _ => letter,
-    };
-    let letters: Vec<char> = plan.name.chars().map(readable).collect();
+    let letters: Vec<char> = shown(plan.name).chars().collect();
     if letters.len() <= MOST {
         return letters.iter().collect();
     }

@@ -1,0 +1,137 @@
+//! What is told under the pointer: block, role and number of a square, or of a
+//! stretch of squares that are alike.
+
+use std::ops::Range;
+
+use station::Role;
+
+use super::shown::{Count, Shown};
+use super::words::number;
+use super::Plan;
+use crate::ledger::in_words;
+
+/// Neighbours that are told of together.
+pub struct Stretch {
+    pub blocks: Range<usize>,
+    words: String,
+    /// Whether all sectors are shown alike, and so the next ones may belong to it.
+    alike: bool,
+}
+
+impl Stretch {
+    /// For example `block 46: table, the newest save`, `blocks 12 to 18: link`.
+    pub fn told(&self) -> String {
+        let (first, last) = (self.blocks.start, self.blocks.end - 1);
+        match first == last {
+            true => format!("block {first}: {}", self.words),
+            false => format!("blocks {first} to {last}: {}", self.words),
+        }
+    }
+}
+
+/// From block 0 on, where a square stands for so many sectors.
+pub fn stretches(plan: &Plan, group: usize) -> Vec<Stretch> {
+    let mut stretches: Vec<Stretch> = Vec::new();
+    let sectors = plan.roles.len();
+    for first in (0..sectors).step_by(group) {
+        let square = of_square(plan, first..sectors.min(first + group));
+        match stretches.last_mut() {
+            Some(before) if before.alike && square.alike && before.words == square.words => {
+                before.blocks.end = square.blocks.end;
+            }
+            _ => stretches.push(square),
+        }
+    }
+    stretches
+}
+
+fn of_square(plan: &Plan, blocks: Range<usize>) -> Stretch {
+    let parts = &plan.in_use.parts[blocks.clone()];
+    let count = Count::of(&plan.roles[blocks.clone()], parts);
+    let held = Shown::ALL
+        .into_iter()
+        .filter(|shown| count.drawn(*shown) > 0);
+    let held: Vec<Shown> = held.collect();
+    let alike = held.len() == 1;
+    let words = held.into_iter().map(|shown| {
+        let more = more(plan, &blocks, shown);
+        match alike {
+            true => alone(shown, more),
+            false => among_others(count.drawn(shown), shown, more),
+        }
+    });
+    let words = words.collect::<Vec<String>>().join(", ");
+    Stretch {
+        blocks,
+        words,
+        alike,
+    }
+}
+
+fn alone(shown: Shown, more: Option<String>) -> String {
+    match (shown, more) {
+        (Shown::Part, Some(run)) => format!("part of {run}"),
+        (_, Some(more)) => format!("{shown}, {more}"),
+        (_, None) => shown.to_string(),
+    }
+}
+
+fn among_others(count: usize, shown: Shown, more: Option<String>) -> String {
+    let plural = if count == 1 { "" } else { "s" };
+    let count = number(count);
+    match (shown, more) {
+        (Shown::Part, Some(run)) => format!("{count} part{plural} of {run}"),
+        (Shown::Part, None) => format!("{count} part{plural} of runs"),
+        (Shown::Role(Role::Link), _) => format!("{count} link{plural}"),
+        (Shown::Role(Role::Table), None) => format!("{count} table{plural}"),
+        (Shown::Role(Role::Table), Some(saves)) => format!("{count} table{plural} ({saves})"),
+        (_, Some(more)) => format!("{count} {shown} ({more})"),
+        (_, None) => format!("{count} {shown}"),
+    }
+}
+
+/// What else is known of those of the sectors that are shown so.
+fn more(plan: &Plan, blocks: &Range<usize>, shown: Shown) -> Option<String> {
+    match shown {
+        Shown::Role(Role::InUse) => numbers(plan, blocks),
+        Shown::Role(Role::Table) => saves(plan, blocks),
+        Shown::Part => run(plan, blocks),
+        _ => None,
+    }
+}
+
+/// The numbers of the blocks. A single one may be a run's.
+fn numbers(plan: &Plan, blocks: &Range<usize>) -> Option<String> {
+    let all = &plan.in_use.numbers;
+    let before = |end: usize| all.partition_point(|number| number.block < end);
+    let numbers = &all[before(blocks.start)..before(blocks.end)];
+    let mut named: Vec<u32> = numbers.iter().map(|number| number.v).collect();
+    named.sort_unstable();
+    match numbers {
+        [] => None,
+        [one] if one.run => Some(format!("number {}, the entry of a run", one.v)),
+        [one] => Some(format!("number {}", one.v)),
+        _ => Some(format!("numbers {}", in_words(&named))),
+    }
+}
+
+/// The saves of the tables, which lie newest last. A table that counting back does
+/// not reach has none.
+fn saves(plan: &Plan, blocks: &Range<usize>) -> Option<String> {
+    let from = |block: usize| plan.saves.partition_point(|save| save.block >= block);
+    let saves = &plan.saves[from(blocks.end)..from(blocks.start)];
+    let (newest, oldest) = (saves.first()?.back, saves.last()?.back);
+    Some(match newest {
+        0 if oldest == 0 => "the newest save".into(),
+        0 => format!("the newest save to {oldest} back"),
+        _ if newest == oldest => format!("the save {newest} back"),
+        _ => format!("the saves {newest} to {oldest} back"),
+    })
+}
+
+/// The run that all parts among the blocks belong to, if it is one.
+fn run(plan: &Plan, blocks: &Range<usize>) -> Option<String> {
+    let mut parts = plan.in_use.parts[blocks.clone()].iter().flatten();
+    let first = parts.next()?;
+    parts.all(|v| v == first).then(|| format!("run {first}"))
+}
