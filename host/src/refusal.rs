@@ -72,31 +72,31 @@ pub enum Refusal {
     BeyondTheRun = 20,
 }
 
-/// Each refusal at the place of its number less one.
-const ALL: [Refusal; 20] = [
-    Refusal::DiscSize,
-    Refusal::LentLength,
-    Refusal::DiscUnsound,
-    Refusal::LedgerUnfit,
-    Refusal::ReadOnly,
-    Refusal::VatExists,
-    Refusal::NoVat,
-    Refusal::ChainBroken,
-    Refusal::ChainEnded,
-    Refusal::NotInUse,
-    Refusal::Unreadable,
-    Refusal::AboveSize,
-    Refusal::AboveLimit,
-    Refusal::NoRoom,
-    Refusal::WouldBeVat,
-    Refusal::BadTimestamp,
-    Refusal::SessionClosed,
-    Refusal::PartitionStart,
-    Refusal::NotARun,
-    Refusal::BeyondTheRun,
-];
-
 impl Refusal {
+    /// Each refusal, at the place of its number less one.
+    pub const ALL: [Refusal; 20] = [
+        Refusal::DiscSize,
+        Refusal::LentLength,
+        Refusal::DiscUnsound,
+        Refusal::LedgerUnfit,
+        Refusal::ReadOnly,
+        Refusal::VatExists,
+        Refusal::NoVat,
+        Refusal::ChainBroken,
+        Refusal::ChainEnded,
+        Refusal::NotInUse,
+        Refusal::Unreadable,
+        Refusal::AboveSize,
+        Refusal::AboveLimit,
+        Refusal::NoRoom,
+        Refusal::WouldBeVat,
+        Refusal::BadTimestamp,
+        Refusal::SessionClosed,
+        Refusal::PartitionStart,
+        Refusal::NotARun,
+        Refusal::BeyondTheRun,
+    ];
+
     /// Its number in documents 01 and 02, 1 to 20.
     pub const fn number(self) -> u32 {
         self as u32
@@ -105,7 +105,7 @@ impl Refusal {
     /// The refusal of an outcome that is not 0.
     pub(crate) fn of(outcome: u32) -> Refusal {
         let place = (outcome as usize).wrapping_sub(1);
-        match ALL.get(place) {
+        match Refusal::ALL.get(place) {
             Some(refusal) => *refusal,
             None => panic!("the core answered outcome {outcome}, which the documents do not have"),
         }

@@ -26,7 +26,7 @@ const COPY: &str = "`cp` of the disc file";
 /// The lines of one round, in order, with what a row calls them. A disc is mounted
 /// after a look back and after a cut, and saved before a mount that is to find it
 /// clean.
-const LINES: [(&str, &str); 23] = [
+const LINES: [(&str, &str); 26] = [
     ("new", "new blank.disc SECTORS"),
     ("begin, blank disc", "begin blank.disc"),
     (
@@ -50,6 +50,9 @@ const LINES: [(&str, &str); 23] = [
     ("commit --at", "commit run.disc --at 2026-11-16T14:05+01:00"),
     ("time 0", "time run.disc 0"),
     ("read", "read run.disc 7 --to /dev/null"),
+    ("read --back 1", "read run.disc 7 --back 1 --to /dev/null"),
+    ("status", "status run.disc"),
+    ("contents", "contents run.disc"),
     ("look-back 1", "look-back run.disc 1"),
     ("list", "list run.disc"),
     ("mount, clean", "mount run.disc"),
@@ -73,7 +76,9 @@ struct Row {
 /// Runs the commands on discs of these sizes, in turn, so that other work on the
 /// machine strikes all alike; and prints the table.
 pub fn run(program: &Path, sizes: &[usize]) -> io::Result<()> {
-    let discs = sizes.iter().map(|sectors| Disc::half_full(*sectors));
+    let discs = sizes
+        .iter()
+        .map(|sectors| Disc::half_full(*sectors, program));
     let discs: Vec<Disc> = discs.collect::<io::Result<_>>()?;
     let named = LINES.iter().filter(|(name, _)| !name.is_empty());
     let names = named.map(|(name, _)| *name).chain([COPY]);
@@ -111,12 +116,17 @@ struct Disc {
 }
 
 impl Disc {
-    fn half_full(sectors: usize) -> io::Result<Disc> {
+    /// Mounted by the program, which keeps ledger and roles beside it.
+    fn half_full(sectors: usize, program: &Path) -> io::Result<Disc> {
         let name = format!("station-commands-{}-{sectors}", process::id());
         let folder = env::temp_dir().join(name);
         fs::create_dir(&folder)?;
         let disc = Disc { folder, sectors };
         store_half_full(&disc.folder, sectors)?;
+        timed(
+            Command::new(program).args(["mount", "run.disc"]),
+            &disc.folder,
+        )?;
         Ok(disc)
     }
 
@@ -162,7 +172,7 @@ fn timed(command: &mut Command, folder: &Path) -> io::Result<Duration> {
 }
 
 /// A disc whose first half is recorded: all numbers written, over and over, and
-/// saved twice; its ledger and roles; a block, and the bytes of a run.
+/// saved twice; a block, and the bytes of a run.
 fn store_half_full(folder: &Path, sectors: usize) -> io::Result<()> {
     let (image, kinds) = (&mut vec![0; sectors * SECTOR], &mut vec![0; sectors]);
     let (roles, ledger) = (&mut vec![0; sectors], &mut [0; LEDGER]);
@@ -183,8 +193,6 @@ fn store_half_full(folder: &Path, sectors: usize) -> io::Result<()> {
     file.write_all(&image[..half * SECTOR])?;
     file.set_len((9 + sectors + 1 + image.len()) as u64)?;
     file.sync_all()?;
-    fs::write(folder.join("run.disc.ledger"), &ledger)?;
-    fs::write(folder.join("run.disc.roles"), [&ledger[..], roles].concat())?;
     fs::write(folder.join("block"), [0xC3; SECTOR])?;
     fs::write(folder.join("run"), [0xC3; RUN])
 }

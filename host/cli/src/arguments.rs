@@ -159,6 +159,12 @@ impl Arguments {
         self.number_in(self.command.operands[place], &self.operands[place], range)
     }
 
+    /// Of 32 bits, behind an option that may be missing.
+    pub fn option_number(&self, option: &str) -> Result<Option<u32>, Failure> {
+        let number = self.option_in(option, NUMBERS)?;
+        Ok(number.map(|number| number as u32))
+    }
+
     /// Behind an option that may be missing.
     fn option_in(&self, option: &str, range: RangeInclusive<u64>) -> Result<Option<u64>, Failure> {
         let word = self.value(option);

@@ -5,11 +5,11 @@ use std::path::Path;
 
 use station::Extent;
 
-use crate::advice;
 use crate::arguments::Arguments;
 use crate::failure::{Done, Failure};
 use crate::form::Disc;
 use crate::names::shown;
+use crate::reasons::{refused, Asked};
 use crate::session::Session;
 use crate::surroundings::{say_aside, Surroundings};
 
@@ -38,8 +38,8 @@ impl Closing {
     pub fn record(&self, session: &mut Session) -> Result<u32, Failure> {
         let (image, kinds, roles, ledger) = session.lent_to_record();
         let (main, reserve, start) = (self.main, self.reserve, self.partition_start);
-        station::close_session(image, kinds, roles, ledger, main, reserve, start)
-            .map_err(|refusal| Failure::Refused(refusal, advice::of_closing(refusal)))
+        let table = station::close_session(image, kinds, roles, ledger, main, reserve, start);
+        table.map_err(|refusal| refused(refusal, &Asked::CloseSession(start), session))
     }
 }
 

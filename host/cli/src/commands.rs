@@ -5,8 +5,10 @@ use std::path::Path;
 
 use crate::arguments::{parse, Arguments, Asked};
 use crate::calls;
+use crate::contents::contents;
 use crate::cut::cut;
 use crate::demo;
+use crate::explain::explain;
 use crate::failure::{Done, Failure};
 use crate::help;
 use crate::images::{export, import};
@@ -14,6 +16,7 @@ use crate::listing::list;
 use crate::names::shown;
 use crate::nearly::nearest;
 use crate::space;
+use crate::status::status;
 use crate::surroundings::{say, Surroundings};
 use crate::syntax::{self, Syntax};
 use crate::viewing::{read, view};
@@ -30,7 +33,7 @@ const fn command(
     Command { syntax, run }
 }
 
-static COMMANDS: [Command; 20] = [
+static COMMANDS: [Command; 23] = [
     command(&syntax::NEW, calls::new),
     command(&syntax::BEGIN, calls::begin),
     command(&syntax::MOUNT, calls::mount),
@@ -45,11 +48,14 @@ static COMMANDS: [Command; 20] = [
     command(&syntax::LOOK_BACK, calls::look_back),
     command(&syntax::TIME, calls::time),
     command(&syntax::LIST, list),
+    command(&syntax::STATUS, status),
+    command(&syntax::CONTENTS, contents),
     command(&syntax::SPACE, space::space),
     command(&syntax::MAP, space::map),
     command(&syntax::IMPORT, import),
     command(&syntax::EXPORT, export),
     command(&syntax::CUT, cut),
+    command(&syntax::EXPLAIN, explain),
     command(&syntax::DEMO, show_demo),
 ];
 

@@ -141,7 +141,12 @@ impl Step {
             disk: around.disk,
         };
         match run(&words, &mut inner) {
-            Err(refused @ Failure::Refused(..)) => shown.extend(refused.to_string().bytes()),
+            // The demo's folder is not what is typed.
+            Err(refused @ Failure::Refused(..)) => {
+                let in_folder = format!("{}/", folder.display());
+                let told = refused.to_string().replace(&in_folder, "");
+                shown.extend(told.bytes());
+            }
             outcome => outcome?,
         }
         match self {

@@ -6,7 +6,7 @@ use std::path::{Path, PathBuf};
 
 use station::Refusal;
 
-use crate::advice;
+use crate::names::shown;
 
 /// What a command comes to, or a part of one that answers nothing.
 pub type Done = Result<(), Failure>;
@@ -29,10 +29,12 @@ pub enum Failure {
     /// The answer cannot be written to standard output, or what is told beside it
     /// to standard error.
     Output(io::Error),
+    /// The command is done, and this, its answer, cannot be written to standard output.
+    Untold(String, io::Error),
     /// The disc's roles are not known.
     RolesUnknown(PathBuf),
-    /// The core refused, and what to do.
-    Refused(Refusal, &'static str),
+    /// The core refused; why, and what to do, in a sentence or two.
+    Refused(Refusal, String),
 }
 
 impl Failure {
@@ -51,15 +53,20 @@ impl Failure {
             Failure::Unreadable(..) => 66,
             Failure::RolesUnknown(_) => 69,
             Failure::Unwritable(..) => 73,
-            Failure::Output(_) => 74,
+            Failure::Output(_) | Failure::Untold(..) => 74,
             Failure::Refused(refusal, _) => refusal.number() as u8,
         }
     }
-}
 
-impl From<Refusal> for Failure {
-    fn from(refusal: Refusal) -> Failure {
-        Failure::Refused(refusal, advice::of(refusal))
+    /// Whether a reader has closed the pipe that the answer went into: it has seen
+    /// enough, as `head` does, and nothing is wrong.
+    pub fn is_closed_pipe(&self) -> bool {
+        match self {
+            Failure::Output(error) | Failure::Untold(_, error) => {
+                error.kind() == ErrorKind::BrokenPipe
+            }
+            _ => false,
+        }
     }
 }
 
@@ -73,36 +80,38 @@ impl fmt::Display for Failure {
                 writeln!(out, "Try 'station{space}{command} --help'.")
             }
             Failure::NoDisc(file, reason) => {
-                writeln!(out, "station: {} is no disc: {reason}", file.display())
+                writeln!(out, "station: {} is no disc: {reason}", shown(file))
             }
             Failure::NoImage(file, reason) => {
-                let file = file.display();
+                let file = shown(file);
                 writeln!(out, "station: {file} is no raw image of a disc: {reason}")
             }
             Failure::NoRun(file, reason) => {
-                writeln!(out, "station: {} is no run: {reason}", file.display())
+                writeln!(out, "station: {} is no run: {reason}", shown(file))
             }
             Failure::Unreadable(file, error) => {
-                writeln!(out, "station: {}", unreadable(&file.display(), error))
+                writeln!(out, "station: {}", unreadable(&shown(file), error))
             }
             Failure::Unwritable(file, reason) => {
-                writeln!(
-                    out,
-                    "station: {} cannot be written: {reason}",
-                    file.display()
-                )
+                writeln!(out, "station: {} cannot be written: {reason}", shown(file))
             }
             Failure::RolesUnknown(disc) => {
-                let disc = disc.display();
-                writeln!(out, "station: where the space of {disc} went is not known")?;
-                writeln!(out, "{}", advice::ROLES_UNKNOWN)
+                let disc = shown(disc);
+                writeln!(
+                    out,
+                    "station: where the space of {disc} went since it was begun or mounted is not \
+                     known; --back 0 tells it of the newest save, and changes nothing"
+                )
             }
-            // Whoever closed the pipe has seen enough.
-            Failure::Output(error) if error.kind() == ErrorKind::BrokenPipe => Ok(()),
             Failure::Output(error) => writeln!(out, "station: no answer can be told: {error}"),
-            Failure::Refused(refusal, advice) => {
-                writeln!(out, "station: {refusal}")?;
-                writeln!(out, "{advice}")
+            Failure::Untold(done, error) => {
+                let done_all_the_same =
+                    "this is done, but standard output does not take the answer";
+                writeln!(out, "station: {done_all_the_same}: {error}")?;
+                write!(out, "{done}")
+            }
+            Failure::Refused(refusal, sentence) => {
+                writeln!(out, "station: refusal {}: {sentence}", refusal.number())
             }
         }
     }

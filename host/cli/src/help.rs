@@ -19,18 +19,23 @@ Usage: station COMMAND DISC ...
   look-back DISC K      show the save K before the newest, looking only
   time DISC K           when the save K before the newest was made
   list DISC             every save, newest first
+  status DISC           what the disc is ready for, and what is not saved yet
+  contents DISC         the numbers in use: block or run, how long, saved or not
   space DISC            where the space went: sectors in use, superseded, ..
   map DISC              the same, drawn sector by sector
   import IMAGE DISC     make a disc file of another deck's raw image
   export DISC IMAGE     give the raw sectors back
   cut J COMMAND ...     what a power cut leaves of a command that records
+  explain N             what refusal N means, and what to do
   demo                  a worked example
 
 'station COMMAND --help' tells more. '-V' or '--version' tells the version.
 
 DISC is a file; its ledger is kept beside it in DISC.ledger, and the roles of
 its sectors in DISC.roles. Until a commit, only the ledger knows where a written
-block lies.
+block lies: a mount, a begin and a look-back leave it out, and say so. With
+--back K, read, view, contents, space and map show the save K before the newest
+and leave the ledger alone, also beside somebody who records.
 
 Exit status: 0 done; 1 to 20 the refusal's number; 64 wrong command line; 65
 the file is no disc, no raw image or no run; 66 a file cannot be read; 69 the
@@ -47,17 +52,19 @@ disc before the first write.
 pub const BEGIN: &str = "\
 Usage: station begin DISC
 
-Starts a disc that has no save: size 0, no packet open. Refused with 6 if the
-disc has a save; mount it then.
+Starts a disc that has no save: size 0, no packet open. What was written and not
+saved is left out, and told. Refused with 6 if the disc has a save; mount it
+then.
 ";
 
 pub const MOUNT: &str = "\
 Usage: station mount DISC
 
-Finds the last finished save and goes on from it; what was written after it and
-not saved is left out. Tells clean if the save is the last thing recorded, else
-dirty; the table's block; the size; and the numbers in use. A last line says if
-the disc is closed. Refused with 7 if the disc has no save.
+Finds the last finished save and goes on from it. Tells clean if the save is the
+last thing recorded, else dirty; the table's block; the size; and the numbers in
+use. What was written after it and not saved is left out, and told as far as the
+ledger knows it. A last line says if the disc is closed. Refused with 7 if the
+disc has no save. status tells beforehand, and changes nothing.
 ";
 
 pub const WRITE: &str = "\
@@ -103,8 +110,9 @@ seven link sectors. The disc stays open: close-session closes it.
 pub const COMMIT: &str = "\
 Usage: station commit DISC [--at TIME | --now]
 
-Saves: records the table sector, and tells its block. From then on a mount
-shows this save, whatever is cut later. With a time, the save carries it from
+Saves: records the table sector, and tells its block, how many numbers are in
+use, and which of them are new since the last save. From then on a mount shows
+this save, whatever is cut later. With a time, the save carries it from
 then on, and it is told too. Refused with 16 if no save can carry it: it is a
 real date from 1970 to 2099, up to 23:59:59, in a zone of up to 24:00.
 
@@ -136,22 +144,26 @@ Who prepared the disc knows all of them; of a raw image udfinfo tells them.
 ";
 
 pub const READ: &str = "\
-Usage: station read DISC V [--to FILE]
+Usage: station read DISC V [--back K] [--to FILE]
 
 The 2048 bytes of number V, to FILE or to standard output. After a look-back
 they are those of the save that it shows.
 
+  --back K    of the save K before the newest; 0 is the newest. The ledger is
+              neither needed nor changed
   --to FILE   where to put the bytes, in one step; - is standard output
 ";
 
 pub const VIEW: &str = "\
-Usage: station view DISC V [--offset N] [--length N] [--to FILE]
+Usage: station view DISC V [--back K] [--offset N] [--length N] [--to FILE]
 
 The bytes of the run whose entry number V names, to FILE or to standard output.
 After a look-back they are those of the save that it shows. Refused with 19 if
 number V is a block of its own, and no run's entry, and with 20 if the offset is
 above the run's length.
 
+  --back K     of the save K before the newest; 0 is the newest. The ledger is
+               neither needed nor changed
   --offset N   leave out the first N bytes
   --length N   give at most N bytes; without it all, to the run's end
   --to FILE    where to put the bytes, in one step; - is standard output
@@ -161,7 +173,9 @@ pub const LOOK_BACK: &str = "\
 Usage: station look-back DISC K
 
 Shows the save K before the newest; K 0 is the newest. Then read and view show
-that save's blocks and runs, and nothing can be recorded until a mount.
+that save's blocks and runs, and nothing can be recorded until a mount. What was
+written and not saved is left out, and told. To look without this, give read,
+view, contents, space or map the option --back.
 ";
 
 pub const TIME: &str = "\
@@ -185,8 +199,27 @@ and the number. If the disc is closed, standard error says so. Changes nothing.
             UTC; 'no zone' where none was given, 'no time' where it has none
 ";
 
+pub const STATUS: &str = "\
+Usage: station status DISC
+
+How the disc stands: not begun, not mounted, open, looking only or closed; its
+size and the numbers in use; which of them are not saved yet; the newest save
+and its time; and how much room is left, in blocks and in bytes of one run.
+Changes nothing.
+";
+
+pub const CONTENTS: &str = "\
+Usage: station contents DISC [--back K]
+
+Every number in use: its block, whether it is a block or a run, how many bytes
+it has, and whether a save names it. Changes nothing.
+
+  --back K   of the save K before the newest; 0 is the newest. The ledger is
+             neither needed nor changed
+";
+
 pub const SPACE: &str = "\
-Usage: station space DISC
+Usage: station space DISC [--back K]
 
 Where the space went: how many sectors have each role, their share of the disc,
 and in a sentence what is in use and what took the most of the rest. Changes
@@ -206,13 +239,16 @@ Of a run only the entry has a number. Its other sectors, its parts, count as
 superseded or without a number also while the run is in use; the sentence then
 tells how many they are.
 
+  --back K   as the save K before the newest has it, worked out anew; 0 is the
+             newest. Neither ledger nor roles are needed or changed
+
 The roles are kept beside the disc, in DISC.roles. They are not known (exit
 status 69) after a power cut and where that file is missing or not up to date:
 begin, mount and look-back work them out anew.
 ";
 
 pub const MAP: &str = "\
-Usage: station map DISC [--svg FILE]
+Usage: station map DISC [--back K] [--svg FILE]
 
 The disc drawn from block 0 on, a letter for each sector, or on a large disc for
 as many as it says. In colours on a terminal, else, and where NO_COLOR is set,
@@ -226,6 +262,7 @@ in letters alone. Changes nothing of the disc.
 'station space --help' tells what these roles mean; p is a sector of a run in
 use, which its role counts as superseded or without a number.
 
+  --back K     as the save K before the newest has it; 0 is the newest
   --svg FILE   make a picture in FILE instead. A browser shows it in a window of
                any size, tells block, role and number of a square under the
                pointer, and prints it on A3. Overwrites nothing; - is standard
@@ -267,6 +304,13 @@ file; try it on a copy. A command that would be refused is refused, and then
 nothing is changed.
 
   --torn   leave the next sector unreadable instead of blank
+";
+
+pub const EXPLAIN: &str = "\
+Usage: station explain N
+
+What refusal N means: the rule in the documents' own words, who causes it, and
+what to do.
 ";
 
 pub const DEMO: &str = "\

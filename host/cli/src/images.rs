@@ -99,7 +99,7 @@ impl Image<'_> {
 /// same: nothing recorded is lost, and every sector keeps its block number.
 pub fn export(given: &Arguments, around: &mut Surroundings) -> Done {
     let path = given.path(1);
-    let session = Session::open(given.path(0), Lent::New, around)?;
+    let session = Session::open(given.path(0), Lent::Own, around)?;
     if session.place.has(path) {
         return Err(given.wrong("IMAGE names the disc, its ledger or its roles".into()));
     }

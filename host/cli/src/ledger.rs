@@ -5,19 +5,6 @@ use std::fmt;
 
 use station::{LIMIT, UNUSED};
 
-/// The map that a mount or look back has filled the ledger with.
-pub struct Map {
-    pub size: u32,
-    /// The numbers in use, ascending.
-    pub used: Vec<u32>,
-    /// The block of each number below the size, if it is in use.
-    blocks: Vec<Option<u32>>,
-    /// The block of the table that the map was read from.
-    pub table: u32,
-    /// Whether a look back has filled the ledger: "looking only".
-    pub looking: bool,
-}
-
 /// "458 map entries, then size, recorded, last table, mode": where each of the last
 /// four stands, in words.
 const SIZE: usize = LIMIT as usize;
@@ -25,8 +12,24 @@ const RECORDED: usize = SIZE + 1;
 const LAST_TABLE: usize = SIZE + 2;
 const MODE: usize = SIZE + 3;
 
-/// "2 (looking only)"
+/// "1 (packet open) or 2 (looking only)"
+const PACKET_OPEN: u32 = 1;
 const LOOKING: u32 = 2;
+
+/// The map of a ledger, and what stands behind it.
+pub struct Map {
+    pub size: u32,
+    /// The numbers in use, ascending.
+    pub used: Vec<u32>,
+    /// The block of each number below the size, if it is in use.
+    blocks: Vec<Option<u32>>,
+    /// The block of the last table; after a mount or a look back, of the table that
+    /// the map was read from.
+    pub table: u32,
+    pub packet_open: bool,
+    /// Whether a look back has filled the ledger: "looking only".
+    pub looking: bool,
+}
 
 /// A word of a whole ledger.
 fn word(ledger: &[u8], place: usize) -> u32 {
@@ -51,6 +54,7 @@ impl Map {
             used: (0..size).filter(in_use).collect(),
             blocks,
             table: word(ledger, LAST_TABLE),
+            packet_open: word(ledger, MODE) == PACKET_OPEN,
             looking: word(ledger, MODE) == LOOKING,
         }
     }
@@ -58,6 +62,19 @@ impl Map {
     /// The block that the number names, if it is in use.
     pub fn block(&self, v: u32) -> Option<u32> {
         self.blocks.get(v as usize).copied().flatten()
+    }
+
+    /// The block of the last table, if there is one.
+    pub fn last_table(&self) -> Option<u32> {
+        Some(self.table).filter(|table| *table != UNUSED)
+    }
+
+    /// The numbers whose blocks no save names yet: what was recorded behind the last
+    /// table is in none.
+    pub fn written_since(&self) -> Vec<u32> {
+        let last = self.last_table();
+        let behind = |v: &u32| last.is_none_or(|table| self.block(*v) > Some(table));
+        self.used.iter().copied().filter(behind).collect()
     }
 }
 

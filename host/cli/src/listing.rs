@@ -7,6 +7,7 @@ use crate::arguments::Arguments;
 use crate::closing;
 use crate::failure::{Done, Failure};
 use crate::form::Disc;
+use crate::reasons::{self, Asked};
 use crate::saves::{each_save, Counted};
 use crate::session::{Lent, Session};
 use crate::surroundings::{say, say_aside, Surroundings};
@@ -25,7 +26,7 @@ fn refused(number: u32) -> String {
 /// Prints the listing, and ends with the refusal that it tells, if any. That a disc is closed is told
 /// beside the listing, since document 01 has every line of it, down to the last one.
 pub fn list(given: &Arguments, around: &mut Surroundings) -> Done {
-    let session = match Session::open(given.path(0), Lent::New, around) {
+    let session = match Session::open(given.path(0), Lent::Own, around) {
         // "(1 for the form)"
         Err(failure @ Failure::NoDisc(..)) => {
             say(around, refused(1))?;
@@ -34,11 +35,15 @@ pub fn list(given: &Arguments, around: &mut Surroundings) -> Done {
         opened => opened?,
     };
     let (text, refusal) = listing(&session.disc, given.has("--times"));
+    let failure = refusal.map(|refusal| reasons::refused(refusal, &Asked::Mount, &session));
     let closed = closing::told(&session.disc);
     drop(session);
-    say(around, text)?;
-    say_aside(around, closed)?;
-    refusal.map_or(Ok(()), |refusal| Err(refusal.into()))
+    match say(around, text) {
+        // Who has seen enough of the rows is still told how they end.
+        Err(told) if !told.is_closed_pipe() => return Err(told),
+        _ => say_aside(around, closed)?,
+    }
+    failure.map_or(Ok(()), Err)
 }
 
 /// The text, and the refusal if mount is refused or the saves are broken.

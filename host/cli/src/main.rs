@@ -6,9 +6,12 @@
 //! tells what the core answers. Each room uses only those below it:
 //!
 //! - `commands`: the command line;
-//! - `calls`, `cut`, `demo`, `images`, `listing`, `space`, `viewing`: what the commands
-//!   do;
+//! - `calls`, `cut`, `demo`, `explain`, `images`: what the commands do;
+//! - `contents`, `listing`, `space`, `status`, `viewing`: of those that only tell;
+//! - `looking`: the save that a command looks at;
 //! - `storing`, `writing`, `closing`: the calls that record, whole or to be cut;
+//! - `reasons`: why the core refused, in an operator's words;
+//! - `room`: the room on a disc;
 //! - `session`: disc, roles and ledger of one command;
 //! - `keeping`: the order in which they are kept;
 //! - `surroundings`: the streams and the disk that a command is given;
@@ -16,15 +19,17 @@
 //! - `making`: a file where there is none, a disc's or another;
 //! - `files`: names, locks, and replacing a file in one step;
 //! - `times`: when a save was made, in words;
+//! - `unsaved`: what a ledger has and no save has yet;
 //! - `saves`: every save of a disc, newest first;
 //! - `drawing`: a disc drawn, by the roles of its sectors;
-//! - `runs`: the numbers in use, and the parts of their runs;
-//! - `form`: the disc file's form; `roles`: the role file's;
+//! - `runs`: the entries of runs, the numbers in use, and the parts of their runs;
+//! - `roles`: the role file's form; `mark`: the ledger file's; `form`: the disc file's;
 //! - `ledger`: what the ledger says;
 //! - `arguments`, `syntax`, `help`, `nearly`: the words of a command line;
 //! - `stamps`: the time that a save is to carry; `calendar`: dates;
 //! - `mapping`, `lock`, `clock`, `screen`, `zone`: what is asked of the system;
-//! - `failure`, `advice`: what can go wrong, in words and as an exit status;
+//! - `failure`: what can go wrong, in words and as an exit status; `advice`: each refusal
+//!   explained;
 //! - `names`: a file's name as it is shown.
 
 #![deny(unsafe_code)]
@@ -37,12 +42,14 @@ mod calls;
 mod clock;
 mod closing;
 mod commands;
+mod contents;
 #[cfg(test)]
 mod crashes;
 mod cut;
 mod demo;
 mod disk;
 mod drawing;
+mod explain;
 mod failure;
 mod files;
 mod form;
@@ -53,12 +60,16 @@ mod ledger;
 mod listing;
 #[allow(unsafe_code)]
 mod lock;
+mod looking;
 mod making;
 #[allow(unsafe_code)]
 mod mapping;
+mod mark;
 mod names;
 mod nearly;
+mod reasons;
 mod roles;
+mod room;
 mod runs;
 mod saves;
 #[allow(unsafe_code)]
@@ -66,10 +77,12 @@ mod screen;
 mod session;
 mod space;
 mod stamps;
+mod status;
 mod storing;
 mod surroundings;
 mod syntax;
 mod times;
+mod unsaved;
 mod viewing;
 mod writing;
 mod zone;
@@ -97,9 +110,11 @@ fn main() -> ExitCode {
     let outcome = outcome.and(io::stdout().flush().map_err(Failure::Output));
     match outcome {
         Ok(()) => ExitCode::SUCCESS,
+        Err(failure) if failure.is_closed_pipe() => ExitCode::SUCCESS,
         Err(failure) => {
-            // With standard error closed, the exit status still tells.
-            let _ = write!(io::stderr(), "{failure}");
+            // In one piece, beside what others write there. With standard error closed,
+            // the exit status still tells.
+            let _ = io::stderr().write_all(failure.to_string().as_bytes());
             ExitCode::from(failure.status())
         }
     }

@@ -1,22 +1,23 @@
-//! The role file: a copy of the ledger that the roles belong to, and then "one byte a
-//! sector, 0 to 6".
+//! The role file: a copy of the ledger file that the roles belong to, and then "one byte
+//! a sector, 0 to 6".
 //!
 //! Roles are right only with the disc and the ledger that the same call left. They
-//! are believed only if the copy is the ledger that lies beside the disc, if that one
-//! is not behind the disc, and if no kind contradicts them. So a file that a crash
+//! are believed only if the copy is the ledger file that lies beside the disc, if that
+//! one is not behind the disc, and if no kind contradicts them. So a file that a crash
 //! left, or that another program has not kept up, is not taken for a right one, and
 //! one that was copied with its disc and ledger is.
 
-use station::{Role, LEDGER};
+use station::Role;
 
 use crate::ledger::recorded;
+use crate::mark::MARKED;
 
 /// The kind of data.
 const DATA: u8 = 1;
 
-/// The roles in a file, if they are those of this ledger and these kinds.
+/// The roles in a file, if they are those of this ledger file and these kinds.
 pub fn known<'a>(file: &'a [u8], ledger: &[u8], kinds: &[u8]) -> Option<&'a [u8]> {
-    let (copy, roles) = file.split_at_checked(LEDGER)?;
+    let (copy, roles) = file.split_at_checked(MARKED)?;
     let fits = copy == ledger
         && recorded(copy) == station::recorded(kinds)
         && roles.len() == kinds.len()
@@ -39,7 +40,7 @@ fn agree(role: u8, kind: u8) -> bool {
 
 /// Bytes of a whole role file.
 pub fn whole_length(sectors: usize) -> usize {
-    LEDGER + sectors
+    MARKED + sectors
 }
 
 /// Where in the file each stretch of roles stands that a command has changed, and
@@ -49,7 +50,7 @@ pub fn changed<'a>(before: &[u8], now: &'a [u8]) -> Vec<(u64, &'a [u8])> {
     let mut place = 0;
     while let Some(same) = differing(before, now, place, true) {
         let end = differing(before, now, same, false).unwrap_or(now.len());
-        stretches.push(((LEDGER + same) as u64, &now[same..end]));
+        stretches.push(((MARKED + same) as u64, &now[same..end]));
         place = end;
     }
     stretches
@@ -66,11 +67,12 @@ fn differing(before: &[u8], now: &[u8], from: usize, differ: bool) -> Option<usi
 
 #[cfg(test)]
 mod tests {
-    use super::{changed, known, LEDGER};
+    use super::{changed, known, MARKED};
+    use station::LEDGER;
 
-    /// A ledger that has so many sectors recorded.
+    /// The file of a ledger that has so many sectors recorded.
     fn ledger(recorded: u8) -> Vec<u8> {
-        let mut ledger = vec![0xFF; LEDGER];
+        let mut ledger = vec![0xFF; MARKED];
         ledger[LEDGER - 12..][..4].copy_from_slice(&[recorded, 0, 0, 0]);
         ledger
     }
@@ -85,7 +87,7 @@ mod tests {
             assert_eq!(known(&file[..length], &own, &kinds), None);
         }
         assert_eq!(known(&[&file[..], &[6]].concat(), &own, &kinds), None);
-        assert_eq!(known(&file, &own[..LEDGER - 1], &kinds), None);
+        assert_eq!(known(&file, &own[..MARKED - 1], &kinds), None);
         assert_eq!(known(&file, &ledger(8), &kinds), None);
         let behind = [&ledger(6)[..], &roles].concat();
         assert_eq!(known(&behind, &ledger(6), &kinds), None);
@@ -108,7 +110,7 @@ mod tests {
 
     #[test]
     fn stretches() {
-        let place = |at: usize| (LEDGER + at) as u64;
+        let place = |at: usize| (MARKED + at) as u64;
         assert_eq!(changed(&[6, 6, 6], &[6, 6, 6]), []);
         let now = [1, 6, 4, 4, 0];
         let both = [(place(0), &now[..1]), (place(2), &now[2..])];

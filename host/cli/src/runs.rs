@@ -1,19 +1,49 @@
-//! The numbers in use, and of each sector whether it is a part of a run in use.
+//! The entries of runs, the numbers in use, and of each sector whether it is a part of a
+//! run in use. Whether a block is an entry, the core says.
 //!
 //! A run's entry has a number, and its parts have none. So their role tells that no
 //! number names them, and does not tell that one leads to them: superseded after a
 //! mount, without a number before it.
 
-use station::{Extent, Role, SECTOR};
+use station::{Extent, Refusal, Role, SECTOR};
 
 use crate::form::Disc;
 use crate::ledger::Map;
 
-/// Where in an entry the length of its descriptors stands, and where they begin; each
-/// is a length and a block (ECMA-167 4/14.9 and 4/14.14.1).
+/// Of an entry, a file entry of ECMA-167 4/14.9: its tag identifier, 261; where its file
+/// type stands, and that of an ordinary file, 5; where its information length stands, 64
+/// bits; where the length of its descriptors, and where they begin, each a length and a
+/// block (4/14.14.1).
+const IDENTIFIER: [u8; 2] = [5, 1];
+const FILE_TYPE: (usize, u8) = (27, 5);
+const INFORMATION_LENGTH: usize = 56;
 const DESCRIPTORS_LENGTH: usize = 172;
 const DESCRIPTORS: usize = 176;
 const DESCRIPTOR: usize = 8;
+
+/// How many bytes the run has whose entry the number names, or why it names none.
+pub fn length(disc: &Disc, ledger: &[u8], v: u32) -> Result<u64, Refusal> {
+    let (image, kinds) = disc.lent();
+    station::view(image, kinds, ledger, v, 0, &mut [])?;
+    let entry = block(disc, ledger, v).unwrap_or_default();
+    let length = entry.get(INFORMATION_LENGTH..);
+    let length = length.and_then(<[u8]>::first_chunk);
+    Ok(u64::from_le_bytes(*length.unwrap_or(&[0; 8])))
+}
+
+/// Whether the number's block calls itself the entry of a run. If it is none then,
+/// something of the run is lost.
+pub fn calls_itself_one(disc: &Disc, ledger: &[u8], v: u32) -> bool {
+    let entry = block(disc, ledger, v).unwrap_or_default();
+    entry.starts_with(&IDENTIFIER) && entry.get(FILE_TYPE.0) == Some(&FILE_TYPE.1)
+}
+
+/// The bytes of the block that the number names.
+fn block<'a>(disc: &'a Disc, ledger: &[u8], v: u32) -> Option<&'a [u8]> {
+    let (image, _) = disc.lent();
+    let block = Map::of(ledger).block(v)? as usize;
+    image.get(block * SECTOR..)?.get(..SECTOR)
+}
 
 /// A number in use.
 pub struct Number {

@@ -43,6 +43,27 @@ pub fn each_save(disc: &Disc, mut show: impl FnMut(&Map)) -> Result<Counted, Ref
     }
 }
 
+/// The map of the table at this block, if it is one. No other sector is read: all are
+/// links on the disc that is lent for it.
+pub fn map_at(disc: &Disc, table: u32) -> Option<Map> {
+    let (image, kinds) = disc.lent();
+    let sectors = table as usize + 1;
+    let image = image.get(..sectors * SECTOR)?;
+    let mut shown = vec![LINK; sectors];
+    shown[sectors - 1] = kinds[sectors - 1];
+    let (mut roles, mut ledger) = (vec![0; sectors], [0; LEDGER]);
+    let found = station::look_back(image, &shown, &mut roles, &mut ledger, 0);
+    found.ok().map(|_| Map::of(&ledger))
+}
+
+/// The map of the newest save, if there is one.
+pub fn newest(disc: &Disc) -> Option<Map> {
+    let (image, kinds) = disc.lent();
+    let (mut roles, mut ledger) = (vec![0; kinds.len()], [0; LEDGER]);
+    let found = station::mount(image, kinds, &mut roles, &mut ledger);
+    found.ok().map(|_| Map::of(&ledger))
+}
+
 /// The blocks of the tables, ascending.
 fn tables_among(roles: &[u8]) -> Vec<usize> {
     let is_table = |role: &u8| *role == Role::Table.number();

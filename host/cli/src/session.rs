@@ -1,8 +1,8 @@
 //! Disc, roles and ledger of one command: lent from their files, and kept.
 
-use std::fs::File;
+use std::fs::{self, File};
 use std::io::ErrorKind;
-use std::path::Path;
+use std::path::{Path, PathBuf};
 
 use station::LEDGER;
 
@@ -11,24 +11,41 @@ use crate::failure::{Done, Failure};
 use crate::files::{folder_of, lock, lock_folder, open, read_at_most, unlock, Place};
 use crate::form::Disc;
 use crate::keeping::{self, Recording, Roles};
+use crate::ledger::Map;
+use crate::mark::{belonging, marked, MARKED};
 use crate::roles;
 use crate::surroundings::Surroundings;
 
 /// Which ledger and which roles a call is lent.
 pub enum Lent {
-    /// Those in the files. The ledger may be of another length or hold anything: the
-    /// core tests it. Roles that are not believed are not lent, but others, which no
-    /// call reads and which are not kept.
+    /// Those in the files. A ledger that is not this disc's is not lent, but zeros, and
+    /// roles that are not believed are not lent, but others, which no call reads and
+    /// which are not kept.
     Kept,
     /// New ones, for begin, mount and look back, which do not read them: so they
     /// are done whatever a power cut left of the files.
     New,
+    /// The command's own, which are kept nowhere: it only looks, and reads no file but
+    /// the disc's.
+    Own,
+}
+
+/// What is known of the ledger file.
+#[derive(Clone, Copy, Debug, PartialEq, Eq)]
+pub enum LedgerFile {
+    /// It belongs to this disc, now or when fewer sectors were recorded.
+    Right,
+    Missing,
+    /// It belongs to another disc, or is damaged.
+    Foreign,
 }
 
 /// What is known of the role file.
 enum RoleFile {
     /// It does not matter: there are new roles.
     Replaced,
+    /// Nor does it to a command that only looks and has its own.
+    Own,
     /// These roles are in it, and are right.
     Right(Vec<u8>),
     Stale,
@@ -37,8 +54,13 @@ enum RoleFile {
 
 /// The files are locked until the session ends.
 pub struct Session {
+    /// The name that was typed.
+    pub name: PathBuf,
     pub place: Place,
     pub disc: Disc,
+    pub ledger_file: LedgerFile,
+    /// What the ledger file holds, if it belongs to this disc.
+    kept: Option<Vec<u8>>,
     /// As many as the disc has sectors.
     pub roles: Vec<u8>,
     pub ledger: Vec<u8>,
@@ -60,13 +82,18 @@ impl Session {
         let same = file.try_clone();
         let same = same.map_err(|error| Failure::unreadable(name, error))?;
         let (_, kinds) = disc.lent();
-        let (ledger, role_file, opened) = match lent {
-            Lent::Kept => {
-                let ledger = kept_ledger(&place.ledger)?;
-                let (role_file, opened) = kept_roles(&place.roles, &ledger, kinds);
-                (ledger, role_file, opened)
+        let (ledger_file, kept) = match lent {
+            Lent::Own => (LedgerFile::Missing, None),
+            Lent::Kept | Lent::New => kept_ledger(&place.ledger, &disc)?,
+        };
+        let (ledger, role_file, opened) = match (lent, &kept) {
+            (Lent::Kept, Some(kept)) => {
+                let (role_file, opened) = kept_roles(&place.roles, kept, kinds);
+                (kept[..LEDGER].to_vec(), role_file, opened)
             }
-            Lent::New => (vec![0; LEDGER], RoleFile::Replaced, None),
+            (Lent::Kept, None) => (vec![0; LEDGER], unknown_roles(&place.roles), None),
+            (Lent::New, _) => (vec![0; LEDGER], RoleFile::Replaced, None),
+            (Lent::Own, _) => (vec![0; LEDGER], RoleFile::Own, None),
         };
         let roles = match &role_file {
             RoleFile::Right(roles) => roles.clone(),
@@ -75,8 +102,11 @@ impl Session {
         let loaded = Loaded::of(place.disc.clone(), file, disc.length());
         let files = Files::of(place.clone(), loaded, opened);
         Ok(Session {
+            name: name.to_path_buf(),
             place,
             disc,
+            ledger_file,
+            kept,
             roles,
             ledger,
             role_file,
@@ -106,22 +136,39 @@ impl Session {
         (image, kinds, &mut self.roles, &mut self.ledger)
     }
 
-    /// Whether the roles that are lent are those that the call before left.
+    /// Whether the roles are those that the call before left, or that this command's own
+    /// look back has made.
     pub fn knows_roles(&self) -> bool {
-        matches!(self.role_file, RoleFile::Right(_))
+        matches!(self.role_file, RoleFile::Right(_) | RoleFile::Own)
+    }
+
+    /// The map in the ledger file, if it belongs to this disc: what the call before
+    /// left, whatever this command has done since.
+    pub fn kept_map(&self) -> Option<Map> {
+        self.kept.as_ref().map(|kept| Map::of(kept))
+    }
+
+    /// As the files have it, after a call of several was refused.
+    pub fn take_back(&mut self) {
+        self.disc.take_back();
+        if let Some(kept) = &self.kept {
+            self.ledger.copy_from_slice(&kept[..LEDGER]);
+        }
     }
 
     /// After a call that records nothing.
     pub fn keep_ledger(mut self) -> Done {
         let roles = kept(&self.role_file, &self.roles);
-        keeping::keep_ledger(&mut *self.disk, &self.ledger, &roles)
+        let ledger = marked(&self.disc, &self.ledger);
+        keeping::keep_ledger(&mut *self.disk, &ledger, &roles)
     }
 
     /// After a call that recorded.
     pub fn keep_both(mut self) -> Done {
         let recording = Recording::whole(&self.disc);
         let roles = kept(&self.role_file, &self.roles);
-        keeping::keep_both(&mut *self.disk, &recording, &self.ledger, &roles)
+        let ledger = marked(&self.disc, &self.ledger);
+        keeping::keep_both(&mut *self.disk, &recording, &ledger, &roles)
     }
 
     /// After a call that recorded: so many of its sectors are kept, and perhaps
@@ -136,14 +183,27 @@ impl Session {
     }
 }
 
-/// The ledger in the file; zeros if there is none, which fit no disc: the core
-/// then answers 4, and the advice is to mount first. Of a file that is longer,
-/// one byte too many says so.
-fn kept_ledger(path: &Path) -> Result<Vec<u8>, Failure> {
-    let opened = File::open(path).and_then(|mut file| read_at_most(&mut file, LEDGER + 1));
-    match opened {
-        Err(error) if error.kind() == ErrorKind::NotFound => Ok(vec![0; LEDGER]),
-        read => read.map_err(|error| Failure::unreadable(path, error)),
+/// What is known of the ledger file, and what it holds if it belongs to the disc. Of one
+/// that is longer, one byte too many says so.
+fn kept_ledger(path: &Path, disc: &Disc) -> Result<(LedgerFile, Option<Vec<u8>>), Failure> {
+    let opened = File::open(path).and_then(|mut file| read_at_most(&mut file, MARKED + 1));
+    let file = match opened {
+        Err(error) if error.kind() == ErrorKind::NotFound => {
+            return Ok((LedgerFile::Missing, None))
+        }
+        read => read.map_err(|error| Failure::unreadable(path, error))?,
+    };
+    Ok(match belonging(disc, &file) {
+        Some(_) => (LedgerFile::Right, Some(file)),
+        None => (LedgerFile::Foreign, None),
+    })
+}
+
+/// Of a disc whose ledger is not known.
+fn unknown_roles(path: &Path) -> RoleFile {
+    match fs::symlink_metadata(path) {
+        Err(error) if error.kind() == ErrorKind::NotFound => RoleFile::Missing,
+        _ => RoleFile::Stale,
     }
 }
 
@@ -176,6 +236,6 @@ fn kept<'a>(file: &RoleFile, now: &'a [u8]) -> Roles<'a> {
         RoleFile::Replaced => Roles::Anew(now),
         RoleFile::Right(before) => Roles::Changed(roles::changed(before, now)),
         RoleFile::Stale => Roles::Stale,
-        RoleFile::Missing => Roles::Missing,
+        RoleFile::Missing | RoleFile::Own => Roles::Missing,
     }
 }

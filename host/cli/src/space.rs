@@ -9,10 +9,12 @@ use crate::drawing::{self, Count, Plan, Save};
 use crate::failure::{Done, Failure};
 use crate::form::counted;
 use crate::ledger::Map;
+use crate::looking;
 use crate::making::make;
+use crate::reasons::{refused, Asked};
 use crate::runs::InUse;
 use crate::saves::each_save;
-use crate::session::{Lent, Session};
+use crate::session::Session;
 use crate::surroundings::{say, Surroundings};
 
 /// A line for each role, and the answer in words.
@@ -72,8 +74,8 @@ fn draw_into(file: &Path, plan: &Plan, around: &mut Surroundings) -> Done {
 }
 
 /// The disc with its roles, if these are known.
-fn open(given: &Arguments, around: &Surroundings) -> Result<Session, Failure> {
-    let session = Session::open(given.path(0), Lent::Kept, around)?;
+fn open(given: &Arguments, around: &mut Surroundings) -> Result<Session, Failure> {
+    let session = looking::open(given, around)?;
     match session.knows_roles() {
         true => Ok(session),
         false => Err(Failure::RolesUnknown(given.path(0).to_path_buf())),
@@ -122,6 +124,6 @@ fn saves(session: &Session) -> Result<Vec<Save>, Failure> {
     });
     match told {
         Ok(_) | Err(Refusal::NoVat) => Ok(saves),
-        Err(refusal) => Err(refusal.into()),
+        Err(refusal) => Err(refused(refusal, &Asked::Mount, session)),
     }
 }

@@ -7,11 +7,11 @@ use std::path::{Path, PathBuf};
 
 use station::{Extent, Refusal, SECTOR};
 
-use crate::advice;
 use crate::arguments::Arguments;
 use crate::failure::{Done, Failure};
 use crate::files::{not_whole, read_at_most};
 use crate::form::counted;
+use crate::reasons::{refused, Asked};
 use crate::session::Session;
 use crate::surroundings::{say_aside, Surroundings};
 
@@ -71,8 +71,9 @@ impl Storing {
         let sectors = kinds.len().saturating_sub(self.blocks()).max(used).max(1);
         let (image, kinds) = (&mut image[..sectors * SECTOR], &mut kinds[..sectors]);
         let (roles, ledger) = (&mut vec![0; sectors], &mut session.ledger.clone());
-        station::write(image, kinds, roles, ledger, self.v, &[0; SECTOR]).map_err(refused)?;
+        let written = station::write(image, kinds, roles, ledger, self.v, &[0; SECTOR]);
         session.disc.take_back();
+        written.map_err(|refusal| self.refused(refusal, session))?;
         Ok(())
     }
 
@@ -94,7 +95,7 @@ impl Storing {
             let block = self.block(number)?;
             let (image, kinds, roles, ledger) = session.lent_to_record();
             let recorded = station::write_unnumbered(image, kinds, roles, ledger, &block);
-            next = recorded.map_err(refused)? + 1;
+            next = recorded.map_err(|refusal| self.refused(refusal, session))? + 1;
         }
         let extent = Extent {
             length: self.length as u32,
@@ -102,7 +103,15 @@ impl Storing {
         };
         let entry = station::file_entry(&[extent], next);
         let (image, kinds, roles, ledger) = session.lent_to_record();
-        station::write(image, kinds, roles, ledger, self.v, &entry).map_err(refused)
+        let written = station::write(image, kinds, roles, ledger, self.v, &entry);
+        written.map_err(|refusal| self.refused(refusal, session))
+    }
+
+    /// Told of the disc as it was before the store.
+    fn refused(&self, refusal: Refusal, session: &mut Session) -> Failure {
+        session.take_back();
+        let (v, blocks) = (self.v, self.blocks());
+        refused(refusal, &Asked::Store { v, blocks }, session)
     }
 
     /// The next block of the run, whose number this is; behind its end zeros.
@@ -120,10 +129,6 @@ impl Storing {
         let bytes = counted(self.length, "byte");
         format!("{bytes} in {}", counted(self.blocks(), "block"))
     }
-}
-
-fn refused(refusal: Refusal) -> Failure {
-    Failure::Refused(refusal, advice::of_store(refusal))
 }
 
 /// A file's bytes, and how many there are. What is no file, and what does not tell

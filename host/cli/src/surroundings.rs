@@ -26,6 +26,13 @@ pub fn say(around: &mut Surroundings, text: impl AsRef<[u8]>) -> Done {
     written.map_err(Failure::Output)
 }
 
+/// Tells what a command has done. Where standard output does not take it, it is done all
+/// the same, and that is told instead.
+pub fn say_done(around: &mut Surroundings, text: String) -> Done {
+    let written = around.output.write_all(text.as_bytes());
+    written.map_err(|error| Failure::Untold(text, error))
+}
+
 /// Writes to standard error.
 pub fn say_aside(around: &mut Surroundings, text: impl AsRef<[u8]>) -> Done {
     let written = around.aside.write_all(text.as_ref());

@@ -64,11 +64,16 @@ pub static CLOSE_SESSION: Syntax = Syntax {
     ..plain("close-session", &["DISC"], help::CLOSE_SESSION)
 };
 pub static READ: Syntax = Syntax {
-    options: &[("--to", NAME)],
+    options: &[("--back", NUMBER), ("--to", NAME)],
     ..plain("read", &["DISC", "V"], help::READ)
 };
 pub static VIEW: Syntax = Syntax {
-    options: &[("--offset", NUMBER), ("--length", NUMBER), ("--to", NAME)],
+    options: &[
+        ("--back", NUMBER),
+        ("--offset", NUMBER),
+        ("--length", NUMBER),
+        ("--to", NAME),
+    ],
     ..plain("view", &["DISC", "V"], help::VIEW)
 };
 pub static LOOK_BACK: Syntax = plain("look-back", &["DISC", "K"], help::LOOK_BACK);
@@ -77,9 +82,17 @@ pub static LIST: Syntax = Syntax {
     options: &[("--times", None)],
     ..plain("list", &["DISC"], help::LIST)
 };
-pub static SPACE: Syntax = plain("space", &["DISC"], help::SPACE);
+pub static STATUS: Syntax = plain("status", &["DISC"], help::STATUS);
+pub static CONTENTS: Syntax = Syntax {
+    options: &[("--back", NUMBER)],
+    ..plain("contents", &["DISC"], help::CONTENTS)
+};
+pub static SPACE: Syntax = Syntax {
+    options: &[("--back", NUMBER)],
+    ..plain("space", &["DISC"], help::SPACE)
+};
 pub static MAP: Syntax = Syntax {
-    options: &[("--svg", NAME)],
+    options: &[("--back", NUMBER), ("--svg", NAME)],
     ..plain("map", &["DISC"], help::MAP)
 };
 pub static IMPORT: Syntax = Syntax {
@@ -92,6 +105,7 @@ pub static CUT: Syntax = Syntax {
     takes_command: true,
     ..plain("cut", &["J", "COMMAND"], help::CUT)
 };
+pub static EXPLAIN: Syntax = plain("explain", &["N"], help::EXPLAIN);
 pub static DEMO: Syntax = Syntax {
     options: &[("--keep", NAME)],
     ..plain("demo", &[], help::DEMO)

@@ -8,16 +8,19 @@ use crate::arguments::Arguments;
 use crate::failure::{Done, Failure};
 use crate::files::put;
 use crate::form::Disc;
-use crate::session::{Lent, Session};
+use crate::looking;
+use crate::reasons::{refused, Asked};
+use crate::session::Session;
 use crate::surroundings::{say, Surroundings};
 
 pub fn read(given: &Arguments, around: &mut Surroundings) -> Done {
     let v = given.number(1)?;
-    let session = Session::open(given.path(0), Lent::Kept, around)?;
+    let session = looking::open(given, around)?;
     let to = destination(given, &session)?;
     let mut block = [0; SECTOR];
     let (image, kinds) = session.disc.lent();
-    station::read(image, kinds, &session.ledger, v, &mut block)?;
+    let read = station::read(image, kinds, &session.ledger, v, &mut block);
+    read.map_err(|refusal| refused(refusal, &Asked::Read(v), &session))?;
     drop(session);
     match to {
         Some(file) => put(file, |out| out(&block)),
@@ -31,12 +34,14 @@ pub fn view(given: &Arguments, around: &mut Surroundings) -> Done {
     let v = given.number(1)?;
     let offset = given.option_long("--offset")?.unwrap_or(0);
     let length = given.option_long("--length")?.unwrap_or(u64::MAX);
-    let session = Session::open(given.path(0), Lent::Kept, around)?;
+    let session = looking::open(given, around)?;
     let to = destination(given, &session)?;
+    // A refusal comes before a file is made for the bytes.
+    let (image, kinds) = session.disc.lent();
+    let shown = station::view(image, kinds, &session.ledger, v, offset, &mut []);
+    shown.map_err(|refusal| refused(refusal, &Asked::View { v, offset }, &session))?;
     let (disc, ledger) = session.free()?;
     let run = Run { disc, ledger, v };
-    // A refusal comes before a file is made for the bytes.
-    run.fill(offset, &mut [])?;
     match to {
         Some(file) => put(file, |out| run.give(offset, length, out)),
         None => run.give(offset, length, &mut |bytes| say(around, bytes)),
@@ -63,8 +68,10 @@ impl Run {
     /// Its bytes from an offset on, as far as it goes; how many there are.
     fn fill(&self, offset: u64, buffer: &mut [u8]) -> Result<usize, Failure> {
         let (image, kinds) = self.disc.lent();
-        let filled = station::view(image, kinds, &self.ledger, self.v, offset, buffer)?;
-        Ok(filled as usize)
+        let filled = station::view(image, kinds, &self.ledger, self.v, offset, buffer);
+        // It was shown before, and what is recorded stays; its disk may fail.
+        let lost = |refusal| Failure::Refused(refusal, "The run cannot be read any more.".into());
+        Ok(filled.map_err(lost)? as usize)
     }
 
     /// Gives at most so many out, piece by piece: a run may be longer than the memory.

@@ -5,11 +5,11 @@ use std::path::Path;
 
 use station::{Timestamp, SECTOR};
 
-use crate::advice;
 use crate::arguments::Arguments;
 use crate::clock;
 use crate::failure::Failure;
 use crate::files::read_at_most;
+use crate::reasons::{refused, Asked};
 use crate::session::Session;
 use crate::stamps;
 use crate::surroundings::Surroundings;
@@ -48,16 +48,17 @@ impl Writing {
     /// The block recorded.
     pub fn record(&self, session: &mut Session) -> Result<u32, Failure> {
         let (image, kinds, roles, ledger) = session.lent_to_record();
-        let block = &self.block;
-        station::write(image, kinds, roles, ledger, self.v, block)
-            .map_err(|refusal| Failure::Refused(refusal, advice::of_write(refusal, block)))
+        let (v, bytes) = (self.v, self.block.len());
+        let recorded = station::write(image, kinds, roles, ledger, v, &self.block);
+        recorded.map_err(|refusal| refused(refusal, &Asked::Write { v, bytes }, session))
     }
 }
 
 /// Which time a save carries.
 pub enum Saving {
     Without,
-    At(Timestamp),
+    /// As it was typed, too.
+    At(Timestamp, String),
     Now,
 }
 
@@ -65,7 +66,10 @@ impl Saving {
     pub fn of(given: &Arguments) -> Result<Saving, Failure> {
         match (given.option_time("--at")?, given.has("--now")) {
             (None, false) => Ok(Saving::Without),
-            (Some(time), false) => Ok(Saving::At(time)),
+            (Some(time), false) => {
+                let typed = given.value("--at").unwrap_or_default();
+                Ok(Saving::At(time, typed.to_string_lossy().into()))
+            }
             (None, true) => Ok(Saving::Now),
             (Some(_), true) => {
                 let fault = "a save has one time: give --at or --now, not both";
@@ -79,7 +83,7 @@ impl Saving {
     fn stamp(&self) -> Option<Timestamp> {
         match self {
             Saving::Without => None,
-            Saving::At(time) => Some(*time),
+            Saving::At(time, _) => Some(*time),
             Saving::Now => Some(stamps::of_clock(&clock::now())),
         }
     }
@@ -91,6 +95,10 @@ impl Saving {
             None => station::commit(image, kinds, roles, ledger),
             Some(stamp) => station::commit_at(image, kinds, roles, ledger, &stamp.to_bytes()),
         };
-        table.map_err(|refusal| Failure::Refused(refusal, advice::of_commit(refusal)))
+        let typed = match self {
+            Saving::At(_, typed) => Some(typed.as_str()),
+            Saving::Without | Saving::Now => None,
+        };
+        table.map_err(|refusal| refused(refusal, &Asked::Commit(typed), session))
     }
 }

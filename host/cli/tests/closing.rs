@@ -3,7 +3,7 @@
 
 mod common;
 
-use common::{disc_file, padded, role_file, Folder, Told, CLOSE_SESSION};
+use common::{disc_file, padded, Folder, Told, CLOSE_SESSION};
 use station::{Extent, LEDGER, SECTOR};
 
 const WORD: &str = "station: closing run.disc: after this nothing can be recorded on it any more\n";
@@ -19,7 +19,8 @@ fn told(folder: &Folder, line: &str) -> (String, String) {
 #[test]
 fn the_word_before_and_the_answer() {
     let folder = Folder::to_be_closed(300);
-    let answer = "saved and closed, pointer at block 3, table at block 259\n";
+    let answer = "saved and closed, pointer at block 3, table at block 259: \
+                  2 numbers in use, 1 new since the last save: 1\n";
     assert_eq!(told(&folder, CLOSE_SESSION), (answer.into(), WORD.into()));
     let recorded = "1".repeat(260);
     assert_eq!(folder.kinds(), format!("{recorded:0<300}"));
@@ -33,7 +34,8 @@ fn the_word_before_and_the_answer() {
 fn behind_links() {
     let folder = Folder::to_be_closed(300);
     folder.done("close run.disc");
-    let answer = "saved and closed, pointer at block 10, table at block 266\n";
+    let answer = "saved and closed, pointer at block 10, table at block 266: \
+                  2 numbers in use, 1 new since the last save: 1\n";
     assert_eq!(told(&folder, CLOSE_SESSION), (answer.into(), WORD.into()));
     let recorded = format!("1112222222{}", "1".repeat(257));
     assert_eq!(folder.kinds(), format!("{recorded:0<300}"));
@@ -48,7 +50,8 @@ fn as_a_terminal_shows_it() {
         CLOSE_SESSION.replace("run.disc", "./run.disc")
     );
     let shown = "station: closing ./run.disc: after this nothing can be recorded on it any more\n\
-                 saved and closed, pointer at block 3, table at block 259\n";
+                 saved and closed, pointer at block 3, table at block 259: \
+                  2 numbers in use, 1 new since the last save: 1\n";
     assert_eq!(folder.shell(&line), shown);
 }
 
@@ -69,8 +72,7 @@ fn files_hold_what_the_core_leaves() {
     station::write(i, k, r, l, 1, &padded("run B")).expect("write");
     station::close_session(i, k, r, l, extent(96), extent(240), 257).expect("close session");
     assert!(folder.bytes("run.disc") == disc_file(&kinds, &image));
-    assert!(folder.bytes("run.disc.ledger") == ledger);
-    assert!(folder.bytes("run.disc.roles") == role_file(&ledger, &roles));
+    assert!(folder.ledger() == ledger && folder.roles() == roles);
     let numbers = [257 + 3, 32768, 96, 32768, 240].map(u32::to_le_bytes);
     assert_eq!(folder.sector(3)[12..32], numbers.concat());
 }
@@ -171,7 +173,8 @@ fn nearly_closed_discs() {
 
 fn is_open(folder: &Folder) {
     let mounted = "clean, table at block 259\nsize 2, 2 in use: 0 to 1\n";
-    assert_eq!(folder.done("mount run.disc"), mounted);
+    let told = folder.done("mount run.disc");
+    assert!(told.starts_with(mounted) && !told.contains(CLOSED));
     assert!(folder.done("list run.disc").ends_with("clean\n"));
     folder.done("commit run.disc");
 }

@@ -5,7 +5,7 @@ mod common;
 use std::fs;
 use std::os::unix::fs::{symlink, MetadataExt};
 
-use common::{disc_file, padded, role_file, Folder};
+use common::{disc_file, padded, Folder};
 use station::{LEDGER, SECTOR};
 
 #[test]
@@ -40,15 +40,18 @@ fn document_01s_example_step_by_step() {
     let folder = Folder::new();
     folder.done("new run.disc 31");
     assert_eq!(folder.done("begin run.disc"), "begun, size 0\n");
-    assert_eq!(folder.bytes("run.disc.ledger").len(), LEDGER);
     assert_eq!(folder.write(0, "run A"), "block 0\n");
-    assert_eq!(folder.done("commit run.disc"), "saved, table at block 1\n");
+    let saved = "saved, table at block 1: 1 number in use, 1 new: 0\n";
+    assert_eq!(folder.done("commit run.disc"), saved);
     assert_eq!(folder.write(1, "run B"), "block 2\n");
     assert_eq!(folder.done("release run.disc 0"), "released 0\n");
-    assert_eq!(folder.done("commit run.disc"), "saved, table at block 3\n");
+    let saved = "saved, table at block 3: 1 number in use, 1 new since the last save: 1; \
+                 1 released: 0\n";
+    assert_eq!(folder.done("commit run.disc"), saved);
     assert_eq!(folder.done("close run.disc"), "packet closed\n");
     assert_eq!(folder.done("close run.disc"), "packet closed\n");
-    assert_eq!(folder.done("commit run.disc"), "saved, table at block 11\n");
+    let saved = "saved, table at block 11: 1 number in use, none new since the last save\n";
+    assert_eq!(folder.done("commit run.disc"), saved);
     assert_eq!(folder.kinds(), "1111222222210000000000000000000");
     assert_eq!(
         folder.names(),
@@ -72,8 +75,7 @@ fn files_hold_what_the_core_leaves() {
     station::close_packet(i, k, r, l).expect("close packet");
     station::commit(i, k, r, l).expect("commit");
     assert!(folder.bytes("run.disc") == disc_file(&kinds, &image));
-    assert!(folder.bytes("run.disc.ledger") == ledger);
-    assert!(folder.bytes("run.disc.roles") == role_file(&ledger, &roles));
+    assert!(folder.ledger() == ledger && folder.roles() == roles);
 }
 
 #[test]
@@ -87,7 +89,8 @@ fn mount_tells_the_last_finished_save() {
     }
     folder.done("release run.disc 1");
     folder.done("release run.disc 6");
-    let unsaved = "dirty, table at block 0\nsize 0, 0 in use\n";
+    let unsaved = "dirty, table at block 0\nsize 0, 0 in use\n\
+                   6 numbers written since the last save are left out: 0, 2 to 5, 7\n";
     let before = folder.bytes("run.disc.ledger");
     assert_eq!(folder.done("mount run.disc"), unsaved);
     // Mounting dropped what was not saved; this ledger still has it.

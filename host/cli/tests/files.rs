@@ -96,13 +96,7 @@ fn files_that_are_missing_or_no_files() {
     }
     let told = folder.fails("store run.disc 0 --from .", 66);
     assert!(told.starts_with("station: . cannot be read: "), "{told}");
-    assert_eq!(
-        folder
-            .fails("read run.disc 0 --to nowhere/shown", 10)
-            .lines()
-            .count(),
-        2
-    );
+    folder.fails("read run.disc 0 --to nowhere/shown", 10);
     folder.write(0, "run A");
     assert!(folder
         .fails("read run.disc 0 --to nowhere/shown", 73)
@@ -283,11 +277,57 @@ fn stores_at_once() {
     assert_eq!(folder.kinds().matches('1').count(), 32);
 }
 
+/// What was done is told where standard output does not take it, and the exit status says
+/// that it was not told there.
+#[test]
+fn what_is_done_is_told_all_the_same() {
+    let folder = Folder::example();
+    let start = "station: this is done, but standard output does not take the answer: ";
+    for (line, done) in [
+        (
+            "commit",
+            "saved, table at block 12: 1 number in use, none new since the last save\n",
+        ),
+        ("close", "packet closed\n"),
+        ("mount", "clean, table at block 12\nsize 2, 1 in use: 1\n"),
+    ] {
+        let told = folder.shell(&format!("station {line} run.disc > /dev/full; echo $?"));
+        assert!(told.starts_with(start), "{told}");
+        assert!(told.ends_with(&format!("\n{done}74\n")), "{told}");
+    }
+    assert!(folder.done("list run.disc").contains("      12 "));
+}
+
+/// A reader that has seen enough, as head has, is no failure; what a listing ends with is
+/// still told.
+#[test]
+fn a_reader_that_closes_the_pipe() {
+    let folder = Folder::saved_at(400, &["2026-11-15T14:05"; 300]);
+    let piped = |line: &str| {
+        let shell = format!("bash -c 'set -o pipefail; station {line}; echo $?'");
+        folder.shell(&shell)
+    };
+    let heading = "   k   block  size  used";
+    assert_eq!(
+        piped("list run.disc | head -n 1"),
+        format!("{heading}\n0\n")
+    );
+    folder.done_with("store run.disc 0", &[7; 90 * 2048]);
+    assert_eq!(piped("view run.disc 0 | head -c 1"), "\x070\n");
+    assert_eq!(piped("commit run.disc | true"), "0\n");
+    folder.set_kind(290, b'3');
+    let told = piped("list run.disc | head -n 1");
+    assert!(
+        told.contains("station: refusal 8: ") && told.ends_with("\n8\n"),
+        "{told}"
+    );
+}
+
 /// An answer that nobody can take.
 #[test]
 fn standard_output_fails() {
     let folder = Folder::example();
-    let told = folder.shell("station mount run.disc > /dev/full; echo $?");
+    let told = folder.shell("station list run.disc > /dev/full; echo $?");
     assert!(told.starts_with("station: no answer can be told"), "{told}");
     assert!(told.ends_with("\n74\n"), "{told}");
     assert_eq!(folder.shell("station read run.disc 1 | true"), "");

@@ -67,10 +67,8 @@ fn an_imported_disc_is_mounted_and_recorded_on() {
     assert_eq!(folder.done("mount deck.disc"), mounted);
     assert!(folder.done_with("read deck.disc 1", b"") == padded("run B"));
     folder.done_with("write deck.disc 2 --pad", b"run C");
-    assert_eq!(
-        folder.done("commit deck.disc"),
-        "saved, table at block 20\n"
-    );
+    let saved = "saved, table at block 20: 2 numbers in use, 1 new since the last save: 2\n";
+    assert_eq!(folder.done("commit deck.disc"), saved);
     assert!(folder.done_with("read deck.disc 2", b"") == padded("run C"));
     let told = folder.done("export deck.disc back.img");
     assert_eq!(told, "21 sectors exported, 7 without data, as zeros\n");
@@ -88,7 +86,8 @@ fn an_imported_disc_without_a_save() {
     assert_eq!(told, "1 sector imported, 29 blank\n");
     folder.fails("mount deck.disc", 7);
     folder.done("begin deck.disc");
-    assert_eq!(folder.done("commit deck.disc"), "saved, table at block 8\n");
+    let saved = "saved, table at block 8: 0 numbers in use, none new\n";
+    assert_eq!(folder.done("commit deck.disc"), saved);
     folder.done("import deck.img full.disc --start 0");
     folder.done("begin full.disc");
     folder.fails("commit full.disc", 14);

@@ -65,7 +65,8 @@ fn a_broken_disc() {
     let (text, status, told) = listed(&folder);
     assert_eq!((text.as_str(), status), (broken, 8));
     assert!(told.starts_with("station: refusal 8: "), "{told}");
-    // Broken, and dirty as well.
+    // Broken, and dirty as well. The ledger was kept for a disc that was whole.
+    folder.run("mount run.disc");
     folder.write(0, "run C");
     assert_eq!(listed(&folder).0, broken);
 }

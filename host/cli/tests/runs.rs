@@ -5,7 +5,7 @@ mod common;
 use std::fs::{self, File};
 use std::os::unix::fs::symlink;
 
-use common::{disc_file, role_file, Folder};
+use common::{disc_file, Folder};
 use station::{Extent, LEDGER, SECTOR};
 
 /// Bytes that differ from place to place and from block to block.
@@ -73,8 +73,7 @@ fn files_hold_what_the_core_leaves() {
     };
     station::write(i, k, r, l, 1, &station::file_entry(&[extent], 10)).expect("write");
     assert!(folder.bytes("run.disc") == disc_file(&kinds, &image));
-    assert!(folder.bytes("run.disc.ledger") == ledger);
-    assert!(folder.bytes("run.disc.roles") == role_file(&ledger, &roles));
+    assert!(folder.ledger() == ledger && folder.roles() == roles);
 }
 
 #[test]
@@ -178,7 +177,8 @@ fn a_view_leaves_the_disc_free() {
     store(&folder, 0, &run(3_000_000));
     let told =
         folder.shell("station view run.disc 0 | (timeout 60 station commit run.disc; wc -c)");
-    assert_eq!(told, "saved, table at block 1466\n3000000\n");
+    let saved = "saved, table at block 1466: 1 number in use, 1 new: 0";
+    assert_eq!(told, format!("{saved}\n3000000\n"));
 }
 
 /// All blocks, the entry, and 8 sectors that a write leaves, or 264; 7 links where
@@ -195,7 +195,13 @@ fn the_room_for_a_run() {
             let most = (sectors - 1 - links - 1 - left) * SECTOR;
             folder.put("long", &run(most + 1));
             let told = folder.fails("store run.disc 0 --from long", 14);
-            assert!(told.contains("store the run on another disc"), "{told}");
+            let (blank, takes) = (sectors - 1, links + (most / SECTOR + 1) + 1);
+            let start = format!("refusal 14: {blank} sectors are blank; this store takes {takes}");
+            assert!(told.contains(&start), "{told}");
+            assert!(
+                told.contains(&format!("must leave {left}. Commit")),
+                "{told}"
+            );
             store(&folder, 0, &run(most));
             assert!(view(&folder, "0") == run(most));
             folder.fails_with("store run.disc 1", b"run B", 14);

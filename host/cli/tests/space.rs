@@ -6,8 +6,8 @@ mod common;
 use std::fs;
 use std::os::unix::fs::{MetadataExt, PermissionsExt};
 
-use common::{disc_file, role_file, Folder, CLOSE_SESSION};
-use station::{LEDGER, SECTOR};
+use common::{disc_file, Folder, CLOSE_SESSION, LEDGER_FILE};
+use station::SECTOR;
 use station_model::answer::Answer;
 use station_model::calls::Call;
 use station_model::disc::Disc;
@@ -26,9 +26,7 @@ blank                  19    61.3 %
 
 /// The roles in the file, as digits.
 fn roles(folder: &Folder) -> String {
-    let file = folder.bytes("run.disc.roles");
-    assert!(file[..LEDGER] == folder.bytes("run.disc.ledger"));
-    file[LEDGER..].iter().map(u8::to_string).collect()
+    folder.roles().iter().map(u8::to_string).collect()
 }
 
 /// Roles that are known, with the rest blank.
@@ -41,8 +39,11 @@ fn has(folder: &Folder, recorded: &str) {
 fn unknown(folder: &Folder) {
     for line in ["space run.disc", "map run.disc", "map run.disc --svg x.svg"] {
         let told = folder.fails(line, 69);
-        let start = "station: where the space of run.disc went is not known\nMount the disc, ";
-        assert!(told.starts_with(start), "{told}");
+        let start = "station: where the space of run.disc went";
+        assert!(
+            told.starts_with(start) && told.contains("--back 0"),
+            "{told}"
+        );
     }
 }
 
@@ -123,9 +124,9 @@ fn kept_up_as_worked_out_afresh() {
         }
         let file = folder.bytes("run.disc");
         let disc = Disc::lent(&file[9 + kinds.len() + 1..], &kinds).expect("a disc");
-        let volume = Volume::load(&folder.bytes("run.disc.ledger")).expect("a ledger");
+        let volume = Volume::load(&folder.ledger()).expect("a ledger");
         let afresh = since.roles(&disc, &volume);
-        assert_eq!(folder.bytes("run.disc.roles")[LEDGER..], afresh, "{line}");
+        assert_eq!(folder.roles(), afresh, "{line}");
         folder.done("space run.disc");
     }
     assert!(done > 80, "{done}");
@@ -187,15 +188,15 @@ fn a_role_file_that_is_not_the_ledgers() {
         whole.bytes("run.disc.ledger"),
     );
     let mut contradicted = file.clone();
-    contradicted[LEDGER + 1] = 6;
+    contradicted[LEDGER_FILE + 1] = 6;
     let mut no_role = file.clone();
-    no_role[LEDGER] = 7;
+    no_role[LEDGER_FILE] = 7;
     let wrong = [
         b"".to_vec(),
-        file[..LEDGER].to_vec(),
+        file[..LEDGER_FILE].to_vec(),
         file[..file.len() - 1].to_vec(),
         [&file[..], &[6]].concat(),
-        role_file(&[0; LEDGER], &file[LEDGER..]),
+        [&[0; LEDGER_FILE], &file[LEDGER_FILE..]].concat(),
         contradicted,
         no_role,
     ];
@@ -219,7 +220,8 @@ fn a_role_file_that_is_not_the_ledgers() {
     unknown(&whole);
     whole.put("run.disc.ledger", &ledger);
     unknown(&whole);
-    whole.put("run.disc.roles", &role_file(&newer, &file[LEDGER..]));
+    let roles = [&newer, &file[LEDGER_FILE..]].concat();
+    whole.put("run.disc.roles", &roles);
     whole.put("run.disc.ledger", &newer);
     unknown(&whole);
 }

@@ -40,10 +40,7 @@ fn asking_for_a_time_that_is_not_there() {
     folder.done("commit run.disc --at 2026-11-15T14:05Z");
     folder.done("commit run.disc --at 2026-11-15T15:05Z");
     let told = folder.fails("time run.disc 2", 16);
-    assert!(
-        told.ends_with("list --times shows which carry one.\n"),
-        "{told}"
-    );
+    assert!(told.contains("The save 2 back carries no time"), "{told}");
     folder.fails("time run.disc 3", 9);
     folder.fails("time run.disc 4294967295", 9);
     folder.set_kind(0, b'3');

@@ -10,7 +10,7 @@ use std::os::unix::process::ExitStatusExt;
 use std::path::PathBuf;
 use std::process::{Command, Stdio};
 
-use common::{disc_file, role_file, Folder, CLOSE_SESSION, STATION};
+use common::{disc_file, Folder, CLOSE_SESSION, STATION};
 use station::{LEDGER, SECTOR};
 
 /// Every call by which the program, or a library below it, could change a file. A
@@ -119,8 +119,8 @@ fn believed_roles(folder: &Folder) -> Option<Vec<u8>> {
 }
 
 /// What a mount, a listing, two reads and a look back say, but for whether
-/// something stands behind the newest save. Where there is none, reads would show
-/// what is not saved.
+/// something stands behind the newest save, and what of it a ledger still knows; of a
+/// refusal its number. Where there is no save, reads would show what is not saved.
 fn shown(folder: &Folder) -> Vec<String> {
     let lines = "mount run.disc;list run.disc;read run.disc 0;read run.disc 1;\
                  look-back run.disc 1;read run.disc 0";
@@ -129,7 +129,9 @@ fn shown(folder: &Folder) -> Vec<String> {
         let told = folder.run(line.trim());
         let text = String::from_utf8_lossy(&told.out);
         let text = text.replace("clean", "").replace("dirty", "");
-        shown.push(format!("{} {text}{}", told.status, told.err));
+        let left_out = |line: &&str| line.contains("since the last save");
+        let text: Vec<&str> = text.lines().filter(|line| !left_out(line)).collect();
+        shown.push(format!("{} {}", told.status, text.join("\n")));
         if told.status == 7 && line.starts_with("list") {
             break;
         }
@@ -395,9 +397,7 @@ fn recorded(sectors: usize, recorded: usize) -> Folder {
     }
     let folder = Folder::new();
     folder.put("run.disc", &disc_file(&kinds, &image));
-    folder.put("run.disc.ledger", &ledger);
-    folder.put("run.disc.roles", &role_file(&ledger, &roles));
-    folder.done("close run.disc");
+    folder.done("mount run.disc");
     folder
 }
 

@@ -9,7 +9,7 @@ use std::process::Command;
 use common::{Folder, STATION};
 use station::SECTOR;
 
-const COMMANDS: [&str; 20] = [
+const COMMANDS: [&str; 23] = [
     "new",
     "begin",
     "mount",
@@ -24,11 +24,14 @@ const COMMANDS: [&str; 20] = [
     "look-back",
     "time",
     "list",
+    "status",
+    "contents",
     "space",
     "map",
     "import",
     "export",
     "cut",
+    "explain",
     "demo",
 ];
 

@@ -12,6 +12,7 @@ use super::RUN;
 use crate::form::Disc;
 use crate::ledger::Map;
 use crate::listing::listing;
+use crate::mark;
 use crate::roles;
 
 /// The first blank sector.
@@ -36,21 +37,22 @@ pub fn is_a_cut(left: &Disc, before: &Disc, after: &Disc) {
 /// A state, with its disc as a command loads it.
 pub type Loaded<'a> = (&'a State, &'a Disc);
 
-/// The ledger is that of before or after. A new one never comes before its disc,
-/// and an old one is refused as soon as a sector is recorded.
+/// The ledger is that of before or after, and belongs to the disc. A new one never comes
+/// before its disc, and an old one is refused as soon as a sector is recorded.
 pub fn ledger_is_safe(left: Loaded, before: Loaded, after: Loaded) {
     let recorded_by = |other: Loaded| recorded(left.1) == recorded(other.1);
     let Some(ledger) = &left.0.ledger else {
         let lost = after.0.ledger.is_none() || before.0.ledger.is_none();
         return assert!(lost, "a ledger is lost, and no cut was asked for");
     };
+    let ledger = mark::belonging(left.1, ledger).expect("a ledger of this disc");
     if left.0.ledger != before.0.ledger {
         assert!(left.0.ledger == after.0.ledger, "a ledger of no command");
         assert!(recorded_by(after), "a ledger that is ahead of its disc");
     } else if !recorded_by(before) {
         let (image, kinds) = left.1.lent();
         let scratch = &mut vec![0; kinds.len()];
-        let answer = station::close_packet(image, kinds, scratch, &mut ledger.clone());
+        let answer = station::close_packet(image, kinds, scratch, &mut ledger.to_vec());
         assert_eq!(answer, Err(Refusal::LedgerUnfit));
     }
 }

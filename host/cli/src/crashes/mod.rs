@@ -22,6 +22,7 @@ use station_model::calls::Call;
 use crate::commands::run;
 use crate::failure::Done;
 use crate::form::Disc;
+use crate::mark::marked;
 use crate::screen::Screen;
 use crate::surroundings::Surroundings;
 use noted::{states, Noted, State, Step, Steps};
@@ -87,11 +88,15 @@ impl Desk {
         let digits: String = kinds.iter().map(u8::to_string).collect();
         let mut file = format!("{sectors:8}\n{digits}\n").into_bytes();
         file.extend(image);
-        desk.put(&State {
+        let mut state = State {
             disc: file,
-            roles: Some([&ledger[..], &roles].concat()),
-            ledger: Some(ledger.to_vec()),
-        });
+            ledger: None,
+            roles: None,
+        };
+        let ledger = marked(&desk.disc_of(&state), &ledger);
+        state.roles = Some([&ledger[..], &roles].concat());
+        state.ledger = Some(ledger);
+        desk.put(&state);
         desk
     }
 

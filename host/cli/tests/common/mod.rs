@@ -14,7 +14,7 @@ use std::process::{self, Command, Stdio};
 use std::sync::atomic::{AtomicUsize, Ordering};
 use std::sync::Mutex;
 
-use station::SECTOR;
+use station::{LEDGER, SECTOR};
 
 pub const STATION: &str = env!("CARGO_BIN_EXE_station");
 
@@ -25,6 +25,9 @@ pub const EXAMPLE_LISTING: &str = "   k   block  size  used
    2       1     1     1
 clean
 ";
+
+/// Bytes of a ledger file: the ledger, and the mark of the disc that it belongs to.
+pub const LEDGER_FILE: usize = LEDGER + 8;
 
 /// A closing, with the numbers of a disc of mkudffs.
 pub const CLOSE_SESSION: &str =
@@ -259,6 +262,20 @@ impl Folder {
         folder
     }
 
+    /// The ledger beside `run.disc`, without the mark of the disc behind it.
+    pub fn ledger(&self) -> Vec<u8> {
+        let file = self.bytes("run.disc.ledger");
+        assert_eq!(file.len(), LEDGER_FILE);
+        file[..LEDGER].to_vec()
+    }
+
+    /// The roles beside `run.disc`, without the copy of the ledger file before them.
+    pub fn roles(&self) -> Vec<u8> {
+        let file = self.bytes("run.disc.roles");
+        assert!(file.starts_with(&self.bytes("run.disc.ledger")));
+        file[LEDGER_FILE..].to_vec()
+    }
+
     /// One sector's bytes of `run.disc`.
     pub fn sector(&self, block: usize) -> Vec<u8> {
         let file = self.bytes("run.disc");
@@ -320,9 +337,4 @@ pub fn disc_file(kinds: &[u8], image: &[u8]) -> Vec<u8> {
     file.push(b'\n');
     file.extend(image);
     file
-}
-
-/// The role file of this ledger and these roles.
-pub fn role_file(ledger: &[u8], roles: &[u8]) -> Vec<u8> {
-    [ledger, roles].concat()
 }
