@@ -45,7 +45,7 @@ pub fn parse(command: &'static Syntax, words: &[OsString]) -> Result<Asked, Fail
     let mut options_end = false;
     while let Some(word) = words.next() {
         let dashed = word.as_bytes().starts_with(b"-") && word != "-";
-        let is_option = dashed && !options_end && !given.wants_number_like(word);
+        let is_option = dashed && !options_end && !given.takes_as_number(word);
         if is_option && (word == "-h" || word == "--help") {
             return Ok(Asked::Help);
         } else if is_option && word == "--" {
@@ -66,7 +66,7 @@ pub fn parse(command: &'static Syntax, words: &[OsString]) -> Result<Asked, Fail
 impl Arguments {
     /// Whether the word is a number below zero where the next operand is a number: it
     /// is told as one that is too small, and not as an option.
-    fn wants_number_like(&self, word: &OsStr) -> bool {
+    fn takes_as_number(&self, word: &OsStr) -> bool {
         let next = self.command.operands.get(self.operands.len());
         next.is_some_and(|next| is_number(next)) && word.to_str().is_some_and(is_below_zero)
     }

@@ -46,4 +46,6 @@ pub struct Plan<'a> {
     pub in_use: &'a InUse,
     /// Newest first.
     pub saves: &'a [Save],
+    /// What is told of the whole, or nothing.
+    pub note: &'a str,
 }

@@ -21,9 +21,13 @@ use crate::surroundings::{say, Surroundings};
 pub fn space(given: &Arguments, around: &mut Surroundings) -> Done {
     let session = open(given, around)?;
     let in_use = in_use(&session);
-    let text = in_words(&session.roles, &in_use) + &looking_at(&session);
+    let text = in_words(&session.roles, &in_use);
+    let note = looking_at(&session);
     drop(session);
-    say(around, text)
+    match note.is_empty() {
+        true => say(around, text),
+        false => say(around, format!("{text}{note}\n")),
+    }
 }
 
 /// The disc drawn for the terminal, or as a picture in a file.
@@ -35,7 +39,7 @@ pub fn map(given: &Arguments, around: &mut Surroundings) -> Done {
     }
     let saves = saves(&session)?;
     let in_use = in_use(&session);
-    let looking = looking_at(&session);
+    let note = looking_at(&session);
     let roles = session.roles.clone();
     drop(session);
     let name = given.path(0).file_name().unwrap_or_default();
@@ -44,6 +48,7 @@ pub fn map(given: &Arguments, around: &mut Surroundings) -> Done {
         roles: &roles,
         in_use: &in_use,
         saves: &saves,
+        note: &note,
     };
     match (given.has("--svg"), file) {
         (true, Some(file)) => draw_into(file, &plan, around),
@@ -54,7 +59,7 @@ pub fn map(given: &Arguments, around: &mut Surroundings) -> Done {
                 true => drawing::colours(&plan, screen.width),
                 false => drawing::letters(&plan, screen.width),
             };
-            say(around, drawn + &looking)
+            say(around, drawn)
         }
     }
 }
@@ -96,12 +101,12 @@ fn in_words(roles: &[u8], in_use: &InUse) -> String {
     format!("{lines}{}\n", drawing::answer(&count))
 }
 
-/// The line that is told while looking back; else nothing.
+/// What is told while looking back; else nothing.
 fn looking_at(session: &Session) -> String {
     let map = Map::of(&session.ledger);
     match map.looking {
         true => format!(
-            "Looking only: in use is what the save at block {} names.\n",
+            "Looking only: in use is what the save at block {} names.",
             map.table
         ),
         false => String::new(),

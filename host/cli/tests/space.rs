@@ -293,8 +293,13 @@ fn looking_back() {
     for told in [folder.done("space run.disc"), folder.done("map run.disc")] {
         assert!(told.ends_with(line), "{told}");
     }
+    assert!(folder
+        .done("map run.disc --svg -")
+        .contains(line.trim_end()));
     folder.done("mount run.disc");
-    assert!(!folder.done("space run.disc").contains("Looking"));
+    for told in ["space run.disc", "map run.disc", "map run.disc --svg -"] {
+        assert!(!folder.done(told).contains("Looking"));
+    }
 }
 
 /// What can be asked of a disc without a save, and of one that is no disc.

@@ -54,7 +54,7 @@ pub fn svg(plan: &Plan) -> String {
     if squares.group > 1 {
         marks(&mut out, below);
     }
-    foot(&mut out, squares.group);
+    foot(&mut out, squares.group, plan.note);
     out.push_str(&squares.drawn());
     out.push_str("</svg>\n");
     out
@@ -127,7 +127,8 @@ fn marks(out: &mut String, y: f64) {
     }
 }
 
-fn foot(out: &mut String, group: usize) {
+/// On a screen also what the pointer is good for.
+fn foot(out: &mut String, group: usize, note: &str) {
     let cell_is = match group {
         1 => "One cell is one sector.".into(),
         _ => format!(
@@ -135,10 +136,11 @@ fn foot(out: &mut String, group: usize) {
             number_of(group)
         ),
     };
-    let words = cell_is
-        + " At the left of a row is its first block. At the right are the saves in it, counted \
-           back from the newest, which has a ring.";
-    let words = balanced(&words, 180);
+    let words = format!(
+        "{cell_is} At the left of a row is its first block. At the right are the saves in it, \
+         counted back from the newest, which has a ring. {note}"
+    );
+    let words = balanced(words.trim_end(), 180);
     lines(out, FOOT, (LEFT, 1094.0), 24.0, &words);
     out.push_str("<g class=\"on-screen\">\n");
     FOOT.write(out, LEFT, 1094.0 + words.len() as f64 * 24.0, POINTER);

@@ -56,7 +56,7 @@ fn of_square(plan: &Plan, blocks: Range<usize>) -> Stretch {
     let words = held.into_iter().map(|shown| {
         let more = more(plan, &blocks, shown);
         match alike {
-            true => alone(shown, more),
+            true => alone(shown, more, &count),
             false => among_others(count.drawn(shown), shown, more),
         }
     });
@@ -68,11 +68,17 @@ fn of_square(plan: &Plan, blocks: Range<usize>) -> Stretch {
     }
 }
 
-fn alone(shown: Shown, more: Option<String>) -> String {
-    match (shown, more) {
-        (Shown::Part, Some(run)) => format!("part of {run}"),
-        (_, Some(more)) => format!("{shown}, {more}"),
-        (_, None) => shown.to_string(),
+/// Of a part its role is told too, if all have the same.
+fn alone(shown: Shown, more: Option<String>, count: &Count) -> String {
+    let parts = count.drawn(Shown::Part);
+    let role = Role::ALL
+        .into_iter()
+        .find(|role| count.parts.count(*role) == parts);
+    match (shown, more, role) {
+        (Shown::Part, Some(run), Some(role)) => format!("part of {run} ({role})"),
+        (Shown::Part, Some(run), None) => format!("part of {run}"),
+        (_, Some(more), _) => format!("{shown}, {more}"),
+        (_, None, _) => shown.to_string(),
     }
 }
 

@@ -35,6 +35,7 @@ pub fn fill(shown: Shown) -> &'static str {
 /// The colour of a thin bar, where the square's would be too pale.
 pub fn strong(shown: Shown) -> &'static str {
     match shown {
+        Shown::Role(Role::WithoutNumber) => "#8cc4ea",
         Shown::Role(Role::Unreadable) => RED,
         Shown::Role(Role::Blank) => GREY,
         _ => fill(shown),

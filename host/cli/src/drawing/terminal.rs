@@ -91,6 +91,9 @@ fn drawn(plan: &Plan, width: usize, paint: Paint) -> String {
     lines.push(String::new());
     lines.extend(wrapped(&cell_in_words(group), width));
     lines.extend(wrapped(&saves_in_words(plan.saves), width));
+    if !plan.note.is_empty() {
+        lines.extend(wrapped(plan.note, width));
+    }
     lines.join("\n") + "\n"
 }
 

@@ -54,7 +54,7 @@ fn under_the_pointer() {
     let all = [
         "block 0: superseded",
         "block 1: table, the save 3 back",
-        "block 2: part of run 0",
+        "block 2: part of run 0 (superseded)",
         "block 3: table, the save 2 back",
         "blocks 4 to 10: link",
         "block 11: table, the save 1 back",
@@ -88,7 +88,7 @@ fn groups_under_the_pointer() {
     let picture = svg(&plan(&roles, &in_use, &saves));
     for told in [
         "blocks 0 to 299: superseded",
-        "blocks 300 to 11999: part of run 5",
+        "blocks 300 to 11999: part of run 5 (superseded)",
         "blocks 12000 to 12099: 60 superseded, 40 parts of run 2",
         "blocks 12100 to 19999: superseded",
         "blocks 20000 to 20099: 3 in use (numbers 2 to 3, 5), 30 superseded, 6 without a number, \
