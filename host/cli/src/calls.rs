@@ -2,6 +2,7 @@
 //! kept and free for the next command.
 
 use crate::arguments::Arguments;
+use crate::beginning;
 use crate::closing::{self, Closing};
 use crate::failure::Done;
 use crate::form::counted;
@@ -9,13 +10,14 @@ use crate::ledger::Map;
 use crate::making::make_disc;
 use crate::session::{Lent, Session};
 use crate::storing::Storing;
-use crate::surroundings::{say, Surroundings};
+use crate::surroundings::{say, waiting, Surroundings};
 use crate::times::Time;
 use crate::writing::{Saving, Writing};
 
 pub fn new(given: &Arguments, around: &mut Surroundings) -> Done {
     let sectors = given.sectors(1)?;
-    make_disc(given.path(0), 0, sectors, |_| Ok(()))?;
+    let disc = given.path(0);
+    make_disc(disc, 0, sectors, &mut waiting(disc, around), |_| Ok(()))?;
     say(
         around,
         format!("blank disc, {}\n", counted(sectors, "sector")),
@@ -26,6 +28,7 @@ pub fn begin(given: &Arguments, around: &mut Surroundings) -> Done {
     let mut session = Session::open(given.path(0), Lent::New, around)?;
     let (image, kinds, roles, ledger) = session.lent();
     station::begin(image, kinds, roles, ledger)?;
+    beginning::check(given, &session.disc)?;
     session.keep_ledger()?;
     say(around, "begun, size 0\n")
 }
@@ -58,7 +61,8 @@ pub fn store(given: &Arguments, around: &mut Surroundings) -> Done {
     let mut session = Session::open(given.path(0), Lent::Kept, around)?;
     storing.admit(&mut session)?;
     storing.announce(around)?;
-    let entry = storing.record(&mut session)?;
+    let entry = storing.record(&mut session, around.watched)?;
+    session.tell(storing.progress(around.watched));
     session.keep_both()?;
     let told = storing.told();
     say(around, format!("run of {told}, entry at block {entry}\n"))

@@ -8,27 +8,33 @@
 //! - `commands`: the command line;
 //! - `calls`, `cut`, `demo`, `images`, `listing`, `space`, `viewing`: what the commands
 //!   do;
+//! - `beginning`: what a begin asks before it;
 //! - `storing`, `writing`, `closing`: the calls that record, whole or to be cut;
+//! - `streaming`: a run that comes as a stream, before it is stored;
 //! - `session`: disc, roles and ledger of one command;
 //! - `keeping`: the order in which they are kept;
 //! - `surroundings`: the streams and the disk that a command is given;
 //! - `disk`: the steps of keeping, on files;
-//! - `making`: a file where there is none, a disc's or another;
-//! - `files`: names, locks, and replacing a file in one step;
+//! - `making`: a file where there is none, a disc's or another, and what may be replaced;
+//! - `parts`: making and replacing a file in one step, and what a killed command left;
+//! - `files`: names and locks;
 //! - `times`: when a save was made, in words;
 //! - `saves`: every save of a disc, newest first;
+//! - `finding`: what another deck's image seems to be;
 //! - `drawing`: a disc drawn, by the roles of its sectors;
 //! - `form`: the disc file's form; `roles`: the role file's;
 //! - `ledger`: what the ledger says;
 //! - `arguments`, `syntax`, `help`, `nearly`: the words of a command line;
 //! - `stamps`: the time that a save is to carry; `calendar`: dates;
 //! - `mapping`, `lock`, `clock`, `screen`: what is asked of the system;
+//! - `progress`: how far a long command is;
 //! - `failure`, `advice`: what can go wrong, in words and as an exit status.
 
 #![deny(unsafe_code)]
 
 mod advice;
 mod arguments;
+mod beginning;
 mod calendar;
 mod calls;
 #[allow(unsafe_code)]
@@ -43,6 +49,7 @@ mod disk;
 mod drawing;
 mod failure;
 mod files;
+mod finding;
 mod form;
 mod help;
 mod images;
@@ -55,6 +62,8 @@ mod making;
 #[allow(unsafe_code)]
 mod mapping;
 mod nearly;
+mod parts;
+mod progress;
 mod roles;
 mod saves;
 #[allow(unsafe_code)]
@@ -63,6 +72,7 @@ mod session;
 mod space;
 mod stamps;
 mod storing;
+mod streaming;
 mod surroundings;
 mod syntax;
 mod times;
@@ -82,6 +92,7 @@ fn main() -> ExitCode {
     let words: Vec<OsString> = env::args_os().skip(1).collect();
     let mut around = Surroundings {
         input: &mut io::stdin(),
+        typed: io::stdin().is_terminal(),
         output: &mut io::stdout(),
         screen: Screen::of_output(),
         aside: &mut io::stderr(),

@@ -63,7 +63,7 @@ fn draw_into(file: &Path, plan: &Plan, around: &mut Surroundings) -> Done {
 }
 
 /// The disc with its roles, if these are known.
-fn open(given: &Arguments, around: &Surroundings) -> Result<Session, Failure> {
+fn open(given: &Arguments, around: &mut Surroundings) -> Result<Session, Failure> {
     let session = Session::open(given.path(0), Lent::Kept, around)?;
     match session.knows_roles() {
         true => Ok(session),

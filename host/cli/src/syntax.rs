@@ -34,7 +34,10 @@ const fn plain(
 }
 
 pub static NEW: Syntax = plain("new", &["DISC", "SECTORS"], help::NEW);
-pub static BEGIN: Syntax = plain("begin", &["DISC"], help::BEGIN);
+pub static BEGIN: Syntax = Syntax {
+    options: &[("--anyway", None)],
+    ..plain("begin", &["DISC"], help::BEGIN)
+};
 pub static MOUNT: Syntax = plain("mount", &["DISC"], help::MOUNT);
 pub static WRITE: Syntax = Syntax {
     options: &[("--from", NAME), ("--pad", None)],
@@ -59,11 +62,16 @@ pub static CLOSE_SESSION: Syntax = Syntax {
     ..plain("close-session", &["DISC"], help::CLOSE_SESSION)
 };
 pub static READ: Syntax = Syntax {
-    options: &[("--to", NAME)],
+    options: &[("--to", NAME), ("--replace", None)],
     ..plain("read", &["DISC", "V"], help::READ)
 };
 pub static VIEW: Syntax = Syntax {
-    options: &[("--offset", NUMBER), ("--length", NUMBER), ("--to", NAME)],
+    options: &[
+        ("--offset", NUMBER),
+        ("--length", NUMBER),
+        ("--to", NAME),
+        ("--replace", None),
+    ],
     ..plain("view", &["DISC", "V"], help::VIEW)
 };
 pub static LOOK_BACK: Syntax = plain("look-back", &["DISC", "K"], help::LOOK_BACK);

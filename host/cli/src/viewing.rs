@@ -6,8 +6,8 @@ use station::{MOST_VIEWED, SECTOR};
 
 use crate::arguments::Arguments;
 use crate::failure::{Done, Failure};
-use crate::files::put;
 use crate::form::Disc;
+use crate::making::put;
 use crate::session::{Lent, Session};
 use crate::surroundings::{say, Surroundings};
 
@@ -19,8 +19,9 @@ pub fn read(given: &Arguments, around: &mut Surroundings) -> Done {
     let (image, kinds) = session.disc.lent();
     station::read(image, kinds, &session.ledger, v, &mut block)?;
     drop(session);
+    let replaces = given.has("--replace");
     match to {
-        Some(file) => put(file, |out| out(&block)),
+        Some(file) => put(file, replaces, |out| out(&block)),
         None => say(around, block),
     }
 }
@@ -37,8 +38,9 @@ pub fn view(given: &Arguments, around: &mut Surroundings) -> Done {
     let run = Run { disc, ledger, v };
     // A refusal comes before a file is made for the bytes.
     run.fill(offset, &mut [])?;
+    let replaces = given.has("--replace");
     match to {
-        Some(file) => put(file, |out| run.give(offset, length, out)),
+        Some(file) => put(file, replaces, |out| run.give(offset, length, out)),
         None => run.give(offset, length, &mut |bytes| say(around, bytes)),
     }
 }
@@ -46,6 +48,9 @@ pub fn view(given: &Arguments, around: &mut Surroundings) -> Done {
 /// The file for the bytes, if they are to go into one: never one of the disc's own.
 fn destination<'a>(given: &'a Arguments, session: &Session) -> Result<Option<&'a Path>, Failure> {
     let to = given.file("--to");
+    if to.is_none() && given.has("--replace") {
+        return Err(given.wrong("--replace belongs to --to and a file".into()));
+    }
     match to.is_some_and(|file| session.place.has(file)) {
         true => Err(given.wrong("--to names the disc, its ledger or its roles".into())),
         false => Ok(to),
