@@ -90,11 +90,45 @@ need_rust() {
     done
 }
 
+# The crates that the archive is made of: station, and each that one of them imports.
+archived_crates() {
+    awk -F ': *' '
+        /^[^#]/ { imports[$1] = $2 }
+        function take(name,   list, count, i) {
+            if (name in taken) return
+            taken[name] = 1
+            print name
+            count = split(imports[name], list, " ")
+            for (i = 1; i <= count; i++) take(list[i])
+        }
+        END { take("station") }' crates.txt
+}
+
+# One line for each crate that is proved, of what rt tells: how many of how many, and how long it took. The last one is the archive's own, of which rt tells
+# no time.
+tell_proofs() {
+    local line crates count=0
+    crates=$(archived_crates | wc -l)
+    while IFS= read -r line; do
+        if [[ $line =~ ^rt:\ ([^ ]+)\ proved\ \(([0-9]+)\ s\)$ ]]; then
+            count=$((count + 1))
+            echo "proved $count of $crates: ${BASH_REMATCH[1]} (${BASH_REMATCH[2]} s)"
+        elif [[ $line == "rt: $1 has the functions of "* ]]; then
+            echo "proved $((count + 1)) of $crates: station, and made $1"
+        fi
+    done
+}
+
 # The archive, made anew if a source is newer. It takes some 20 s, also where nothing changed, so not at every start.
 fresh_archive() {
-    local archive=target/staticlib/libstation.a
+    local archive=target/staticlib/libstation.a log=target/staticlib.log
     if [ ! -e "$archive" ] || [ -n "$(find crates crates.txt -newer "$archive" -print -quit)" ]; then
         need_kit
-        rt staticlib station >&2
+        mkdir -p target
+        if ! (set -o pipefail; rt staticlib station 2>&1 | tee "$log" | tell_proofs "$archive" >&2); then
+            echo "The archive is not made. All that rt told is in $log; its last lines:" >&2
+            tail -n 10 "$log" >&2
+            exit 1
+        fi
     fi
 }

@@ -4,6 +4,7 @@
 use station::Refusal;
 
 use crate::arguments::Arguments;
+use crate::beginning;
 use crate::closing::{self, Closing};
 use crate::failure::Done;
 use crate::form::counted;
@@ -13,7 +14,7 @@ use crate::reasons::{refused, Asked};
 use crate::saves::newest;
 use crate::session::{LedgerFile, Lent, Session};
 use crate::storing::Storing;
-use crate::surroundings::{say, say_done, Surroundings};
+use crate::surroundings::{say, say_done, waiting, Surroundings};
 use crate::times::Time;
 use crate::unsaved::Unsaved;
 use crate::writing::{Saving, Writing};
@@ -23,7 +24,8 @@ const REPLACED: &str = "The ledger beside it did not belong to this disc file, a
 
 pub fn new(given: &Arguments, around: &mut Surroundings) -> Done {
     let sectors = given.sectors(1)?;
-    make_disc(given.path(0), 0, sectors, |_| Ok(()))?;
+    let disc = given.path(0);
+    make_disc(disc, 0, sectors, &mut waiting(disc, around), |_| Ok(()))?;
     let sectors = counted(sectors, "sector");
     say_done(around, format!("blank disc, {sectors}\n"))
 }
@@ -33,6 +35,7 @@ pub fn begin(given: &Arguments, around: &mut Surroundings) -> Done {
     let (image, kinds, roles, ledger) = session.lent();
     let begun = station::begin(image, kinds, roles, ledger);
     begun.map_err(|refusal| refused(refusal, &Asked::Begin, &session))?;
+    beginning::check(given, &session.disc)?;
     let left_out = left_out(&session, None);
     session.keep_ledger()?;
     say_done(around, format!("begun, size 0\n{left_out}"))
@@ -83,7 +86,8 @@ pub fn store(given: &Arguments, around: &mut Surroundings) -> Done {
     let mut session = Session::open(given.path(0), Lent::Kept, around)?;
     storing.admit(&mut session)?;
     storing.announce(around)?;
-    let entry = storing.record(&mut session)?;
+    let entry = storing.record(&mut session, around.watched)?;
+    session.tell(storing.progress(around.watched));
     session.keep_both()?;
     let told = storing.told();
     say_done(around, format!("run of {told}, entry at block {entry}\n"))

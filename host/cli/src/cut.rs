@@ -35,12 +35,12 @@ impl Call {
     }
 
     /// The last block recorded.
-    fn record(&mut self, session: &mut Session) -> Result<u32, Failure> {
+    fn record(&mut self, session: &mut Session, watched: bool) -> Result<u32, Failure> {
         match self {
             Call::Write(writing) => writing.record(session),
             Call::Store(storing) => {
                 storing.admit(session)?;
-                storing.record(session)
+                storing.record(session, watched)
             }
             Call::Commit(saving) => saving.record(session),
             Call::CloseSession(closing) => closing.record(session),
@@ -59,7 +59,7 @@ pub fn cut(given: &Arguments, around: &mut Surroundings) -> Done {
     };
     let mut call = Call::of(command.name, &inner, around)?;
     let mut session = Session::open(inner.path(0), Lent::Kept, around)?;
-    call.record(&mut session)?;
+    call.record(&mut session, around.watched)?;
     let sectors = session.disc.newly_recorded().count();
     check(command, kept, torn, sectors)?;
     // A closing that is kept whole closes the disc.

@@ -6,7 +6,9 @@ use std::os::unix::fs::{FileExt, MetadataExt};
 use std::path::PathBuf;
 
 use crate::failure::{Done, Failure};
-use crate::files::{flush_folder, remove, Part, Place};
+use crate::files::{flush_folder, remove, Place};
+use crate::parts::Part;
+use crate::progress::Progress;
 
 /// A file of a disc that is changed in place.
 #[derive(Clone, Copy, Debug, PartialEq, Eq)]
@@ -37,6 +39,8 @@ pub trait Disk {
     fn name(&mut self, file: Beside) -> Done;
     fn remove(&mut self, file: Beside) -> Done;
     fn flush_folder(&mut self) -> Done;
+    /// Tells from now on how much of the disc file is written.
+    fn tell(&mut self, progress: Progress);
 }
 
 /// A file that was loaded, and the length that it had.
@@ -108,6 +112,9 @@ pub struct Files {
     roles: Option<Loaded>,
     new_ledger: Option<Part>,
     new_roles: Option<Part>,
+    /// Bytes written to the disc file.
+    written: u64,
+    progress: Progress,
 }
 
 impl Files {
@@ -118,6 +125,8 @@ impl Files {
             roles,
             new_ledger: None,
             new_roles: None,
+            written: 0,
+            progress: Progress::unseen(),
         }
     }
 
@@ -144,10 +153,14 @@ impl Disk for Files {
     }
 
     fn write(&mut self, file: InPlace, place: u64, bytes: &[u8]) -> Done {
-        self.loaded(file)?.write(place, bytes)
+        self.loaded(file)?.write(place, bytes)?;
+        self.written += bytes.len() as u64;
+        self.progress.tell(self.written, "written");
+        Ok(())
     }
 
     fn flush(&mut self, file: InPlace) -> Done {
+        self.progress.tell_waiting("waiting for the disk");
         self.loaded(file)?.flush()
     }
 
@@ -173,6 +186,10 @@ impl Disk for Files {
 
     fn flush_folder(&mut self) -> Done {
         flush_folder(&self.place.ledger)
+    }
+
+    fn tell(&mut self, progress: Progress) {
+        self.progress = progress;
     }
 }
 

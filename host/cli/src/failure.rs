@@ -16,6 +16,9 @@ pub type Done = Result<(), Failure>;
 pub enum Failure {
     /// The command line is wrong; the command whose help tells more, or none.
     Usage(String, &'static str),
+    /// The command may lose what somebody needs, and wants another word for it; which
+    /// one, and when to type it.
+    Unsure(String),
     /// The file has not the form of a disc file, and why.
     NoDisc(PathBuf, String),
     /// The file has not the form of a raw image, and why.
@@ -48,7 +51,7 @@ impl Failure {
 
     pub fn status(&self) -> u8 {
         match self {
-            Failure::Usage(..) => 64,
+            Failure::Usage(..) | Failure::Unsure(_) => 64,
             Failure::NoDisc(..) | Failure::NoImage(..) | Failure::NoRun(..) => 65,
             Failure::Unreadable(..) => 66,
             Failure::RolesUnknown(_) => 69,
@@ -79,6 +82,7 @@ impl fmt::Display for Failure {
                 writeln!(out, "station: {fault}")?;
                 writeln!(out, "Try 'station{space}{command} --help'.")
             }
+            Failure::Unsure(text) => writeln!(out, "station: {text}"),
             Failure::NoDisc(file, reason) => {
                 writeln!(out, "station: {} is no disc: {reason}", shown(file))
             }

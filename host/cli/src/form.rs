@@ -115,15 +115,24 @@ pub fn counted(count: usize, thing: &str) -> String {
     }
 }
 
+/// Whether a file starts as a disc file does.
+pub fn has_the_first_line(file: &File) -> io::Result<bool> {
+    read_count(file).map(|count| count.is_some())
+}
+
+/// The sector count, if the first line is one.
+fn read_count(file: &File) -> io::Result<Option<usize>> {
+    let mut head = [0; HEAD];
+    match file.read_exact_at(&mut head, 0) {
+        Err(error) if error.kind() == ErrorKind::UnexpectedEof => Ok(None),
+        read => read.map(|()| sector_count(&head)),
+    }
+}
+
 /// The disc, or why the file has another form.
 fn read_form(file: &File, name: &Path) -> io::Result<Result<Disc, String>> {
     let length = file.metadata()?.len();
-    let mut head = [0; HEAD];
-    let count = match file.read_exact_at(&mut head, 0) {
-        Err(error) if error.kind() == ErrorKind::UnexpectedEof => None,
-        read => read.map(|()| sector_count(&head))?,
-    };
-    let Some(sectors) = count else {
+    let Some(sectors) = read_count(file)? else {
         let reason = "its first line is not a sector count from 1 to 360000 in 8 columns";
         return Ok(Err(reason.into()));
     };

@@ -50,11 +50,15 @@ disc before the first write.
 ";
 
 pub const BEGIN: &str = "\
-Usage: station begin DISC
+Usage: station begin DISC [--anyway]
 
 Starts a disc that has no save: size 0, no packet open. What was written and not
 saved is left out, and told. Refused with 6 if the disc has a save; mount it
 then.
+
+  --anyway   also where something is recorded, as after a power cut before the
+             first save. It stays, and only takes room. Not on another deck's
+             disc: the first save would hide its files from every reader
 ";
 
 pub const MOUNT: &str = "\
@@ -75,7 +79,7 @@ and tells where. V is a number below the size, or the size itself, 457 at most.
 Refused with 13 if V is above 457, else with 12 if it is above the size. The
 block is safe from a power cut only after a commit.
 
-  --from FILE   the block's bytes; - is standard input
+  --from FILE   the block's bytes, 1 at least; - is standard input
   --pad         fill up a shorter block with zeros
 ";
 
@@ -144,18 +148,22 @@ Who prepared the disc knows all of them; of a raw image udfinfo tells them.
 ";
 
 pub const READ: &str = "\
-Usage: station read DISC V [--back K] [--to FILE]
+Usage: station read DISC V [--back K] [--to FILE [--replace]]
 
 The 2048 bytes of number V, to FILE or to standard output. After a look-back
 they are those of the save that it shows.
 
   --back K    of the save K before the newest; 0 is the newest. The ledger is
               neither needed nor changed
-  --to FILE   where to put the bytes, in one step; - is standard output
+  --to FILE   a new file for the bytes; - is standard output. A pipe or a device
+              is written to
+  --replace   FILE may be there, and is replaced in one step; never a disc, nor
+              a ledger or roles
 ";
 
 pub const VIEW: &str = "\
-Usage: station view DISC V [--back K] [--offset N] [--length N] [--to FILE]
+Usage: station view DISC V [--back K] [--offset N] [--length N]
+                    [--to FILE [--replace]]
 
 The bytes of the run whose entry number V names, to FILE or to standard output.
 After a look-back they are those of the save that it shows. Refused with 19 if
@@ -166,7 +174,10 @@ above the run's length.
                neither needed nor changed
   --offset N   leave out the first N bytes
   --length N   give at most N bytes; without it all, to the run's end
-  --to FILE    where to put the bytes, in one step; - is standard output
+  --to FILE    a new file for the bytes; - is standard output. A pipe or a
+               device is written to
+  --replace    FILE may be there, and is replaced in one step; never a disc, nor
+               a ledger or roles
 ";
 
 pub const LOOK_BACK: &str = "\
@@ -275,7 +286,8 @@ Usage: station import IMAGE DISC --start N [--sectors M]
 Makes a disc file of a raw image of another deck's disc: 2048 bytes a sector,
 all of them recorded data. The disc's block 0 is the image's sector N; what
 stands before it, the volume's front, is left out. Overwrites nothing. The disc
-has no ledger: mount it.
+has no ledger: mount it. Tells the newest save that a mount will find, or if
+there is none what the image seems to be, and what to do.
 
   --start N     the partition's first block, as udfinfo tells it
   --sectors M   the disc's size in sectors, 360000 at most: those behind the
@@ -288,7 +300,8 @@ Usage: station export DISC IMAGE
 Gives the raw sectors back: every recorded one, 2048 bytes each, in order. The
 image ends with the last of them. Link and unreadable sectors have no data:
 zeros stand for their bytes. Overwrites nothing, and changes nothing of the
-disc.
+disc. If IMAGE is -, the sectors go to standard output, and how many there are
+is told on standard error.
 ";
 
 pub const CUT: &str = "\

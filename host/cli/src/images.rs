@@ -9,11 +9,13 @@ use station::{MOST_SECTORS, SECTOR};
 
 use crate::arguments::Arguments;
 use crate::failure::{Done, Failure};
-use crate::files::{not_whole, open, Part};
-use crate::form::{counted, sector_place};
+use crate::files::{not_whole, open};
+use crate::finding;
+use crate::form::{counted, sector_place, Disc};
 use crate::making::{make, make_disc};
+use crate::mapping;
 use crate::session::{Lent, Session};
-use crate::surroundings::{say, Surroundings};
+use crate::surroundings::{say, say_aside, waiting, Surroundings};
 
 const DATA: u8 = 1;
 
@@ -35,14 +37,22 @@ pub fn import(given: &Arguments, around: &mut Surroundings) -> Done {
             "--sectors {sectors} is too few: the image has {has} from block {start} on"
         )));
     }
-    make_disc(given.path(1), data, sectors, |part| {
-        let place = sector_place(sectors, 0);
-        copy(part, place, data, |block, bytes| image.read(block, bytes))
+    let disc = given.path(1);
+    make_disc(disc, data, sectors, &mut waiting(disc, around), |part| {
+        let first = sector_place(sectors, 0);
+        let read = |block, bytes: &mut [u8]| image.read(block, bytes);
+        copy(data, read, |place, bytes| {
+            part.write_at(first + place, bytes)
+        })
     })?;
     let blank = sectors - data;
+    let found = image.found(disc)?;
     say(
         around,
-        format!("{} imported, {blank} blank\n", counted(data, "sector")),
+        format!(
+            "{} imported, {blank} blank\n{found}",
+            counted(data, "sector")
+        ),
     )
 }
 
@@ -85,6 +95,13 @@ impl Image<'_> {
         })
     }
 
+    /// What a mount of the disc made of it will find, in words.
+    fn found(&self, disc: &Path) -> Result<String, Failure> {
+        let bytes = mapping::looked_at(&self.file, self.name);
+        let bytes = bytes.map_err(|error| Failure::unreadable(self.name, error))?;
+        Ok(finding::told(&bytes, self.start, disc))
+    }
+
     /// The bytes from a block of the partition on.
     fn read(&self, block: usize, bytes: &mut [u8]) -> Done {
         let place = (self.start + block) * SECTOR;
@@ -100,50 +117,71 @@ impl Image<'_> {
 pub fn export(given: &Arguments, around: &mut Surroundings) -> Done {
     let path = given.path(1);
     let session = Session::open(given.path(0), Lent::Own, around)?;
+    if path == Path::new("-") {
+        return export_as_stream(session, around);
+    }
     if session.place.has(path) {
         return Err(given.wrong("IMAGE names the disc, its ledger or its roles".into()));
     }
-    let (image, kinds) = session.disc.lent();
-    let sectors = session.disc.used();
+    let disc = &session.disc;
     // The image's folder is not locked: its name is taken in one step, and two
     // exports, each into the other's folder, would wait for each other.
-    make(path, (sectors * SECTOR) as u64, |part| {
-        copy(part, 0, sectors, |block, bytes| {
-            read_data(image, kinds, block, bytes);
-            Ok(())
+    make(path, (disc.used() * SECTOR) as u64, |part| {
+        let read = |block, bytes: &mut [u8]| read_data(disc, block, bytes);
+        copy(disc.used(), read, |place, bytes| {
+            part.write_at(place, bytes)
         })
     })?;
+    let told = exported(disc);
+    drop(session);
+    say(around, told)
+}
+
+/// To standard output, so that the words go aside. As of a view, the files are free
+/// before the bytes go out.
+fn export_as_stream(session: Session, around: &mut Surroundings) -> Done {
+    let (disc, _) = session.free()?;
+    let read = |block, bytes: &mut [u8]| read_data(&disc, block, bytes);
+    copy(disc.used(), read, |_, bytes| say(around, bytes))?;
+    say_aside(around, exported(&disc))
+}
+
+fn exported(disc: &Disc) -> String {
+    let (_, kinds) = disc.lent();
+    let sectors = disc.used();
     let without = kinds[..sectors].iter().filter(|kind| **kind != DATA);
     let zeros = match without.count() {
         0 => String::new(),
         without => format!(", {without} without data, as zeros"),
     };
-    drop(session);
-    say(
-        around,
-        format!("{} exported{zeros}\n", counted(sectors, "sector")),
-    )
+    format!("{} exported{zeros}\n", counted(sectors, "sector"))
 }
 
 /// The bytes of the sectors from a block on. "Bytes of a sector whose kind is not
 /// 1 mean nothing": zeros stand for them.
-fn read_data(image: &[u8], kinds: &[u8], first: usize, bytes: &mut [u8]) {
+fn read_data(disc: &Disc, first: usize, bytes: &mut [u8]) -> Done {
+    let (image, kinds) = disc.lent();
     for (block, sector) in (first..).zip(bytes.chunks_exact_mut(SECTOR)) {
         match kinds[block] {
             DATA => sector.copy_from_slice(&image[block * SECTOR..][..SECTOR]),
             _ => sector.fill(0),
         }
     }
+    Ok(())
 }
 
-/// Copies so many sectors into a file, from a place on, piece by piece; `read` is
-/// given the block of a piece's first sector.
-fn copy(part: &Part, place: u64, sectors: usize, read: impl Fn(usize, &mut [u8]) -> Done) -> Done {
+/// Copies so many sectors piece by piece: `read` is given the block of a piece's first
+/// sector, and `write` its place.
+fn copy(
+    sectors: usize,
+    read: impl Fn(usize, &mut [u8]) -> Done,
+    mut write: impl FnMut(u64, &[u8]) -> Done,
+) -> Done {
     let mut piece = vec![0; PIECE * SECTOR];
     for block in (0..sectors).step_by(PIECE) {
         let bytes = &mut piece[..PIECE.min(sectors - block) * SECTOR];
         read(block, bytes)?;
-        part.write_at(place + (block * SECTOR) as u64, bytes)?;
+        write((block * SECTOR) as u64, bytes)?;
     }
     Ok(())
 }

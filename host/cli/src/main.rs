@@ -8,19 +8,22 @@
 //! - `commands`: the command line;
 //! - `calls`, `cut`, `demo`, `explain`, `images`: what the commands do;
 //! - `contents`, `listing`, `space`, `status`, `viewing`: of those that only tell;
-//! - `looking`: the save that a command looks at;
+//! - `looking`: the save that a command looks at; `beginning`: what a begin asks before it;
 //! - `storing`, `writing`, `closing`: the calls that record, whole or to be cut;
+//! - `streaming`: a run that comes as a stream, before it is stored;
 //! - `reasons`: why the core refused, in an operator's words;
 //! - `room`: the room on a disc;
 //! - `session`: disc, roles and ledger of one command;
 //! - `keeping`: the order in which they are kept;
 //! - `surroundings`: the streams and the disk that a command is given;
 //! - `disk`: the steps of keeping, on files;
-//! - `making`: a file where there is none, a disc's or another;
-//! - `files`: names, locks, and replacing a file in one step;
+//! - `making`: a file where there is none, a disc's or another, and what may be replaced;
+//! - `parts`: making and replacing a file in one step, and what a killed command left;
+//! - `files`: names and locks;
 //! - `times`: when a save was made, in words;
 //! - `unsaved`: what a ledger has and no save has yet;
 //! - `saves`: every save of a disc, newest first;
+//! - `finding`: what another deck's image seems to be;
 //! - `drawing`: a disc drawn, by the roles of its sectors;
 //! - `runs`: the entries of runs, the numbers in use, and the parts of their runs;
 //! - `roles`: the role file's form; `mark`: the ledger file's; `form`: the disc file's;
@@ -28,6 +31,7 @@
 //! - `arguments`, `syntax`, `help`, `nearly`: the words of a command line;
 //! - `stamps`: the time that a save is to carry; `calendar`: dates;
 //! - `mapping`, `lock`, `clock`, `screen`, `zone`: what is asked of the system;
+//! - `progress`: how far a long command is;
 //! - `failure`: what can go wrong, in words and as an exit status; `advice`: each refusal
 //!   explained;
 //! - `names`: a file's name as it is shown.
@@ -36,6 +40,7 @@
 
 mod advice;
 mod arguments;
+mod beginning;
 mod calendar;
 mod calls;
 #[allow(unsafe_code)]
@@ -52,6 +57,7 @@ mod drawing;
 mod explain;
 mod failure;
 mod files;
+mod finding;
 mod form;
 mod help;
 mod images;
@@ -67,6 +73,8 @@ mod mapping;
 mod mark;
 mod names;
 mod nearly;
+mod parts;
+mod progress;
 mod reasons;
 mod roles;
 mod room;
@@ -79,6 +87,7 @@ mod space;
 mod stamps;
 mod status;
 mod storing;
+mod streaming;
 mod surroundings;
 mod syntax;
 mod times;
@@ -100,6 +109,7 @@ fn main() -> ExitCode {
     let words: Vec<OsString> = env::args_os().skip(1).collect();
     let mut around = Surroundings {
         input: &mut io::stdin(),
+        typed: io::stdin().is_terminal(),
         output: &mut io::stdout(),
         screen: Screen::of_output(),
         aside: &mut io::stderr(),

@@ -7,7 +7,7 @@ use std::io;
 use std::path::Path;
 use std::sync::OnceLock;
 
-use memmap2::{MmapMut, MmapOptions};
+use memmap2::{Mmap, MmapMut, MmapOptions};
 
 use crate::failure::Failure;
 
@@ -22,6 +22,13 @@ pub fn copy_on_write(file: &File, length: usize, name: &Path) -> io::Result<Mmap
     // which is lent them, is defined for all contents. A page that is cut off
     // ends this program, below.
     unsafe { MmapOptions::new().len(length).map_copy(file) }
+}
+
+/// All bytes of a file, only to be looked at.
+pub fn looked_at(file: &File, name: &Path) -> io::Result<Mmap> {
+    tell_if_shorter(name);
+    // SAFETY: as above, but that nobody may have locked the file.
+    unsafe { MmapOptions::new().map(file) }
 }
 
 /// The system sends a signal to a program that looks at a page that the file no

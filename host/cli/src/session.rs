@@ -13,8 +13,10 @@ use crate::form::Disc;
 use crate::keeping::{self, Recording, Roles};
 use crate::ledger::Map;
 use crate::mark::{belonging, marked, MARKED};
+use crate::parts::clear_left;
+use crate::progress::Progress;
 use crate::roles;
-use crate::surroundings::Surroundings;
+use crate::surroundings::{waiting, Surroundings};
 
 /// Which ledger and which roles a call is lent.
 pub enum Lent {
@@ -73,12 +75,15 @@ pub struct Session {
 
 impl Session {
     /// A disc that cannot be loaded is told of by the name that was typed.
-    pub fn open(name: &Path, lent: Lent, around: &Surroundings) -> Result<Session, Failure> {
+    pub fn open(name: &Path, lent: Lent, around: &mut Surroundings) -> Result<Session, Failure> {
         let place = Place::of(name)?;
-        let folder = lock_folder(folder_of(&place.disc))?;
+        let mut tell = waiting(name, around);
+        let folder = lock_folder(folder_of(&place.disc), &mut tell)?;
         let file = open(&place.disc, name, Failure::NoDisc)?;
-        lock(&file, name)?;
+        lock(&file, name, &mut tell)?;
+        drop(tell);
         let disc = Disc::load(&file, name)?;
+        clear_left(&place);
         let same = file.try_clone();
         let same = same.map_err(|error| Failure::unreadable(name, error))?;
         let (_, kinds) = disc.lent();
@@ -154,6 +159,11 @@ impl Session {
         if let Some(kept) = &self.kept {
             self.ledger.copy_from_slice(&kept[..LEDGER]);
         }
+    }
+
+    /// Tells how much is written while it is kept.
+    pub fn tell(&mut self, progress: Progress) {
+        self.disk.tell(progress);
     }
 
     /// After a call that records nothing.

@@ -2,18 +2,20 @@
 //! behind the other, and behind them its entry.
 
 use std::fs::{self, File};
-use std::io::{self, BufReader, Cursor, Read};
+use std::io::{self, Read};
 use std::path::{Path, PathBuf};
 
 use station::{Extent, Refusal, SECTOR};
 
 use crate::arguments::Arguments;
 use crate::failure::{Done, Failure};
-use crate::files::{not_whole, read_at_most};
+use crate::files::not_whole;
 use crate::form::counted;
+use crate::progress::Progress;
 use crate::reasons::{refused, Asked};
-use crate::session::Session;
-use crate::surroundings::{say_aside, Surroundings};
+use crate::session::{Lent, Session};
+use crate::streaming::{buffered, put_aside, Run};
+use crate::surroundings::{ask_for, say_aside, Surroundings};
 
 /// A run of so many blocks takes long enough to be told of: 32 MiB.
 const LONG: usize = 16_384;
@@ -28,20 +30,15 @@ pub struct Storing {
 
 impl Storing {
     /// A file is read while the disc is locked, piece by piece. A stream is read
-    /// before: it may come from a command that waits for the lock.
+    /// before: it may come slowly, and other commands may use the disc meanwhile.
     pub fn of(given: &Arguments, around: &mut Surroundings) -> Result<Storing, Failure> {
         let v = given.number(1)?;
-        // Nobody is to type a run for a disc that is not there. One byte more than
-        // the file of the disc has says that the run does not fit.
-        let disc = given.path(0);
-        let about = fs::metadata(disc).map_err(|error| Failure::unreadable(disc, error))?;
-        let most = about.len() as usize + 1;
         let from = given.file("--from");
         let name = from.unwrap_or(Path::new("standard input"));
-        let unreadable = |error| Failure::unreadable(name, error);
-        let (bytes, length) = match from {
-            Some(_) => opened(name, most).map_err(unreadable)?,
-            None => streamed(around.input, most).map_err(unreadable)?,
+        let (bytes, length) = match from.map(file_of_known_length) {
+            Some(Ok(Some(run))) => run,
+            Some(Err(error)) => return Err(Failure::unreadable(name, error)),
+            _ => streamed(given, v, around)?,
         };
         let name = name.to_path_buf();
         match length {
@@ -60,21 +57,9 @@ impl Storing {
         self.length.div_ceil(SECTOR)
     }
 
-    /// Whether the number and a run of this length can be recorded, before any of a
-    /// long file is read. The core is asked for a block of zeros on a disc that is
-    /// shorter by the run: where that one has room, so has the entry behind the run.
-    /// The block is then taken back. The calls themselves have the last word: a disc
-    /// that has 1,000 sectors only with the run keeps more room free.
+    /// Whether the run can be recorded, before any of a long file is read.
     pub fn admit(&self, session: &mut Session) -> Done {
-        let used = session.disc.used();
-        let (image, kinds) = session.disc.lent_to_record();
-        let sectors = kinds.len().saturating_sub(self.blocks()).max(used).max(1);
-        let (image, kinds) = (&mut image[..sectors * SECTOR], &mut kinds[..sectors]);
-        let (roles, ledger) = (&mut vec![0; sectors], &mut session.ledger.clone());
-        let written = station::write(image, kinds, roles, ledger, self.v, &[0; SECTOR]);
-        session.disc.take_back();
-        written.map_err(|refusal| self.refused(refusal, session))?;
-        Ok(())
+        admit(session, self.v, self.blocks())
     }
 
     /// The word before a long run, for somebody who waits.
@@ -88,11 +73,13 @@ impl Storing {
 
     /// The block of the entry. A run fits in one extent: a disc has fewer bytes than
     /// an extent may have, and behind the first block no links come.
-    pub fn record(&mut self, session: &mut Session) -> Result<u32, Failure> {
+    pub fn record(&mut self, session: &mut Session, watched: bool) -> Result<u32, Failure> {
         let blocks = self.blocks();
+        let mut progress = self.progress(watched);
         let mut next = 0;
         for number in 0..blocks {
             let block = self.block(number)?;
+            progress.tell((number * SECTOR) as u64, "read");
             let (image, kinds, roles, ledger) = session.lent_to_record();
             let recorded = station::write_unnumbered(image, kinds, roles, ledger, &block);
             next = recorded.map_err(|refusal| self.refused(refusal, session))? + 1;
@@ -107,11 +94,8 @@ impl Storing {
         written.map_err(|refusal| self.refused(refusal, session))
     }
 
-    /// Told of the disc as it was before the store.
     fn refused(&self, refusal: Refusal, session: &mut Session) -> Failure {
-        session.take_back();
-        let (v, blocks) = (self.v, self.blocks());
-        refused(refusal, &Asked::Store { v, blocks }, session)
+        store_refused(refusal, self.v, self.blocks(), session)
     }
 
     /// The next block of the run, whose number this is; behind its end zeros.
@@ -124,6 +108,11 @@ impl Storing {
         Ok(block)
     }
 
+    /// What tells how far it is.
+    pub fn progress(&self, watched: bool) -> Progress {
+        Progress::of(Some(self.length as u64), watched)
+    }
+
     /// How long the run is, in words.
     pub fn told(&self) -> String {
         let bytes = counted(self.length, "byte");
@@ -131,21 +120,59 @@ impl Storing {
     }
 }
 
-/// A file's bytes, and how many there are. What is no file, and what does not tell
-/// its length, is read as a stream.
-fn opened(name: &Path, most: usize) -> io::Result<(Box<dyn Read>, usize)> {
-    let mut file = File::open(name)?;
-    let about = file.metadata()?;
+/// Told of the disc as it was before the store.
+fn store_refused(refusal: Refusal, v: u32, blocks: usize, session: &mut Session) -> Failure {
+    session.take_back();
+    refused(refusal, &Asked::Store { v, blocks }, session)
+}
+
+/// Whether the number and a run of so many blocks can be recorded. The core is asked for
+/// a block of zeros on a disc that is shorter by the run: where that one has room, so
+/// has the entry behind the run. The block is then taken back. The calls themselves have
+/// the last word: a disc that has 1,000 sectors only with the run keeps more room free.
+fn admit(session: &mut Session, v: u32, blocks: usize) -> Done {
+    let used = session.disc.used();
+    let (image, kinds) = session.disc.lent_to_record();
+    let sectors = kinds.len().saturating_sub(blocks).max(used).max(1);
+    let (image, kinds) = (&mut image[..sectors * SECTOR], &mut kinds[..sectors]);
+    let (roles, ledger) = (&mut vec![0; sectors], &mut session.ledger.clone());
+    let written = station::write(image, kinds, roles, ledger, v, &[0; SECTOR]);
+    session.disc.take_back();
+    written.map_err(|refusal| store_refused(refusal, v, blocks, session))?;
+    Ok(())
+}
+
+/// A file's bytes, if it is one and tells its length; what does not is a stream.
+fn file_of_known_length(name: &Path) -> io::Result<Option<Run>> {
+    let about = fs::metadata(name)?;
     match about.is_file() && about.len() > 0 {
-        true => Ok((Box::new(BufReader::new(file)), about.len() as usize)),
-        false => streamed(&mut file, most),
+        true => Ok(Some((buffered(File::open(name)?), about.len() as usize))),
+        false => Ok(None),
     }
 }
 
-fn streamed(stream: &mut dyn Read, most: usize) -> io::Result<(Box<dyn Read>, usize)> {
-    let bytes = read_at_most(stream, most)?;
-    let length = bytes.len();
-    Ok((Box::new(Cursor::new(bytes)), length))
+/// The run of a stream, of which one byte more than the file of the disc has says that
+/// it does not fit. Nobody is to type a run, nor wait for one, whose number the disc
+/// refuses.
+fn streamed(given: &Arguments, v: u32, around: &mut Surroundings) -> Result<Run, Failure> {
+    let mut session = Session::open(given.path(0), Lent::Kept, around)?;
+    admit(&mut session, v, 1)?;
+    let most = session.disc.length() as usize + 1;
+    let place = session.place.clone();
+    drop(session);
+    let mut progress = Progress::of(None, around.watched);
+    match given.file("--from") {
+        Some(name) => {
+            let opened = File::open(name);
+            let mut file = opened.map_err(|error| Failure::unreadable(name, error))?;
+            put_aside(&mut file, name, most, &place, &mut progress)
+        }
+        None => {
+            ask_for("the run", around)?;
+            let name = Path::new("standard input");
+            put_aside(around.input, name, most, &place, &mut progress)
+        }
+    }
 }
 
 #[cfg(test)]
@@ -168,6 +195,7 @@ mod tests {
         let mut aside = Vec::new();
         let mut around = Surroundings {
             input: &mut io::empty(),
+            typed: false,
             output: &mut io::sink(),
             screen: Screen::PLAIN,
             aside: &mut aside,

@@ -39,7 +39,10 @@ const fn plain(
 }
 
 pub static NEW: Syntax = plain("new", &["DISC", "SECTORS"], help::NEW);
-pub static BEGIN: Syntax = plain("begin", &["DISC"], help::BEGIN);
+pub static BEGIN: Syntax = Syntax {
+    options: &[("--anyway", None)],
+    ..plain("begin", &["DISC"], help::BEGIN)
+};
 pub static MOUNT: Syntax = plain("mount", &["DISC"], help::MOUNT);
 pub static WRITE: Syntax = Syntax {
     options: &[("--from", NAME), ("--pad", None)],
@@ -64,7 +67,7 @@ pub static CLOSE_SESSION: Syntax = Syntax {
     ..plain("close-session", &["DISC"], help::CLOSE_SESSION)
 };
 pub static READ: Syntax = Syntax {
-    options: &[("--back", NUMBER), ("--to", NAME)],
+    options: &[("--back", NUMBER), ("--to", NAME), ("--replace", None)],
     ..plain("read", &["DISC", "V"], help::READ)
 };
 pub static VIEW: Syntax = Syntax {
@@ -73,6 +76,7 @@ pub static VIEW: Syntax = Syntax {
         ("--offset", NUMBER),
         ("--length", NUMBER),
         ("--to", NAME),
+        ("--replace", None),
     ],
     ..plain("view", &["DISC", "V"], help::VIEW)
 };

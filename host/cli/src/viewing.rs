@@ -6,9 +6,9 @@ use station::{MOST_VIEWED, SECTOR};
 
 use crate::arguments::Arguments;
 use crate::failure::{Done, Failure};
-use crate::files::put;
 use crate::form::Disc;
 use crate::looking;
+use crate::making::put;
 use crate::reasons::{refused, Asked};
 use crate::session::Session;
 use crate::surroundings::{say, Surroundings};
@@ -22,8 +22,9 @@ pub fn read(given: &Arguments, around: &mut Surroundings) -> Done {
     let read = station::read(image, kinds, &session.ledger, v, &mut block);
     read.map_err(|refusal| refused(refusal, &Asked::Read(v), &session))?;
     drop(session);
+    let replaces = given.has("--replace");
     match to {
-        Some(file) => put(file, |out| out(&block)),
+        Some(file) => put(file, replaces, |out| out(&block)),
         None => say(around, block),
     }
 }
@@ -42,8 +43,9 @@ pub fn view(given: &Arguments, around: &mut Surroundings) -> Done {
     shown.map_err(|refusal| refused(refusal, &Asked::View { v, offset }, &session))?;
     let (disc, ledger) = session.free()?;
     let run = Run { disc, ledger, v };
+    let replaces = given.has("--replace");
     match to {
-        Some(file) => put(file, |out| run.give(offset, length, out)),
+        Some(file) => put(file, replaces, |out| run.give(offset, length, out)),
         None => run.give(offset, length, &mut |bytes| say(around, bytes)),
     }
 }
@@ -51,6 +53,9 @@ pub fn view(given: &Arguments, around: &mut Surroundings) -> Done {
 /// The file for the bytes, if they are to go into one: never one of the disc's own.
 fn destination<'a>(given: &'a Arguments, session: &Session) -> Result<Option<&'a Path>, Failure> {
     let to = given.file("--to");
+    if to.is_none() && given.has("--replace") {
+        return Err(given.wrong("--replace belongs to --to and a file".into()));
+    }
     match to.is_some_and(|file| session.place.has(file)) {
         true => Err(given.wrong("--to names the disc, its ledger or its roles".into())),
         false => Ok(to),

@@ -12,7 +12,7 @@ use crate::files::read_at_most;
 use crate::reasons::{refused, Asked};
 use crate::session::Session;
 use crate::stamps;
-use crate::surroundings::Surroundings;
+use crate::surroundings::{ask_for, Surroundings};
 
 /// The block for a write, and where it is to go.
 pub struct Writing {
@@ -28,17 +28,20 @@ impl Writing {
         // Nobody is to type a block for a disc that is not there.
         let disc = given.path(0);
         fs::metadata(disc).map_err(|error| Failure::unreadable(disc, error))?;
-        let mut block = match given.file("--from") {
-            Some(file) => {
-                let opened = File::open(file);
-                let read = opened.and_then(|mut file| read_at_most(&mut file, SECTOR + 1));
-                read.map_err(|error| Failure::unreadable(file, error))?
-            }
+        let from = given.file("--from");
+        let name = from.unwrap_or(Path::new("standard input"));
+        let read = match from {
+            Some(file) => File::open(file).and_then(|mut file| read_at_most(&mut file, SECTOR + 1)),
             None => {
-                let read = read_at_most(around.input, SECTOR + 1);
-                read.map_err(|error| Failure::unreadable(Path::new("standard input"), error))?
+                ask_for("the block", around)?;
+                read_at_most(around.input, SECTOR + 1)
             }
         };
+        let mut block = read.map_err(|error| Failure::unreadable(name, error))?;
+        // A measuring command that failed gives nothing, and zeros would pass for a run.
+        if block.is_empty() {
+            return Err(Failure::NoRun(name.to_path_buf(), "it is empty".into()));
+        }
         if given.has("--pad") && block.len() < SECTOR {
             block.resize(SECTOR, 0);
         }

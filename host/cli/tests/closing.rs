@@ -89,7 +89,7 @@ fn the_room_that_the_last_write_leaves() {
         let folder = Folder::new();
         let kinds = [vec![1; 728], vec![0; 272]].concat();
         folder.put("run.disc", &disc_file(&kinds, &vec![7; 1000 * SECTOR]));
-        folder.done("begin run.disc");
+        folder.done("begin run.disc --anyway");
         assert_eq!(folder.write(0, "run A"), "block 735\n");
         folder.fails_with("write run.disc 1 --pad", b"run B", 14);
         for line in lines {

@@ -88,7 +88,12 @@ fn before_the_first_save() {
     let folder = Folder::begun(31);
     folder.done_with("cut 0 --torn write run.disc 0 --pad", b"run A");
     folder.fails("mount run.disc", 7);
-    assert_eq!(folder.done("begin run.disc"), "begun, size 0\n");
+    let told = folder.fails("begin run.disc", 64);
+    assert!(
+        told.contains("type 'station begin run.disc --anyway'"),
+        "{told}"
+    );
+    assert_eq!(folder.done("begin run.disc --anyway"), "begun, size 0\n");
     assert_eq!(folder.write(0, "run A"), "block 8\n");
 }
 
@@ -97,7 +102,7 @@ fn before_the_first_save() {
 fn what_cannot_be_cut() {
     let folder = Folder::example();
     folder.fails_with("cut 0 write run.disc 3", &[7; SECTOR], 12);
-    folder.fails("cut 0 write run.disc 0", 2);
+    folder.fails_with("cut 0 write run.disc 0", b"run", 2);
     let told = folder.fails("cut 2 commit run.disc", 64);
     assert!(
         told.contains("J is at most 1, the sectors that this commit records"),

@@ -13,7 +13,7 @@ use station::SECTOR;
 const LINES: [&str; 16] = [
     "begin run.disc",
     "mount run.disc",
-    "write run.disc 0 --pad",
+    "write run.disc 0 --pad --from /proc/version",
     "store run.disc 0 --from /proc/version",
     "release run.disc 0",
     "close run.disc",
@@ -24,7 +24,7 @@ const LINES: [&str; 16] = [
     "look-back run.disc 0",
     "export run.disc run.img",
     "cut 0 commit run.disc",
-    "cut 0 write run.disc 0 --pad",
+    "cut 0 write run.disc 0 --pad --from /proc/version",
     "cut 0 store run.disc 0 --from /proc/version",
     "cut 0 close-session run.disc --main 1,2 --reserve 3,4 --start 5",
 ];
@@ -141,7 +141,7 @@ fn a_protected_disc_is_read_and_not_recorded() {
     fs::set_permissions(folder.path("run.disc"), protected).expect("permissions");
     for line in [
         "commit run.disc",
-        "write run.disc 0 --pad",
+        "write run.disc 0 --pad --from /proc/version",
         "store run.disc 0 --from /proc/version",
         "cut 1 commit run.disc",
     ] {

@@ -98,6 +98,6 @@ fn killed_between_disc_and_ledger_of_the_first_write() {
     folder.put("run.disc.ledger", &ledger);
     refuses_until_mounted(&folder);
     folder.fails("mount run.disc", 7);
-    folder.done("begin run.disc");
+    folder.done("begin run.disc --anyway");
     assert_eq!(folder.write(0, "run C"), "block 8\n");
 }

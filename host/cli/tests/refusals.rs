@@ -334,7 +334,7 @@ fn number_14_what_a_write_leaves() {
         let begun = |blank: usize| {
             let kinds = [vec![1; sectors - blank], vec![0; blank]].concat();
             folder.put("run.disc", &disc_file(&kinds, &vec![7; sectors * SECTOR]));
-            folder.run("begin run.disc");
+            folder.done("begin run.disc --anyway");
         };
         begun(7 + left);
         let why = refused_with(&folder, "write run.disc 0", &BLOCK, 14);

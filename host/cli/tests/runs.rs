@@ -151,7 +151,7 @@ fn view_gives_a_stream_or_a_file() {
     folder.fails("view run.disc 1 --to shown", 19);
     folder.fails("view run.disc 0 --offset 200001 --to new", 20);
     symlink("shown", folder.path("link")).expect("a link");
-    folder.done("view run.disc 0 --offset 199990 --to link");
+    folder.done("view run.disc 0 --offset 199990 --to link --replace");
     assert!(folder.path("link").is_symlink() && folder.bytes("shown") == run[199_990..]);
     folder.done("view run.disc 0 --offset 200000 --to empty");
     assert!(folder.bytes("empty").is_empty());
@@ -220,6 +220,33 @@ fn a_run_that_does_not_end() {
     let told = folder.shell("station store run.disc 1 --from /dev/zero; echo $?");
     assert!(told.ends_with("\n12\n"), "{told}");
     assert_eq!(folder.write(0, "run A"), "block 0\n");
+}
+
+/// A stream that is as long as the memory that is left beside the disc: it is held once,
+/// where it is recorded, and leaves nothing beside the disc.
+#[test]
+fn a_long_stream_in_little_memory() {
+    let folder = Folder::begun(33_000);
+    let names = folder.names();
+    let told = folder.shell(
+        "ulimit -v 120000; head -c 65000001 /dev/zero | tr '\\0' x | station store run.disc 0",
+    );
+    let blocks = "31739 blocks, entry at block 31739";
+    assert_eq!(told, format!("run of 65000001 bytes in {blocks}\n"));
+    assert_eq!(folder.names(), names);
+    let told =
+        folder.shell("station view run.disc 0 | tr -d x | wc -c; station view run.disc 0 | wc -c");
+    assert_eq!(told, "0\n65000001\n");
+}
+
+/// The number is refused before the stream is read.
+#[test]
+fn a_stream_whose_number_is_refused() {
+    let folder = Folder::begun(60);
+    let told = folder.shell("mkfifo pipe; (sleep 5; echo late) > pipe & station store run.disc 3 < pipe 2> told; echo $?; kill $!");
+    assert!(told.starts_with("12\n"), "{told}");
+    let told = folder.shell("station store run.disc 458 --from pipe; echo $?");
+    assert!(told.ends_with("\n13\n"), "{told}");
 }
 
 /// A file of 5 GB, of which nothing is read.

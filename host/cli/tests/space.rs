@@ -240,7 +240,7 @@ fn after_a_power_cut() {
     let folder = Folder::begun(31);
     folder.done_with("cut 0 --torn write run.disc 0 --pad", b"run A");
     unknown(&folder);
-    folder.done("begin run.disc");
+    folder.done("begin run.disc --anyway");
     has(&folder, "5");
 }
 

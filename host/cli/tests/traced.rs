@@ -15,7 +15,7 @@ use station::{LEDGER, SECTOR};
 
 /// Every call by which the program, or a library below it, could change a file. A
 /// question mark says that a machine may be without it.
-const WRITING: [&str; 15] = [
+const WRITING: [&str; 17] = [
     "write",
     "pwrite64",
     "writev",
@@ -24,6 +24,8 @@ const WRITING: [&str; 15] = [
     "fsync",
     "?rename",
     "renameat",
+    "?link",
+    "linkat",
     "?renameat2",
     "?unlink",
     "unlinkat",
@@ -74,6 +76,10 @@ fn run_strace(folder: &Folder, line: &str, options: &[&str]) -> (End, String) {
         }
     };
     (end, traced)
+}
+
+fn is_part(name: &String) -> bool {
+    name.ends_with(".station-part")
 }
 
 /// Disc, ledger and roles, and what is shown of them.
@@ -214,13 +220,17 @@ impl Trial<'_> {
         let end = run_traced(folder, line, call, nth, fate);
         judge(folder, line, &self.before, &self.after);
         let names = folder.names();
-        let parts = names.iter().filter(|name| name.ends_with(".part")).count();
+        let parts = names.iter().filter(|name| is_part(name)).count();
         match end {
             End::Status(0) => return false,
             End::Status(status) => {
                 assert!([73, 74].contains(&status) && parts == 0, "{line}: {status}");
             }
-            End::Killed => assert!(parts <= 2, "{line}"),
+            End::Killed => {
+                assert!(parts <= 2, "{line}");
+                folder.run("list run.disc");
+                assert!(!folder.names().iter().any(|name| is_part(name)), "{line}");
+            }
         }
         true
     }
@@ -245,10 +255,11 @@ fn calls_of(folder: &Folder, line: &str) -> Vec<String> {
     let (end, traced) = run_strace(folder, line, &["-e", &all]);
     assert_eq!(end, End::Status(0), "{line}");
     let names = traced.lines().filter_map(|call| call.split('(').next());
-    // The name of the call by which the library renames is its own affair.
-    let one_name = |name: &str| match name.starts_with("rename") {
-        true => "rename".into(),
-        false => name.into(),
+    // The name of the call by which the library does so is its own affair.
+    let one_name = |name: &str| {
+        let same = ["rename", "link", "unlink"].into_iter();
+        let mut same = same.filter(|one| name.starts_with(one));
+        same.next().unwrap_or(name).to_string()
     };
     names.map(one_name).collect()
 }
@@ -479,7 +490,13 @@ fn a_file_that_is_viewed_is_whole() {
     {
         for nth in 1.. {
             restore(&folder, &start);
-            let end = run_traced(&folder, "view run.disc 1 --to shown", call, nth, fate);
+            let end = run_traced(
+                &folder,
+                "view run.disc 1 --to shown --replace",
+                call,
+                nth,
+                fate,
+            );
             let shown = folder.bytes("shown");
             assert!(shown == b"old" || shown == RUN, "{call} {nth}");
             match end {
@@ -513,15 +530,14 @@ fn the_order_of_making() {
         let calls = calls_of(&example_and_deck(), line);
         let filled = calls.iter().filter(|call| *call == "pwrite64").count();
         let filled = vec!["pwrite64"; filled.max(1)];
-        let named = ["fchmod", "fsync", "rename", "fsync", "write"];
+        let named = ["fsync", "link", "unlink", "fsync", "write"];
         let whole = [&["ftruncate"], &filled[..], &named].concat();
         assert_eq!(calls, whole, "{line}");
     }
 }
 
-/// A command that is killed leaves the file whole, or its name for an empty one,
-/// which is no disc, or none. On a full disk there is none, unless only the answer
-/// cannot be told (74).
+/// A command that is killed leaves the file whole, or none. On a full disk there is
+/// none, unless only the answer cannot be told (74).
 #[test]
 fn a_file_that_is_made_is_whole_or_none() {
     let folder = example_and_deck();
@@ -542,15 +558,17 @@ fn a_file_that_is_made_is_whole_or_none() {
                     End::Status(74) => assert!(folder.files() == whole, "{line}"),
                     End::Status(status) => panic!("{line}: {status}"),
                     End::Killed => {
-                        let left = fs::read(folder.path("made")).unwrap_or_default();
-                        assert!(left.is_empty() || left == made, "{line}");
+                        let left = fs::read(folder.path("made"));
+                        assert!(left.map_or(true, |left| left == made), "{line}");
+                        assert!([0, 73].contains(&folder.run(line).status), "{line}");
+                        assert!(folder.files() == whole, "{line} after it was killed");
                     }
                 }
                 stopped += 1;
             }
         }
         restore(&folder, &start);
-        assert!(stopped >= 14, "{line}: stopped {stopped} times");
+        assert!(stopped >= 12, "{line}: stopped {stopped} times");
     }
 }
 

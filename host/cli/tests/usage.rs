@@ -103,6 +103,11 @@ write run.disc 0 --to x | write has no option --to | write
 write run.disc 0 --pad=9 | --pad takes no value | write
 write run.disc 0 --from | --from needs a name behind it | write
 write run.disc 0 --pad --pad | --pad is given twice | write
+begin run.disc --anyway=yes | --anyway takes no value | begin
+mount run.disc --anyway | mount has no option --anyway | mount
+read run.disc 1 --replace | --replace belongs to --to and a file | read
+view run.disc 1 --to - --replace | --replace belongs to --to and a file | view
+export run.disc run.img --replace | export has no option --replace | export
 --version --quick | --version stands alone |
 -V run.disc | -V stands alone |
 --help mount | --help stands alone |

@@ -143,6 +143,7 @@ impl Desk {
         let input = if stores(line) { &RUN[..] } else { &BLOCK };
         let mut around = Surroundings {
             input: &mut &*input,
+            typed: false,
             output: &mut Vec::new(),
             screen: Screen::PLAIN,
             aside: &mut Vec::new(),
@@ -386,6 +387,6 @@ fn the_first_write_of_a_disc() {
     let mut desk = Desk::new(31, 0);
     desk.take(&event("begin run.disc", Call::Begin));
     desk.take(&event("write run.disc 0", Call::Write(0)));
-    desk.take(&event("begin run.disc", Call::Begin));
+    desk.take(&event("begin run.disc --anyway", Call::Begin));
     desk.take(&event("write run.disc 0", Call::Write(0)));
 }

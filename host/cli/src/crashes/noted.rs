@@ -5,6 +5,7 @@ use std::rc::Rc;
 
 use crate::disk::{Beside, Disk, Files, InPlace};
 use crate::failure::Done;
+use crate::progress::Progress;
 
 /// The disk takes such a piece of a file whole or not at all.
 const PIECE: usize = 512;
@@ -76,6 +77,10 @@ impl Disk for Noted {
     fn flush_folder(&mut self) -> Done {
         self.note(Step::FlushFolder);
         self.files.flush_folder()
+    }
+
+    fn tell(&mut self, progress: Progress) {
+        self.files.tell(progress);
     }
 }
 

@@ -1,0 +1,32 @@
+//! Beginning a disc on which something is recorded: it is asked for by another word,
+//! since a save there hides what another deck has recorded.
+
+use crate::arguments::Arguments;
+use crate::failure::{Done, Failure};
+use crate::finding::seems_another_decks;
+use crate::form::{counted, Disc};
+
+/// Of a disc that the core would begin.
+pub fn check(given: &Arguments, disc: &Disc) -> Done {
+    let recorded = disc.used();
+    if recorded == 0 || given.has("--anyway") {
+        return Ok(());
+    }
+    let name = given.path(0).display();
+    let sectors = counted(recorded, "recorded sector");
+    let (image, kinds) = disc.lent();
+    Err(Failure::Unsure(match seems_another_decks(image, kinds) {
+        true => format!(
+            "{name} has {sectors} and no save; they seem to be another deck's\n\
+             Do not begin it: our first save would hide the deck's files from every reader. \
+             If nobody needs these, type 'station begin {name} --anyway'."
+        ),
+        false => format!(
+            "{name} has {sectors} and no save: blocks written here and not saved, \
+             what a power cut left, or another deck's\n\
+             What was just written here, commit saves. After a power cut before the first save \
+             type 'station begin {name} --anyway': what is recorded then only takes room. \
+             Do not begin another deck's disc: our first save would hide its files from every reader."
+        ),
+    }))
+}
