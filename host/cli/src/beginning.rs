@@ -17,16 +17,16 @@ pub fn check(given: &Arguments, disc: &Disc) -> Done {
     let (image, kinds) = disc.lent();
     Err(Failure::Unsure(match seems_another_decks(image, kinds) {
         true => format!(
-            "{name} has {sectors} and no save; they seem to be another deck's\n\
-             Do not begin it: our first save would hide the deck's files from every reader. \
+            "{name} has {sectors} and no save, and seems to be another deck's\n\
+             Leave it as it is: our first save would hide the deck's files from every reader. \
              If nobody needs these, type 'station begin {name} --anyway'."
         ),
         false => format!(
-            "{name} has {sectors} and no save: blocks written here and not saved, \
-             what a power cut left, or another deck's\n\
-             What was just written here, commit saves. After a power cut before the first save \
-             type 'station begin {name} --anyway': what is recorded then only takes room. \
-             Do not begin another deck's disc: our first save would hide its files from every reader."
+            "{name} has {sectors} and no save\n\
+             If the power failed before the first save, type 'station begin {name} --anyway'; \
+             what is recorded then only takes room. If it was written just now, commit saves it. \
+             If another deck recorded it, leave it as it is: \
+             our first save would hide the deck's files from every reader."
         ),
     }))
 }

@@ -9,7 +9,7 @@ use std::time::{Duration, Instant};
 
 /// Waiting that ends within it is not told: nobody would have time to read it.
 const MOMENT: Duration = Duration::from_millis(300);
-const BETWEEN_QUESTIONS: Duration = Duration::from_millis(10);
+const BETWEEN_QUESTIONS: Duration = Duration::from_millis(5);
 
 /// Gives the lock back before the file is closed.
 pub fn release(file: &File) -> io::Result<()> {

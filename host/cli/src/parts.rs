@@ -166,15 +166,25 @@ fn new_part(path: &Path, kept: Option<&Permissions>) -> Result<(PathBuf, File), 
     }
     let part = with_suffix(path, SUFFIX);
     loop {
-        match options.open(&part) {
-            Ok(file) if is_held(&file, &part) => return Ok((part, file)),
-            // Not yet locked, it was taken for one that was left.
-            Ok(_) => continue,
+        let file = match options.open(&part) {
+            Ok(file) => file,
             Err(error) if error.kind() != ErrorKind::AlreadyExists => {
                 return refused(error.to_string());
             }
             Err(_) if remove_left(&part) => continue,
-            Err(_) => return refused("another command is making it".into()),
+            Err(_) => {
+                let part = part.display();
+                return refused(format!("another command is making it, in {part}"));
+            }
+        };
+        match is_held(&file, &part) {
+            Ok(true) => return Ok((part, file)),
+            // Not yet locked, it was taken for one that was left.
+            Ok(false) => continue,
+            Err(error) => {
+                gone(&part);
+                return refused(format!("no lock: {error}"));
+            }
         }
     }
 }
@@ -186,20 +196,20 @@ pub fn is_part(path: &Path) -> bool {
 
 /// Takes the lock if it is free; whether this file, and no other by now, has the name
 /// and the lock.
-fn is_held(file: &File, part: &Path) -> bool {
+fn is_held(file: &File, part: &Path) -> io::Result<bool> {
     let same = || {
         let (open, named) = (file.metadata().ok()?, fs::symlink_metadata(part).ok()?);
         Some((open.dev(), open.ino()) == (named.dev(), named.ino()))
     };
-    lock::take_if_free(file).unwrap_or(false) && same().unwrap_or(false)
+    Ok(lock::take_if_free(file)? && same().unwrap_or(false))
 }
 
 /// Removes a file in the making that nobody has locked; whether there was one. What is
 /// no file is not ours, and is not opened: a pipe would wait.
 fn remove_left(part: &Path) -> bool {
     let is_file = fs::symlink_metadata(part).is_ok_and(|about| about.is_file());
-    let held = || File::open(part).is_ok_and(|file| is_held(&file, part) && gone(part));
-    is_file && held()
+    let removed = |file: File| is_held(&file, part).unwrap_or(false) && gone(part);
+    is_file && File::open(part).is_ok_and(removed)
 }
 
 fn gone(part: &Path) -> bool {

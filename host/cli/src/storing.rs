@@ -84,6 +84,8 @@ impl Storing {
             let recorded = station::write_unnumbered(image, kinds, roles, ledger, &block);
             next = recorded.map_err(|refusal| self.refused(refusal, session))? + 1;
         }
+        // What waited in a file gives its room back before the disc's file takes it.
+        self.bytes = Box::new(io::empty());
         let extent = Extent {
             length: self.length as u32,
             location: next - blocks as u32,

@@ -6,7 +6,7 @@ use std::io::{self, BufReader, Cursor, Read, Seek, Write};
 use std::path::Path;
 
 use crate::failure::Failure;
-use crate::files::{read_at_most, Place};
+use crate::files::{folder_of, read_at_most, Place};
 use crate::parts::Part;
 use crate::progress::Progress;
 
@@ -32,8 +32,10 @@ pub fn put_aside(
         let length = piece.len();
         return Ok((Box::new(Cursor::new(piece)), length));
     }
-    let unwritable = |error: io::Error| Failure::unwritable(&place.run, error);
-    let mut file = Part::make(&place.run, |part| part.write(&piece))?.without_a_name()?;
+    let unwritable = |error: io::Error| Failure::unwritable(folder_of(&place.disc), error);
+    let made = Part::make(&place.run, |part| part.write(&piece));
+    let made = made.and_then(Part::without_a_name);
+    let mut file = made.map_err(|failure| of_the_folder(failure, place))?;
     let mut length = piece.len();
     loop {
         let piece = read_at_most(stream, PIECE.min(most - length)).map_err(unreadable)?;
@@ -46,6 +48,14 @@ pub fn put_aside(
     }
     file.rewind().map_err(unwritable)?;
     Ok((buffered(file), length))
+}
+
+/// Nobody has typed the file's name, and nobody sees it.
+fn of_the_folder(failure: Failure, place: &Place) -> Failure {
+    match failure {
+        Failure::Unwritable(_, reason) => Failure::unwritable(folder_of(&place.disc), reason),
+        other => other,
+    }
 }
 
 pub fn buffered(file: File) -> Box<dyn Read> {

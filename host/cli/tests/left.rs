@@ -64,6 +64,47 @@ fn what_is_not_provably_left_stays() {
     );
 }
 
+/// A run that comes as a stream waits in a file without a name. Killed before it has lost
+/// its name, the command leaves it to the next one; on a full disk there is none.
+#[test]
+fn a_stream_that_waits() {
+    let folder = Folder::begun(2000);
+    let names = folder.names();
+    let stopped = |call: &str, fate: &str| {
+        let options = format!("-qq -o trace -e trace={call} -e inject={call}:{fate}");
+        let store = "head -c 3000000 /dev/zero | strace";
+        folder.shell(&format!(
+            "{store} {options} station store run.disc 0; echo $?; rm trace"
+        ))
+    };
+    for (when, left) in [(1, 1), (2, 0), (3, 0)] {
+        stopped("write", &format!("signal=KILL:when={when}"));
+        assert_eq!(folder.names().len(), names.len() + left, "{when}");
+        folder.done("space run.disc");
+        assert_eq!(folder.names(), names);
+        let told = stopped("write", &format!("error=ENOSPC:when={when}"));
+        assert!(told.contains(" cannot be written: No space left"), "{told}");
+        assert!(told.ends_with("\n73\n"), "{told}");
+        assert_eq!(folder.names(), names);
+    }
+    let told = folder.shell("head -c 3000000 /dev/zero | station store run.disc 0");
+    assert!(told.starts_with("run of 3000000 bytes"), "{told}");
+}
+
+/// A disk that knows no locks: nothing is made, and nothing left.
+#[test]
+fn a_disk_without_locks() {
+    let folder = Folder::example();
+    let names = folder.names();
+    let no_locks = "strace -qq -o /dev/null -e trace=flock -e inject=flock:error=ENOLCK:when=3+";
+    let told = folder.shell(&format!("{no_locks} station export run.disc made"));
+    assert!(
+        told.starts_with("station: made cannot be written: no lock: "),
+        "{told}"
+    );
+    assert_eq!(folder.names(), names);
+}
+
 /// Whoever may not write there reads all the same.
 #[test]
 fn a_folder_that_is_protected() {
@@ -122,8 +163,8 @@ fn names_in_the_making() {
     }
     folder.put("made.station-part", b"half");
     let told = folder.shell("flock made.station-part station new made 31");
-    let fault = "station: made cannot be written: another command is making it\n";
-    assert_eq!(told, fault);
+    let fault = "another command is making it, in made.station-part";
+    assert_eq!(told, format!("station: made cannot be written: {fault}\n"));
 }
 
 impl Folder {

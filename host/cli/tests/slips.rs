@@ -150,7 +150,7 @@ fn a_disc_with_recorded_sectors_is_begun_by_another_word() {
     assert_eq!(folder.done("begin run.disc"), "begun, size 0\n");
     folder.write(0, "run A");
     let told = folder.fails("begin run.disc", 64);
-    let start = "station: run.disc has 1 recorded sector and no save: blocks written here";
+    let start = "station: run.disc has 1 recorded sector and no save\n";
     assert!(told.starts_with(start), "{told}");
     assert!(
         told.contains("type 'station begin run.disc --anyway'"),
@@ -178,8 +178,8 @@ fn a_disc_of_another_deck_is_not_begun() {
         &disc_file(&[1, 0], &[sector, [0; SECTOR]].concat()),
     );
     let told = folder.fails("begin run.disc", 64);
-    let start = "station: run.disc has 1 recorded sector and no save; they seem to be another";
+    let start = "station: run.disc has 1 recorded sector and no save, and seems to be another";
     assert!(told.starts_with(start), "{told}");
-    assert!(told.contains("Do not begin it"), "{told}");
+    assert!(told.contains("Leave it as it is"), "{told}");
     folder.done("begin run.disc --anyway");
 }

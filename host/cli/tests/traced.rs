@@ -78,7 +78,7 @@ fn run_strace(folder: &Folder, line: &str, options: &[&str]) -> (End, String) {
     (end, traced)
 }
 
-fn is_part(name: &String) -> bool {
+fn is_part(name: &str) -> bool {
     name.ends_with(".station-part")
 }
 
