@@ -124,7 +124,12 @@ impl Refusal {
                  or a buffer lent to a view is above 65,536"
             }
             Refusal::DiscUnsound => "a kind above 3, or a recorded sector after a blank one",
-            Refusal::LedgerUnfit => "the ledger does not fit",
+            Refusal::LedgerUnfit => {
+                "the ledger does not fit: size above 458; an entry from size on not FFFFFFFF; \
+                 one below size neither FFFFFFFF nor below recorded; recorded differs from the \
+                 disc's; last table neither FFFFFFFF nor a table sector; mode above 2; \
+                 mode 1 where the last recorded sector is missing or not kind 1"
+            }
             Refusal::ReadOnly => {
                 "write, numbered or not, release, close packet, either form of commit \
                  or closing the session with mode 2"
@@ -137,7 +142,11 @@ impl Refusal {
             Refusal::Unreadable => "read or view, and the entry's sector is not kind 1",
             Refusal::AboveSize => "write of v above size",
             Refusal::AboveLimit => "write of v at or above 458",
-            Refusal::NoRoom => "no room",
+            Refusal::NoRoom => {
+                "no room: write needs links + 1 + 8 blank sectors, on discs of 1,000 sectors or \
+                 more links + 1 + 264, commit links + 1, closing links + 257, where links is 7 \
+                 in mode 0 with recorded above 0, else 0"
+            }
             Refusal::WouldBeVat => {
                 "the lent block would be a table sector at the block it is about to take, \
                  or has the tag of a closing's pointer there"
