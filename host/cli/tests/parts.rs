@@ -57,8 +57,10 @@ fn parts_of_runs_in_use() {
         answer.contains(" 1 of them in use and 1 as a part of a run in use "),
         "{answer}"
     );
+    let back = folder.done("space run.disc --back 0");
     folder.done("look-back run.disc 0");
     assert_eq!(told(&folder).1, "pppuTlllllllssss");
+    assert_eq!(folder.done("space run.disc"), back);
 }
 
 /// Of a run with an unreadable sector nothing is shown, so it has no parts.
