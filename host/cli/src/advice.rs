@@ -44,7 +44,7 @@ pub fn of(refusal: Refusal) -> &'static str {
         }
         Refusal::VatExists => "Mount the disc: it has a save already.",
         Refusal::NoVat => {
-            "Begin the disc, unless another deck recorded it: no finished save is found on it."
+            "Begin the disc, with --anyway if something was recorded on it before the first save; leave another deck's disc as it is."
         }
         Refusal::ChainBroken => {
             "Look back fewer steps: the saves before the broken one cannot be reached."

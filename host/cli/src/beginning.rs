@@ -5,6 +5,7 @@ use crate::arguments::Arguments;
 use crate::failure::{Done, Failure};
 use crate::finding::seems_another_decks;
 use crate::form::{counted, Disc};
+use crate::names::shown;
 
 /// Of a disc that the core would begin.
 pub fn check(given: &Arguments, disc: &Disc) -> Done {
@@ -12,7 +13,7 @@ pub fn check(given: &Arguments, disc: &Disc) -> Done {
     if recorded == 0 || given.has("--anyway") {
         return Ok(());
     }
-    let name = given.path(0).display();
+    let name = shown(given.path(0));
     let sectors = counted(recorded, "recorded sector");
     let (image, kinds) = disc.lent();
     Err(Failure::Unsure(match seems_another_decks(image, kinds) {

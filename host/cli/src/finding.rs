@@ -7,6 +7,7 @@ use station::{LEDGER, SECTOR};
 
 use crate::form::counted;
 use crate::ledger::Map;
+use crate::names::shown;
 
 const DATA: u8 = 1;
 
@@ -38,7 +39,7 @@ pub fn told(image: &[u8], start: usize, disc: &Path) -> String {
     if let Some(map) = newest_save(image, start) {
         return format!("the newest save: {}\n", of_table(&map));
     }
-    let disc = disc.display();
+    let disc = shown(disc);
     if let Some((other, map)) = other_start(image) {
         let table = of_table(&map);
         return format!(

@@ -9,6 +9,7 @@ use std::path::{Path, PathBuf};
 use crate::failure::{Done, Failure};
 use crate::files::{flush_folder, folder_of, lock_folder, remove, Place};
 use crate::form;
+use crate::names::shown;
 use crate::parts::{is_part, replace, was_left, Part, THERE_ALREADY};
 
 /// Makes a disc file whose first sectors are data, for `fill` to write, and the
@@ -82,7 +83,7 @@ fn make_new(path: &Path, fill: impl FnOnce(&Part) -> Done) -> Done {
 /// beside one that was left in the making had the name only for that one.
 fn is_free(path: &Path) -> Done {
     if let Some(disc) = disc_beside(path).filter(|disc| disc.exists()) {
-        let reason = format!("the name is for what lies beside {}", disc.display());
+        let reason = format!("the name is for what lies beside {}", shown(&disc));
         return Err(Failure::unwritable(path, reason));
     }
     let left = was_left(path);

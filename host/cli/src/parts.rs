@@ -15,6 +15,7 @@ use std::path::{Path, PathBuf};
 use crate::failure::{Done, Failure};
 use crate::files::{flush_folder, with_suffix, Place};
 use crate::lock;
+use crate::names::shown;
 
 /// What the name of a file in the making ends in.
 pub const SUFFIX: &str = ".station-part";
@@ -173,7 +174,7 @@ fn new_part(path: &Path, kept: Option<&Permissions>) -> Result<(PathBuf, File), 
             }
             Err(_) if remove_left(&part) => continue,
             Err(_) => {
-                let part = part.display();
+                let part = shown(&part);
                 return refused(format!("another command is making it, in {part}"));
             }
         };

@@ -175,8 +175,8 @@ impl Why<'_> {
         match self.session.disc.used() {
             0 => format!("{disc} is blank: begin it."),
             used => format!(
-                "No finished save is found among the {} of {disc}. Begin it, unless another deck \
-                 recorded it: a begin would hide that deck's files.",
+                "No finished save is found among the {} of {disc}. If the power failed before the \
+                 first save, begin it with --anyway; leave another deck's disc as it is.",
                 counted(used, "recorded sector")
             ),
         }

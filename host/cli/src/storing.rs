@@ -11,6 +11,7 @@ use crate::arguments::Arguments;
 use crate::failure::{Done, Failure};
 use crate::files::not_whole;
 use crate::form::counted;
+use crate::names::shown;
 use crate::progress::Progress;
 use crate::reasons::{refused, Asked};
 use crate::session::{Lent, Session};
@@ -67,7 +68,7 @@ impl Storing {
         if !around.watched || self.blocks() < LONG {
             return Ok(());
         }
-        let (name, told) = (self.name.display(), self.told());
+        let (name, told) = (shown(&self.name), self.told());
         say_aside(around, format!("station: storing {name}, {told}\n"))
     }
 

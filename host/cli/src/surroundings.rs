@@ -6,6 +6,7 @@ use std::path::Path;
 
 use crate::disk::{Disk, Files};
 use crate::failure::{Done, Failure};
+use crate::names::shown;
 use crate::screen::Screen;
 
 /// Of the terminal and the computer; the demo has its own input and output.
@@ -52,7 +53,7 @@ pub fn waiting<'a, 'b>(
     let aside = &mut *around.aside;
     move || {
         if !std::mem::replace(&mut told, true) {
-            let disc = disc.display();
+            let disc = shown(disc);
             let text = format!("station: waiting for another command on {disc} or beside it\n");
             // Nobody waits less for not being told.
             let _ = aside.write_all(text.as_bytes());
