@@ -38,6 +38,7 @@ use Rattle.history.specs.Events.{Event, AllAllowed, runs, remembers, afterCall}
 use Rattle.archive.specs.Earlier.{seen, seenBack, SeenLater, showing}
 use Rattle.archive.proofs.Theorem.{earlier-entries}
 use Rattle.history.proofs.Growth.{data-there}
+use Rattle.history.proofs.Theorem.{claimed}
 use Rattle.alike.specs.Alike.{Alike}
 use Rattle.alike.proofs.Views.{mean-nothing}
 use Rattle.client.specs.Day.{Day, ended, goingOn, day, AllDone, opening, savesAmong, filling, storing, viewed}
@@ -212,7 +213,8 @@ module _ (x : Day) (fresh : Bool) (ok : x .answer < 4294967296) (before since : 
       let behind : saved x fresh before c .disc ≡ day x (opening fresh ∷ (before ++ (c ∷ []))) .disc =
       ap (λ (y : Day). y .disc) (sym (s .ends-there) ∙ sym (first-fit x (opening fresh) (before ++ (c ∷ [])) ok (s .roles-fit))) in
       let all : seenBack (runs (world (saved x fresh before c)) (asEvents since) .disc) now (savesAmong since + 0) n offset buffer ≡ seenBack (saved x fresh before c .disc) then 0 n offset buffer =
-      seen-later (asEvents since) (s .went-since .allowed) (savesAmong since) (s .counted) 0 (omega (arith, s .a-page)) then now then-long now-long n offset buffer in
+      seen-later (asEvents since) (s .went-since .allowed) (savesAmong since) (s .counted) 0 then now
+      (claimed (world (saved x fresh before c)) (book x fresh before c) (s .saved-kept) .looks then then-long 0 (omega (arith, s .a-page)) .is-done) now-long n offset buffer in
       ap (λ (d : Disc). seenBack d now (savesAmong since) n offset buffer) (sym (s .same-disc))
       ∙ ap (λ (m : ℕ). seenBack (runs (world (saved x fresh before c)) (asEvents since) .disc) now m n offset buffer) (sym (add-zero (savesAmong since)))
       ∙ all
