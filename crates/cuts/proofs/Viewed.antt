@@ -21,8 +21,7 @@ use Rattle.history.specs.History.{History, feed}
 use Rattle.history.specs.Events.{World, Event, calls, cuts, AllAllowed, cutDisc, next, fed, runs, remembers, begunHistory}
 use Rattle.archive.specs.Earlier.{Seen, seenBack, SeenLater}
 use Rattle.archive.proofs.Theorem.{earlier-entries}
-use Rattle.bench.proofs.Starred.{opened, blank, block, same, full, refused}
-use Rattle.cuts.proofs.Pages.{same-bytes, both}
+use Rattle.bench.proofs.Starred.{opened, blank, block, same, full, refused, both, same-bytes}
 use Rattle.cuts.proofs.Worked.{Played, played, all-allowed, world-left, past-left}
 use Rattle.cuts.proofs.Lists.{start}
 

@@ -77,7 +77,7 @@ module _ (image l : List ℕ) (n : ℕ) (enough : closingLength < n) (few : n �
 
   begun-left : after d l begin ≡ record { answer = 0; disc = d; ledger = m; buffer = [] }
   unfolding after effect puts
-  begun-left = rw begins
+  begun-left = rw (begins, none-recorded n)
 
   begun-fits : fits d v ≡ true
   unfolding fits begun
