@@ -2,57 +2,31 @@
 -- leaves the same ledger and buffer, and leaves discs that are alike.
 -- Assumes nothing.
 use Prim.Native.Nat.{ℕ, zero, suc, _+_}
-use native.Mathlib.Omega.{arith}
 use mathlib.Core.Path.{_≡_, refl, ap, _∙_, subst, subst₂}
 use mathlib.Core.Bool.{Bool, true, not}
 use mathlib.Core.List.{List, [], _∷_, _++_}
 use mathlib.Core.Option.{Option, some}
 use lib.Dec.{eqb, ltb}
-use lib.ListN.{length, replicate, length-take}
+use lib.ListN.{length}
 use Rattle.timestamp.specs.Timestamp.{valid, told}
-use Rattle.vat.specs.Sector.{noStamp, sector}
-use Rattle.vat.proofs.Theorems.{length-sector}
 use Rattle.anchor.specs.Anchor.{farthestStart}
-use Rattle.disc.specs.Disc.{Disc, recorded, Sector, link, puts}
+use Rattle.disc.specs.Disc.{Disc, recorded, puts}
 use Rattle.disc.specs.declared.Walk.{Walk}
 use Rattle.disc.specs.declared.Walk.the-variants.{Reached}
 use Rattle.disc.specs.Tables.{tableAt, mapAt, newest, blockFound}
-use Rattle.disc.specs.Session.{closing, closingLength}
+use Rattle.disc.specs.Session.{closingLength}
 use Rattle.disc.proofs.Found.{newest-table}
 use Rattle.volume.specs.declared.Volume.{Volume}
-use Rattle.volume.specs.Volume.{idle, readOnly, unpack, pack, mapOf, begun, filled}
-use Rattle.recorder.specs.Calls.{Call, begin, mount, write, release, closePacket, commit, closeSession, read, lookBack, timeOf, stampBuffer, bufferOf}
+use Rattle.volume.specs.Volume.{idle, readOnly, unpack, pack, begun, filled}
+use Rattle.recorder.specs.Calls.{Call, begin, mount, write, release, closePacket, commit, closeSession, read, lookBack, timeOf, bufferOf}
 use Rattle.recorder.specs.Refusals.{test, first, links, target, reserve, basic, ledgerLent, blockLent, stampLent, answerLent, unfit, gate, forbiddenAt, numberTests, stampWrong, noRoom, blockOf, notInUse, isSome, walked, isBroken, isEnded, walkTests, tests, outcome}
-use Rattle.recorder.specs.Effects.{Effect, settles, blockReached, cleanNumber, stampOf, saved, effect, settled, after, ifDone, sectorsIf, secondNumber, sectorsOf}
+use Rattle.recorder.specs.Effects.{Effect, settles, blockReached, cleanNumber, effect, settled, after, ifDone, sectorsIf, secondNumber, sectorsOf}
 use Rattle.alike.specs.Alike.{Alike, SameCall}
-use Rattle.recorder.proofs.Done.{SaveDone, mount-done, write-done, commit-done, closing-done, look-back-done, read-done}
+use Rattle.recorder.proofs.Done.{mount-done, look-back-done, read-done}
 use Rattle.recorder.proofs.Answers.{walked-table}
-use Rattle.recorder.proofs.Sectors.{AllWhole, links-whole, whole-append, behind-whole}
+use Rattle.recorder.proofs.Sectors.{AllWhole}
+use Rattle.history.proofs.Recorded.{effect-whole}
 use Rattle.alike.proofs.Discs.{alike-puts, same-recorded, same-sized, same-order, same-blanks, same-kind, same-newest, same-map, same-walked, same-time, same-fits, same-closed}
-
--- every sector of a save fills its block
-save-whole : (d : Disc) (l : List ℕ) (between : List Sector) (stamp buffer : List ℕ) → SaveDone d l between stamp → AllWhole (saved (unpack l) between stamp buffer .sectors)
-save-whole d l between stamp buffer f =
-    let v : Volume = unpack l in
-    let b : ℕ = target v + length between in
-    let ss : List Sector = replicate (links v) link ++ between in
-    behind-whole ss (sector (mapOf v) (v .last) stamp b) (whole-append (replicate (links v) link) between (links-whole (links v)) (f .whole))
-    (length-sector (mapOf v) (v .last) stamp b (omega (arith, length-take (v .size) (v .entries), f .fit .few))
-    (omega (arith, f .room, f .fit .same-recorded, f .sound-disc .few)) (f .timely))
-
-pub effect-whole : (d : Disc) (l : List ℕ) (c : Call) → outcome d l c ≡ 0 → AllWhole (effect d l c .sectors)
-unfolding effect
-effect-whole d l begin e = tt
-effect-whole d l mount e = tt
-effect-whole d l (write n block) e = behind-whole (replicate (links (unpack l)) link) block (links-whole (links (unpack l))) (write-done d l n block e .block-long)
-effect-whole d l (release n) e = tt
-effect-whole d l closePacket e = tt
-effect-whole d l (commit stamp) e = save-whole d l [] (stampOf stamp) (stampBuffer stamp) (commit-done d l stamp e .saving)
-effect-whole d l (closeSession main reserve start) e =
-    save-whole d l (closing main reserve start (target (unpack l))) noStamp [] (closing-done d l main reserve start e .saving)
-effect-whole d l (read n block) e = tt
-effect-whole d l (lookBack k) e = tt
-effect-whole d l (timeOf k answer) e = tt
 
 pub sectors-whole : (d : Disc) (l : List ℕ) (c : Call) → AllWhole (sectorsOf d l c)
 unfolding sectorsOf

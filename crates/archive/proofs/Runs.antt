@@ -35,7 +35,7 @@ behind-true true p q h = h refl
 behind-true false p q h = refl
 
 -- the bytes of sectors from block a on: those of the first and those of the others
-sectors-split : (n a : ℕ) (image : List ℕ)
+pub sectors-split : (n a : ℕ) (image : List ℕ)
     → take (sectorLength * suc n) (drop (sectorLength * a) image)
     ≡ take sectorLength (drop (sectorLength * a) image) ++ take (sectorLength * n) (drop (sectorLength * suc a) image)
 sectors-split n a image =

@@ -5,8 +5,9 @@ use Prim.Native.Nat.{ℕ, _+_, _*_}
 use mathlib.Core.Bool.{Bool, true, false, not, _&&_}
 use mathlib.Core.List.{List, [], _∷_, _++_}
 use mathlib.Core.Option.{none, some}
-use lib.Dec.{T, eqb}
-use lib.ListN.{replicate}
+use mathlib.Core.Path.{_≡_, refl, ap₂}
+use lib.Dec.{T, eqb, eqb→eq}
+use lib.ListN.{replicate, set}
 use lib.Seq.{sets}
 use Rattle.le.specs.Field.{le, readLe, leadingWords, words, leWords, lay, holds}
 use Rattle.le.specs.Bytes.{every, total, holdsText}
@@ -61,6 +62,20 @@ same [] (y ∷ ys) = false
 same (x ∷ xs) [] = false
 same (x ∷ xs) (y ∷ ys) = eqb x y && same xs ys
 
+-- What a test that passes says.
+pub both : (a b : Bool) → T (a && b) → T a × T b
+both true b t = (tt, t)
+both false b t = absurd t
+
+pub same-bytes : (xs ys : List ℕ) → T (same xs ys) → xs ≡ ys
+unfolding same
+same-bytes [] [] t = refl
+same-bytes [] (y ∷ ys) t = absurd t
+same-bytes (x ∷ xs) [] t = absurd t
+same-bytes (x ∷ xs) (y ∷ ys) t =
+    let s = both (eqb x y) (same xs ys) t in
+    ap₂ (λ (z : ℕ) (zs : List ℕ). z ∷ zs) (eqb→eq x y (s .0)) (same-bytes xs ys (s .1))
+
 abbrev pub refused : ℕ → ℕ
 refused n = n * 4294967296
 
@@ -74,9 +89,13 @@ numbers n = numbersOn n 0 0
 abbrev pub full : List ℕ
 full = numbers 458
 
--- A timestamp of whole minutes, with the twelve bits of its zone: 2049 is -2047, 2656 is -1440.
+-- A timestamp of whole minutes, with the twelve bits of its zone: 2049 is -2047, 2656 is -1440, 2655 is -1441.
 abbrev pub stamp : ℕ → ℕ → ℕ → ℕ → ℕ → ℕ → List ℕ
 stamp zone year month day hour minute = le 2 (4096 + zone) ++ (le 2 year ++ (month ∷ day ∷ hour ∷ minute ∷ 0 ∷ 0 ∷ 0 ∷ 0 ∷ []))
+
+-- A timestamp with other seconds.
+abbrev pub withSeconds : ℕ → List ℕ → List ℕ
+withSeconds seconds s = set s 8 seconds
 
 abbrev pub answer : List ℕ
 answer = replicate 8 0
@@ -173,6 +192,10 @@ requested =
     ∷ told-of (stamp 2656 2099 12 31 23 59) 68375519 0
     ∷ wrong-stamp (stamp 2047 2099 12 31 23 59)
     ∷ wrong-stamp (stamp 2048 2099 12 31 23 59)
+    ∷ wrong-stamp (stamp 1441 2099 12 31 23 59)
+    ∷ wrong-stamp (stamp 2655 2099 12 31 23 59)
+    ∷ told-of (withSeconds 59 (stamp 0 2096 2 29 12 0)) 66355920 0
+    ∷ wrong-stamp (withSeconds 60 (stamp 0 2096 2 29 12 0))
     ∷ calls-on (blank 3) full (begin ∷ commit (some (stamp 60 1970 1 1 0 30)) ∷ commit none ∷ timeOf 0 answer ∷ timeOf 1 answer ∷ timeOf 2 answer ∷ [])
     (0 ∷ 0 ∷ 1 ∷ refused 16 ∷ 0 ∷ refused 9 ∷ [])
     ∷ calls-on (blank 1) full (begin ∷ commit none ∷ commit (some (stamp 0 2099 2 29 12 0)) ∷ commit (some (stamp 0 2096 2 29 12 0)) ∷ lookBack 0 ∷ commit (some (stamp 0 2099 2 29 12 0)) ∷ [])

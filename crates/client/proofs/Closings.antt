@@ -1,11 +1,11 @@
--- What a host wants of a closed disc: it stays as it was, what was saved is read back, and a write is turned away.
---     closing-reads     whatever was tried since
---     write-is-refused  17, or one of 1 to 5
+-- What a host wants of a closed disc: it stays as it was, it mounts clean, what was saved is read back, and what may record is turned away.
+--     closing-clean, closing-reads   whatever was tried since
+--     is-refused                     17, or one of 1 to 5
 -- Assumes nothing.
 use Prim.Native.Nat.{ℕ, zero, suc, _*_, _<_}
 use native.Mathlib.Omega.{arith}
 use mathlib.Core.Path.{_≡_, refl, sym, ap, _∙_, subst, subst₂}
-use mathlib.Core.Bool.{Bool, true, false, not}
+use mathlib.Core.Bool.{Bool, true, false, _||_, not, or-true}
 use mathlib.Core.List.{List, [], _∷_, _++_}
 use mathlib.Core.Logic.{inl, inr}
 use mathlib.Core.Option.{Option, some}
@@ -16,9 +16,11 @@ use Rattle.anchor.specs.declared.Extent.{Extent}
 use Rattle.disc.specs.Disc.{Disc, lent, sized}
 use Rattle.disc.specs.Session.{sessionClosed}
 use Rattle.volume.specs.Volume.{ledgerLength}
-use Rattle.recorder.specs.Calls.{Call, mount, write, closeSession}
+use Rattle.recorder.specs.Calls.{Call, mount, write, closeSession, bufferOf, restores, mayRecord}
 use Rattle.recorder.specs.Refusals.{Test, test, first, tests, outcome}
-use Rattle.roles.specs.Keeping.{outcomeRoles, AfterRoles, leftRoles, afterRoles}
+use Rattle.recorder.specs.Effects.{After, after}
+use Rattle.roles.specs.Keeping.{rolesTests, outcomeRoles, AfterRoles, leftRoles, afterRoles}
+use Rattle.roles.proofs.Lent.{fit-same, call-same}
 use Rattle.history.specs.History.{unusedEntry, Snapshot, History}
 use Rattle.history.specs.Events.{Event, AllAllowed, runs, remembers, afterCall}
 use Rattle.history.specs.Claim.{DoneShowing}
@@ -58,6 +60,17 @@ module _ (x : Day) (fresh : Bool) (ok : x .answer < 4294967296) (before : List C
       let left = closes (y .ledger) refl main reserve n is-done in
       (left .0, left .1, subst (λ (z : Day). ClosedShowing (z .disc) (left .0)) (sym same) (left .2))
 
+  -- and it mounts clean, whatever is tried on it
+  pub closing-clean : (held : Option (List ℕ)) (tried : List Event) (i k o l : List ℕ) → lent i k ≡ leftBy (day x (opening fresh ∷ (before ++ (closing ∷ []))) .disc) held tried
+      → length o ≡ length k → length l ≡ ledgerLength → {r : ℕ} {o′ l′ b : List ℕ} → leftRoles r i k o′ l′ b ≡ afterRoles (lent i k) o l mount → r ≡ 1
+  closing-clean held tried i k o l same fit long e =
+      let d : Disc = day x (opening fresh ∷ (before ++ (closing ∷ []))) .disc in
+      let unchanged : leftBy d held tried ≡ d = closed-discs .unchanged (record { disc = d; ledger = held }) (left-closed .2 .is-closed) tried in
+      ap (λ (y : AfterRoles). y .call .answer) e
+      ∙ ap (λ (y : After). y .answer) (call-same (lent i k) o l mount (fit-same (lent i k) o l mount fit))
+      ∙ ap (λ (z : Disc). after z l mount .answer) (same ∙ unchanged)
+      ∙ left-closed .2 .clean l long
+
 -- whatever is tried leaves it
 pub closing-reads : (x : Day) (fresh : Bool) → x .answer < 4294967296 → (v : ℕ) (block : List ℕ) (main reserve : Extent) (n : ℕ)
     → AllDone x (opening fresh ∷ write (some v) block ∷ closeSession main reserve n ∷ []) → (held : Option (List ℕ)) (tried : List Event) (y : Day) (out : List ℕ) → y .answer < 4294967296 → Fit y
@@ -80,22 +93,24 @@ away-first true b ts t = inr (omega arith, omega arith)
 away-first false true ts t = inr (omega arith, omega arith)
 away-first false false ts t = t
 
-module _ (d : Disc) (roles l : List ℕ) (v : ℕ) (block : List ℕ) where
-  roles-away : TurnedAway (outcome d l (write (some v) block)) → TurnedAway (outcomeRoles d roles l (write (some v) block))
+module _ (d : Disc) (roles l : List ℕ) (c : Call) where
+  roles-away : mayRecord c ≡ true → TurnedAway (outcome d l c) → TurnedAway (outcomeRoles d roles l c)
   unfolding outcome outcomeRoles
-  roles-away = away-first (not (sized d)) (not (eqb (length roles) (length (d .kinds)))) (tests d l (write (some v) block))
+  roles-away m t =
+      subst (λ (lent : Bool). TurnedAway (first (rolesTests lent d roles ++ tests d l c))) (sym (ap (λ (t : Bool). restores c || t) m ∙ or-true (restores c)))
+      (away-first (not (sized d)) (not (eqb (length roles) (length (d .kinds)))) (tests d l c) t)
 
-  refused-whole : (n : ℕ) → outcomeRoles d roles l (write (some v) block) ≡ n → TurnedAway n
-      → afterRoles d roles l (write (some v) block) ≡ leftRoles (n * 4294967296) (d .image) (d .kinds) roles l block
+  refused-whole : (n : ℕ) → outcomeRoles d roles l c ≡ n → TurnedAway n → afterRoles d roles l c ≡ leftRoles (n * 4294967296) (d .image) (d .kinds) roles l (bufferOf c)
   unfolding afterRoles
   refused-whole zero e (inl z) = absurd (omega arith)
   refused-whole zero e (inr z) = absurd (omega (arith, z .0))
   refused-whole (suc n) e t = rw e
 
-pub write-is-refused : (i k o l block : List ℕ) (v : ℕ) {r : ℕ} {i′ k′ o′ l′ : List ℕ} → leftRoles r i′ k′ o′ l′ block ≡ afterRoles (lent i k) o l (write (some v) block) → sessionClosed (lent i k) ≡ true
+-- whichever call 17 turns away
+pub is-refused : (i k o l : List ℕ) (c : Call) → mayRecord c ≡ true → {r : ℕ} {i′ k′ o′ l′ b : List ℕ} → leftRoles r i′ k′ o′ l′ b ≡ afterRoles (lent i k) o l c → sessionClosed (lent i k) ≡ true
     → ClosedAnswer r × (ended r i′ k′ o′ l′ ≡ ended r i k o l)
-write-is-refused i k o l block v {r} {i′} {k′} {o′} {l′} e closed =
-    let n : ℕ = outcomeRoles (lent i k) o l (write (some v) block) in
-    let away : TurnedAway n = roles-away (lent i k) o l v block (closed-discs .turned-away (lent i k) closed l (write (some v) block) refl) in
-    let all : leftRoles r i′ k′ o′ l′ block ≡ leftRoles (n * 4294967296) i k o l block = e ∙ refused-whole (lent i k) o l v block n refl away in
+is-refused i k o l c m {r} {i′} {k′} {o′} {l′} {b} e closed =
+    let n : ℕ = outcomeRoles (lent i k) o l c in
+    let away : TurnedAway n = roles-away (lent i k) o l c m (closed-discs .turned-away (lent i k) closed l c m) in
+    let all : leftRoles r i′ k′ o′ l′ b ≡ leftRoles (n * 4294967296) i k o l (bufferOf c) = e ∙ refused-whole (lent i k) o l c n refl away in
     ((n, away, ap (λ (x : AfterRoles). x .call .answer) all), ap {B = Day} (λ (x : AfterRoles). record { answer = r; disc = x .call .disc; roles = x .roles; ledger = x .call .ledger }) all)

@@ -5,6 +5,7 @@ pub mod Saves
 pub mod Since
 pub mod Times
 pub mod Written
+pub mod Blocks
 pub mod Runs
 pub mod Closings
 pub mod Counted

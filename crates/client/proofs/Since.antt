@@ -76,6 +76,7 @@ pub record SavedThere (x : Day) (fresh : Bool) (before : List Call) (c : Call) (
   pub before-done : AllDone (opened x fresh) before
   pub is-done : outcome (upTo x fresh before .disc) (upTo x fresh before .ledger) c ≡ 0
   pub saved-done : saved x fresh before c .answer < 4294967296
+  pub saved-kept : Kept (world (saved x fresh before c)) (book x fresh before c)
   pub ends-there : day (opened x fresh) (before ++ (c ∷ [])) ≡ saved x fresh before c
   pub a-page : length (book x fresh before c .pages) ≡ suc (length (remembered x fresh before .pages))
   pub went-since : Went (saved x fresh before c) (book x fresh before c) since
@@ -101,7 +102,8 @@ saved-there x fresh ok before since c is-save a =
     let z-done : z .answer < 4294967296 = called-done y c since b-done y-rest in
     let z-rest : AllDone z since = rest-done y c since b-done y-rest in
     let w : Went z hz since = went since z hz z-done z-rest in
-    let moved : MovedBack (hz .pages) (history z hz since .pages) (savesAmong since) = moved-back since z hz z-done z-rest (kept-next y c c-done hy kept) in
+    let z-kept : Kept (world z) hz = kept-next y c c-done hy kept in
+    let moved : MovedBack (hz .pages) (history z hz since .pages) (savesAmong since) = moved-back since z hz z-done z-rest z-kept in
     record {
       roles-fit = start-fit x fresh (before ++ (c ∷ since)) ok a;
       start-done = e;
@@ -109,6 +111,7 @@ saved-there x fresh ok before since c is-save a =
       before-done = b-done;
       is-done = c-done;
       saved-done = z-done;
+      saved-kept = z-kept;
       ends-there = joined before (c ∷ []) o ∙ first-done y c [] b-done (part-done (c ∷ []) since y y-rest);
       a-page = ap length (saved-page (y .disc) (y .ledger) hy kept c is-save c-done (secondNumber (y .disc) (y .ledger) c));
       went-since = w;

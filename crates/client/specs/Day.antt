@@ -1,7 +1,7 @@
 -- A host program's day: calls one after another, each on what the one before left, until one is refused.
 use Prim.Native.Nat.{ℕ, _+_, _*_, _<_, _≤_}
 use mathlib.Core.Bool.{Bool, true, false, _&&_}
-use mathlib.Core.List.{List, [], _∷_}
+use mathlib.Core.List.{List, [], _∷_, _++_, map}
 use mathlib.Core.Option.{Option, none, some}
 use mathlib.Core.Path.{_≡_}
 use lib.Dec.{eqb, ltb}
@@ -147,11 +147,16 @@ ClosedAnswer r = (n : ℕ) × TurnedAway n × (r ≡ n * 4294967296)
 abbrev pub filling : List ℕ → List ℕ → Seen
 filling bytes buffer = showing (length bytes) (filledWith bytes buffer)
 
--- A block is recorded without a number, and behind it, as number v, the entry of a run: the block's first n bytes.
-abbrev pub storing : Day → Bool → ℕ → List ℕ → ℕ → List Call
-storing x fresh v block n =
+-- A block is recorded without a number, and more behind it, and behind them all, as number v, the entry of a run: their first n bytes.
+abbrev pub storing : Day → Bool → ℕ → List ℕ → List (List ℕ) → ℕ → List Call
+storing x fresh v block more n =
     let t : ℕ = day x (opening fresh ∷ write none block ∷ []) .answer in
-    opening fresh ∷ write none block ∷ write (some v) (entry (extent n t ∷ []) (t + 1)) ∷ []
+    opening fresh ∷ write none block ∷ (map (write none) more ++ (write (some v) (entry (extent n t ∷ []) (t + length (block ∷ more))) ∷ []))
+
+-- The blocks' bytes, one behind the other.
+abbrev pub joinedBlocks : List (List ℕ) → List ℕ
+joinedBlocks [] = []
+joinedBlocks (block ∷ more) = block ++ joinedBlocks more
 
 -- A day that goes on with a view, if all so far was done: it leaves disc, roles and ledger as they were.
 abbrev pub viewed : Day → ℕ → ℕ → List ℕ → Day

@@ -6,8 +6,8 @@ ghost use mathlib.Core.Path.{_≡_};
 ghost use mathlib.Core.Bool.{Bool, true};
 ghost use mathlib.Core.List.{List, [], _∷_, _++_};
 ghost use mathlib.Core.Option.{Option, some};
-ghost use Prim.Native.Nat.{ℕ, _*_, _<_};
-ghost use lib.ListN.{length};
+ghost use Prim.Native.Nat.{ℕ, _*_, _<_, _≤_};
+ghost use lib.ListN.{length, take, drop};
 ghost use Rattle.timestamp.specs.Timestamp.{toldLength, told};
 ghost use Rattle.vat.specs.Table.{sectorLength};
 ghost use Rattle.vat.specs.Sector.{noStamp};
@@ -15,11 +15,12 @@ ghost use Rattle.anchor.specs.declared.Extent.{Extent};
 ghost use Rattle.disc.specs.Disc.{Disc, lent};
 ghost use Rattle.volume.specs.Volume.{ledgerLength};
 ghost use Rattle.recorder.specs.Calls.{Call, write, commit, closeSession, saves};
+ghost use Rattle.run.specs.View.{mostViewed};
 ghost use Rattle.history.specs.Events.{Event};
 ghost use Rattle.history.specs.Times.{savedStamp};
 ghost use Rattle.archive.specs.Earlier.{seenBack, showing};
 ghost use Rattle.alike.specs.Alike.{Alike};
-ghost use Rattle.client.specs.Day.{Day, ended, day, AllDone, opening, savesAmong, sectorsBehind, CutBehind, tableKept, readsOf, StoppedStoring, StoppedMarking, leftBy, ClosedAnswer};
+ghost use Rattle.client.specs.Day.{Day, ended, day, AllDone, opening, savesAmong, sectorsBehind, CutBehind, tableKept, readsOf, StoppedStoring, StoppedMarking, leftBy, ClosedAnswer, filling, storing, joinedBlocks};
 
 // Whatever was done since a save of x, with k saves among it: k saves back, v reads x. Any 1,848 bytes will do as ledger, and
 // any bytes as roles, one a sector.
@@ -65,6 +66,28 @@ pub fn seen_long_ago(
         return shown;
     }
     viewer::view(image, kinds, ledger, v, offset, out)
+}
+
+// A run of any number of blocks, stored one behind the other with its entry as number v, is shown from any offset in it.
+pub fn view_run(
+    image: &[u8],
+    kinds: &[u8],
+    ledger: &[u8],
+    v: u32,
+    offset: u64,
+    out: &mut [u8],
+) -> u64
+    ensures { λ r. ⌜ ((start : Day) (fresh : Bool) (block : List ℕ) (more : List (List ℕ)) (n : ℕ) → start .answer < 4294967296 → AllDone start (storing start fresh v block more n) → (lent (now (image .entry)) (now (kinds .entry))) ≡ day start (storing start fresh v block more n) .disc → now (ledger .entry) ≡ day start (storing start fresh v block more n) .ledger → 0 < n → n < 1073741824 → n ≤ sectorLength * length (block ∷ more) → offset ≤ n → length (now (out .entry)) ≤ mostViewed → showing r (now (out .exit)) ≡ filling (take (length (now (out .entry))) (drop offset (take n (joinedBlocks (block ∷ more))))) (now (out .entry))) ⌝ }
+{
+    viewer::view(image, kinds, ledger, v, offset, out)
+}
+
+// A disc whose session was closed mounts clean, whatever was tried on it since, done, refused or cut. Any 1,848 bytes will do as ledger, and any bytes as
+// roles, one a sector.
+pub fn mount_closed(image: &[u8], kinds: &[u8], roles: &mut [u8], ledger: &mut [u8]) -> u64
+    ensures { λ r. ⌜ ((start : Day) (fresh : Bool) (before : List Call) (main reserve : Extent) (n : ℕ) (held : Option (List ℕ)) (tried : List Event) → start .answer < 4294967296 → AllDone start (opening fresh ∷ (before ++ (closeSession main reserve n ∷ []))) → (lent (now (image .entry)) (now (kinds .entry))) ≡ leftBy (day start (opening fresh ∷ (before ++ (closeSession main reserve n ∷ []))) .disc) held tried → length (now (roles .entry)) ≡ length (now (kinds .entry)) → length (now (ledger .entry)) ≡ ledgerLength → r ≡ 1) ⌝ }
+{
+    keeper::mount(image, kinds, roles, ledger)
 }
 
 // Whatever was tried on a disc since its session was closed, done, refused or cut: v reads what was saved. Any 1,848 bytes will do as ledger,

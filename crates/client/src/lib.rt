@@ -364,7 +364,7 @@ fn store(
     block: &[u8],
     n: u32,
 ) -> u64
-    ensures { λ r. ⌜ ended r (now (image .exit)) (now (kinds .exit)) (now (roles .exit)) (now (ledger .exit)) ≡ day (morning (now (image .entry)) (now (kinds .entry)) (now (roles .entry)) (now (ledger .entry))) (storing (morning (now (image .entry)) (now (kinds .entry)) (now (roles .entry)) (now (ledger .entry))) fresh v (now (block .entry)) n) ⌝ }
+    ensures { λ r. ⌜ ended r (now (image .exit)) (now (kinds .exit)) (now (roles .exit)) (now (ledger .exit)) ≡ day (morning (now (image .entry)) (now (kinds .entry)) (now (roles .entry)) (now (ledger .entry))) (storing (morning (now (image .entry)) (now (kinds .entry)) (now (roles .entry)) (now (ledger .entry))) fresh v (now (block .entry)) [] n) ⌝ }
 {
     let written = write_run(image, kinds, roles, ledger, fresh, block);
     if REFUSED <= written {
@@ -390,8 +390,8 @@ pub fn store_and_view(
     offset: u64,
     out: &mut [u8],
 ) -> u64
-    ensures { λ r. ⌜ ended r (now (image .exit)) (now (kinds .exit)) (now (roles .exit)) (now (ledger .exit)) ≡ viewed (day (morning (now (image .entry)) (now (kinds .entry)) (now (roles .entry)) (now (ledger .entry))) (storing (morning (now (image .entry)) (now (kinds .entry)) (now (roles .entry)) (now (ledger .entry))) fresh v (now (block .entry)) n)) v offset (now (out .entry)) ⌝ }
-    ensures { λ r. ⌜ (AllDone (morning (now (image .entry)) (now (kinds .entry)) (now (roles .entry)) (now (ledger .entry))) (storing (morning (now (image .entry)) (now (kinds .entry)) (now (roles .entry)) (now (ledger .entry))) fresh v (now (block .entry)) n) → 0 < n → n ≤ sectorLength → offset ≤ n → length (now (out .entry)) ≤ mostViewed → showing r (now (out .exit)) ≡ filling (take (length (now (out .entry))) (drop offset (take n (now (block .entry))))) (now (out .entry))) ⌝ }
+    ensures { λ r. ⌜ ended r (now (image .exit)) (now (kinds .exit)) (now (roles .exit)) (now (ledger .exit)) ≡ viewed (day (morning (now (image .entry)) (now (kinds .entry)) (now (roles .entry)) (now (ledger .entry))) (storing (morning (now (image .entry)) (now (kinds .entry)) (now (roles .entry)) (now (ledger .entry))) fresh v (now (block .entry)) [] n)) v offset (now (out .entry)) ⌝ }
+    ensures { λ r. ⌜ (AllDone (morning (now (image .entry)) (now (kinds .entry)) (now (roles .entry)) (now (ledger .entry))) (storing (morning (now (image .entry)) (now (kinds .entry)) (now (roles .entry)) (now (ledger .entry))) fresh v (now (block .entry)) [] n) → 0 < n → n ≤ sectorLength → offset ≤ n → length (now (out .entry)) ≤ mostViewed → showing r (now (out .exit)) ≡ filling (take (length (now (out .entry))) (drop offset (take n (now (block .entry))))) (now (out .entry))) ⌝ }
 {
     let stored = store(image, kinds, roles, ledger, fresh, v, block, n);
     if REFUSED <= stored {

@@ -15,8 +15,8 @@ use Rattle.recorder.specs.Refusals.{outcome}
 use Rattle.recorder.specs.Effects.{sectorsOf}
 use Rattle.history.specs.History.{Snapshot, History, savedIf, feed}
 use Rattle.history.specs.Events.{World, Event, cuts, ledgerHeld, Torn, Allowed, cutDisc, next, fed, AllAllowed, runs, remembers, afterCall}
-use Rattle.bench.proofs.Starred.{opened, same, full}
-use Rattle.cuts.proofs.Pages.{same-entry, same-page, same-pages, both, page-same, pages-same}
+use Rattle.bench.proofs.Starred.{opened, same, full, both}
+use Rattle.cuts.proofs.Pages.{same-entry, same-page, same-pages, page-same, pages-same}
 use Rattle.cuts.proofs.Worked.{some-none, Played, played, all-allowed, world-left, past-left}
 
 -- ---- the test

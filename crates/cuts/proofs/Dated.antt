@@ -19,8 +19,7 @@ use Rattle.history.specs.History.{History, feed}
 use Rattle.history.specs.Events.{World, Event, calls, cuts, AllAllowed, cutDisc, next, fed, runs, remembers, begunHistory}
 use Rattle.history.specs.Times.{TellsTime, callOf, savedStamp, Saves}
 use Rattle.history.proofs.Times.{save-times, told-there}
-use Rattle.bench.proofs.Starred.{opened, blank, block, full, stamp, answer}
-use Rattle.cuts.proofs.Pages.{both}
+use Rattle.bench.proofs.Starred.{opened, blank, block, full, stamp, answer, both}
 use Rattle.cuts.proofs.Worked.{Played, played, all-allowed, world-left, past-left}
 use Rattle.cuts.proofs.Lists.{start}
 

@@ -26,7 +26,7 @@ use Rattle.cuts.proofs.CutCommit.{commit-works, cut-started, cut-allowe
 use Rattle.cuts.proofs.Lists.{start, begun-works, in-the-links, in-the-links-pages, shown-in-the-links, no-table-yet, shown-no-table-yet}
 use Rattle.cuts.proofs.Lists.{before-the-first-table, first-table-pages, shown-before-the-first-table}
 use Rattle.cuts.proofs.Lists.{looks-like-a-table, struck-pages, shown-looks-like-a-table, three-back, three-back-pages, shown-three-back}
-use Rattle.cuts.proofs.Lists.{unnumbered, unnumbered-pages, shown-unnumbered}
+use Rattle.cuts.proofs.Lists.{unnumbered, unnumbered-pages, shown-unnumbered, cut-twice, cut-twice-pages, shown-cut-twice}
 use Rattle.cuts.proofs.Lists.{scratched, on-scratched, scratched-pages, shown-on-scratched, before-the-cut, old-page, new-page, shown-before-the-cut}
 
 -- ---- what is drawn
@@ -159,6 +159,9 @@ allowed-unnumbered = works-allowed (blank 13) begin begunHistory unnumbered unnu
 pub allowed-on-scratched : AllAllowed (afterCall scratched full mount) on-scratched
 allowed-on-scratched = works-allowed scratched mount (mountedHistory scratched) on-scratched scratched-pages shown-on-scratched
 
+pub allowed-cut-twice : AllAllowed (afterCall scratched full mount) cut-twice
+allowed-cut-twice = works-allowed scratched mount (mountedHistory scratched) cut-twice cut-twice-pages shown-cut-twice
+
 pub allowed-cut : (j : ℕ) → j ≤ 8 → (tear : Option (List ℕ)) → Torn tear → AllAllowed (start 11) (before-the-cut ++ (cuts (commit none) [] j tear ∷ []))
 allowed-cut = cut-allowed (blank 11) begin begunHistory before-the-cut 8 (old-page ∷ []) new-page shown-before-the-cut
 
@@ -184,6 +187,9 @@ drawn-unnumbered = begun-gives 13 unnumbered unnumbered-pages shown-unnumbered
 
 pub drawn-on-scratched : Gives (runs (afterCall scratched full mount) on-scratched .disc) scratched-pages
 drawn-on-scratched = mounted-gives scratched on-scratched scratched-pages shown-on-scratched
+
+pub drawn-cut-twice : Gives (runs (afterCall scratched full mount) cut-twice .disc) cut-twice-pages
+drawn-cut-twice = mounted-gives scratched cut-twice cut-twice-pages shown-cut-twice
 
 -- whatever the struck sector holds
 pub drawn-cut-short : (j : ℕ) → j < 8 → (tear : Option (List ℕ)) → Torn tear

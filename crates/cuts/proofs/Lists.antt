@@ -5,12 +5,12 @@
 use Prim.Native.Nat.{ℕ}
 use mathlib.Core.Bool.{Bool, true, _&&_}
 use mathlib.Core.List.{List, [], _∷_}
-use mathlib.Core.Option.{none, some}
+use mathlib.Core.Option.{Option, none, some}
 use lib.Dec.{T, eqb}
 use lib.ListN.{length, getD}
 use Rattle.vat.specs.Table.{unused}
 use Rattle.vat.specs.Sector.{noStamp, sector}
-use Rattle.disc.specs.Disc.{Disc, plain, torn, puts}
+use Rattle.disc.specs.Disc.{Disc, link, plain, torn, puts}
 use Rattle.volume.specs.Volume.{unpack}
 use Rattle.recorder.specs.Calls.{begin, mount, write, release, closePacket, commit, lookBack}
 use Rattle.recorder.specs.Effects.{after}
@@ -27,6 +27,16 @@ start n = afterCall (blank n) full begin
 
 abbrev pub begun-works : ℕ → List Event → List Snapshot → Bool
 begun-works n es ps = works (blank n) begin begunHistory es ps
+
+-- ---- the sectors that a cut leaves
+
+-- a link that is kept, and a block that is struck, or stays blank
+abbrev struck : Option (List ℕ) → List ℕ
+struck tear = cutDisc (blank 4) (link ∷ plain (block 1) ∷ plain (block 2) ∷ []) 1 tear .kinds
+
+kinds-left : T (same (struck (some (block 9))) (2 ∷ 3 ∷ 0 ∷ 0 ∷ []) && same (struck none) (2 ∷ 0 ∷ 0 ∷ 0 ∷ []))
+unfolding opened same cutDisc
+kinds-left = tt
 
 -- ---- the lists
 
@@ -110,6 +120,19 @@ scratched-pages =
 pub shown-on-scratched : T (works scratched mount (mountedHistory scratched) on-scratched scratched-pages)
 unfolding works scratched on-scratched scratched-pages
 shown-on-scratched = tt
+
+-- a save on it that is cut, a write that is refused while the ledger is lost, a mount and a save, and one more that is cut
+unfoldable pub cut-twice : List Event
+cut-twice =
+    calls (write (some 2) (block 7)) [] ∷ cuts (commit none) [] 0 (some (block 9)) ∷ calls (write (some 0) (block 8)) []
+    ∷ calls mount full ∷ calls (commit none) [] ∷ cuts (commit none) [] 0 none ∷ []
+
+unfoldable pub cut-twice-pages : List Snapshot
+cut-twice-pages = (shows 0 none ∷ shows 1 (some (block 6)) ∷ []) ∷ (shows 0 none ∷ shows 1 (some (block 6)) ∷ []) ∷ []
+
+pub shown-cut-twice : T (works scratched mount (mountedHistory scratched) cut-twice cut-twice-pages)
+unfolding works scratched cut-twice cut-twice-pages
+shown-cut-twice = tt
 
 -- writes without a number, done and cut, between saves: no page shows their blocks
 unfoldable pub unnumbered : List Event

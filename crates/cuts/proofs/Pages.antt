@@ -12,7 +12,7 @@ use Rattle.recorder.specs.Calls.{mount, read, lookBack}
 use Rattle.recorder.specs.Refusals.{outcome}
 use Rattle.recorder.specs.Effects.{After, after}
 use Rattle.history.specs.History.{Entry, unusedEntry, shows, Snapshot}
-use Rattle.bench.proofs.Starred.{block, same, full}
+use Rattle.bench.proofs.Starred.{block, same, both, same-bytes, full}
 
 -- ---- a page, compared with what a state on a disc reads
 
@@ -62,19 +62,6 @@ same-pages [] [] = true
 same-pages [] (p ∷ ps) = false
 same-pages (p ∷ ps) [] = false
 same-pages (p ∷ ps) (q ∷ qs) = same-page p q && same-pages ps qs
-
-pub both : (a b : Bool) → T (a && b) → T a × T b
-both true b t = (tt, t)
-both false b t = absurd t
-
-pub same-bytes : (xs ys : List ℕ) → T (same xs ys) → xs ≡ ys
-unfolding same
-same-bytes [] [] t = refl
-same-bytes [] (y ∷ ys) t = absurd t
-same-bytes (x ∷ xs) [] t = absurd t
-same-bytes (x ∷ xs) (y ∷ ys) t =
-    let s = both (eqb x y) (same xs ys) t in
-    ap₂ (λ (z : ℕ) (zs : List ℕ). z ∷ zs) (eqb→eq x y (s .0)) (same-bytes xs ys (s .1))
 
 entry-same : (e f : Entry) → T (same-entry e f) → e ≡ f
 unfolding same-entry

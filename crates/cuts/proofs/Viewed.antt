@@ -8,7 +8,7 @@ use mathlib.Core.Bool.{Bool, true, _&&_}
 use mathlib.Core.List.{List, [], _∷_}
 use mathlib.Core.Option.{none, some}
 use mathlib.Core.Path.{_≡_, sym, ap, _∙_, subst, subst₂}
-use lib.Dec.{T, eqb, ltb, eqb→eq, ltb→lt}
+use lib.Dec.{T, eqb, eqb→eq}
 use lib.ListN.{length}
 use Rattle.anchor.specs.Anchor.{extent}
 use Rattle.disc.specs.Disc.{Disc}
@@ -21,8 +21,7 @@ use Rattle.history.specs.History.{History, feed}
 use Rattle.history.specs.Events.{World, Event, calls, cuts, AllAllowed, cutDisc, next, fed, runs, remembers, begunHistory}
 use Rattle.archive.specs.Earlier.{Seen, seenBack, SeenLater}
 use Rattle.archive.proofs.Theorem.{earlier-entries}
-use Rattle.bench.proofs.Starred.{opened, blank, block, same, full, refused}
-use Rattle.cuts.proofs.Pages.{same-bytes, both}
+use Rattle.bench.proofs.Starred.{opened, blank, block, same, full, refused, both, same-bytes}
 use Rattle.cuts.proofs.Worked.{Played, played, all-allowed, world-left, past-left}
 use Rattle.cuts.proofs.Lists.{start}
 
@@ -52,7 +51,7 @@ viewed-works n es later m xs =
     let q : Played = played (p .allowed) (p .world) (p .past) later in
     let l : List ℕ = after (p .world .disc) full (lookBack 0) .ledger in
     eqb (outcome (blank n) full begin) 0
-    && (q .allowed && (ltb 0 (length (p .past .pages)) && (eqb (length (q .past .pages)) (m + length (p .past .pages)) && tells (p .world .disc) l xs)))
+    && (q .allowed && (eqb (outcome (p .world .disc) full (lookBack 0)) 0 && (eqb (length (q .past .pages)) (m + length (p .past .pages)) && tells (p .world .disc) l xs)))
 
 -- ---- what it says
 
@@ -67,10 +66,6 @@ seen-same a s t =
     let e = both (eqb (a .answer) (s .answer)) (same (a .buffer) (s .buffer)) t in
     λ i. record { answer = eqb→eq (a .answer) (s .answer) (e .0) i; buffer = same-bytes (a .buffer) (s .buffer) (e .1) i }
 
-full-long : length full ≡ 1848
-unfolding opened
-full-long = eqb→eq (length full) 1848 tt
-
 module _ (n : ℕ) (es later : List Event) (m : ℕ) (xs : List Look) (t : T (viewed-works n es later m xs)) where
   abbrev p : Played
   p = played true (start n) begunHistory es
@@ -82,10 +77,10 @@ module _ (n : ℕ) (es later : List Event) (m : ℕ) (xs : List Look) (t : T (vi
   lookedAt = after (p .world .disc) full (lookBack 0) .ledger
 
   parts : T (eqb (outcome (blank n) full begin) 0)
-      × (T (q .allowed) × (T (ltb 0 (length (p .past .pages))) × (T (eqb (length (q .past .pages)) (m + length (p .past .pages))) × T (tells (p .world .disc) lookedAt xs))))
+      × (T (q .allowed) × (T (eqb (outcome (p .world .disc) full (lookBack 0)) 0) × (T (eqb (length (q .past .pages)) (m + length (p .past .pages))) × T (tells (p .world .disc) lookedAt xs))))
   unfolding viewed-works
   parts =
-      let saved : Bool = ltb 0 (length (p .past .pages)) in
+      let saved : Bool = eqb (outcome (p .world .disc) full (lookBack 0)) 0 in
       let counted : Bool = eqb (length (q .past .pages)) (m + length (p .past .pages)) in
       let told : Bool = tells (p .world .disc) lookedAt xs in
       let a = both (eqb (outcome (blank n) full begin) 0) (q .allowed && (saved && (counted && told))) t in
@@ -116,7 +111,7 @@ module _ (n : ℕ) (es later : List Event) (m : ℕ) (xs : List Look) (t : T (vi
   drawn (y ∷ ys) u =
       let a : After = view (p .world .disc) lookedAt (y .number) (y .offset) (y .buffer) in
       let s = both (eqb (a .answer) (y .told .answer) && same (a .buffer) (y .told .buffer)) (tells (p .world .disc) lookedAt ys) u in
-      ((λ l long. later-seen later (behind .1) m counted 0 (ltb→lt 0 (length (p .past .pages)) (parts .1 .1 .0)) full l full-long long (y .number) (y .offset) (y .buffer) ∙ seen-same a (y .told) (s .0)), drawn ys (s .1))
+      ((λ l long. later-seen later (behind .1) m counted 0 full l (eqb→eq (outcome (p .world .disc) full (lookBack 0)) 0 (parts .1 .1 .0)) long (y .number) (y .offset) (y .buffer) ∙ seen-same a (y .told) (s .0)), drawn ys (s .1))
 
   pub drawn-views : TellsBack (runs (runs (start n) es) later .disc) (m + 0) xs
   drawn-views = subst (λ (w : World). TellsBack (runs w later .disc) (m + 0) xs) (world-left es true (start n) begunHistory) (drawn xs (parts .1 .1 .1 .1))

@@ -18,8 +18,8 @@ use Rattle.recorder.specs.Refusals.{outcome}
 use Rattle.recorder.specs.Effects.{Effect, effect, After, settled, after, ifDone, secondNumber, sectorsOf}
 use Rattle.history.specs.History.{Snapshot, History, answered, feed}
 use Rattle.history.specs.Events.{World, Event, calls, cuts, ledgerHeld, CountsAsDone, Torn, Allowed, cutDisc, ledgerAfter, next, told, fed, AllAllowed, runs, remembers, shown, afterCall}
-use Rattle.bench.proofs.Starred.{opened, same, full}
-use Rattle.cuts.proofs.Pages.{reads-as, reads-page, shows-page, mounts-to, looks-to, same-entry, same-page, same-pages, both, pages-same}
+use Rattle.bench.proofs.Starred.{opened, same, full, both}
+use Rattle.cuts.proofs.Pages.{reads-as, reads-page, shows-page, mounts-to, looks-to, same-entry, same-page, same-pages, pages-same}
 
 -- ---- whether an event is allowed
 

@@ -1,21 +1,22 @@
 -- A save that was made stays k steps back when k saves follow it, over any format: each step of the log keeps the way to it.
 --     step-extends   every step only adds to the disc
 --     page-behind    each page is as many steps back as pages are newer
---     way-walk       along the way the walk back reaches the save
+--     way-walk, walk-way  along the way the walk back reaches the save, and only so
 --     since-kept     every step keeps it, one step longer where it makes a save
 -- Assumes nothing.
 use Prim.Native.Nat.{ℕ, zero, suc, _+_, _<_}
 use native.Mathlib.Nat.{not-suc-le-zero, le-of-suc-le-suc}
 use native.Mathlib.Omega.{arith}
 use mathlib.Core.Path.{_≡_, refl, sym, ap, _∙_, subst}
-use mathlib.Core.Bool.{true}
+use mathlib.Core.Bool.{Bool, true, false}
 use mathlib.Core.List.{List, [], _∷_}
 use mathlib.Core.Option.{Option, none, some}
 use lib.ListN.{length, getD}
-use borrow.Author.Tests.{ne-eqb}
+use lib.Dec.{eqb}
+use borrow.Author.Tests.{ne-eqb, eqb-false}
 use Rattle.vat.specs.Table.{unused}
 use Rattle.disc.specs.declared.Walk.the-variants.{Reached}
-use Rattle.disc.specs.Tables.{walk}
+use Rattle.disc.specs.Tables.{stepped, walk}
 use Rattle.disc.proofs.Found.{newest-table}
 use Rattle.history.specs.History.{Snapshot, History, Fed, saved, feed}
 use Rattle.history.proofs.Log.{Format, orUnused, newestOf, Extends, Plain, Saved, extends-same, State, Step, working, Link, Chain, Pages, Drafted, Inv, newest-plain, newest-saved, head-link}
@@ -47,6 +48,22 @@ module _ (F : Format) where
   unfolding walk
   way-walk d zero t b w = ap Reached (w .0)
   way-walk d (suc k) t b w = rw (ne-eqb (F .previousAt d t) unused (w .1), w .2) (way-walk d k (F .previousAt d t) b (w .3))
+
+  -- and where the walk back reaches a save, the way leads there, since every table is recorded
+  pub walk-way : (d : F .Disc) → ((b : ℕ) → F .table d b ≡ true → b < F .recorded d) → (k t b : ℕ) → t < F .recorded d
+      → walk (F .table d) (F .previousAt d) k t ≡ Reached b → Way d k t b
+  unfolding walk
+  walk-way d recorded-table zero t b h e = let same : t ≡ b = cc in (same, h)
+  walk-way d recorded-table (suc k) t b h e = go (eqb old unused) refl (F .table d old) refl e (walk-way d recorded-table k old b)
+    where
+      old : ℕ
+      old = F .previousAt d t
+
+      go : (u : Bool) → eqb old unused ≡ u → (p : Bool) → F .table d old ≡ p → stepped u p (walk (F .table d) (F .previousAt d) k old) ≡ Reached b
+          → (old < F .recorded d → walk (F .table d) (F .previousAt d) k old ≡ Reached b → Way d k old b) → Way d (suc k) t b
+      go true z p y e ih = absurd (let n : _≡_ {A = ℕ} 0 1 = cc in omega arith)
+      go false z false y e ih = absurd (let n : _≡_ {A = ℕ} 0 1 = cc in omega arith)
+      go false z true y e ih = (h, eqb-false old unused z, y, ih (recorded-table old y) e)
 
   way-kept : {d d′ : F .Disc} → Extends F d d′ → (k t b : ℕ) → Way d k t b → Way d′ k t b
   way-kept e zero t b w = (w .0, omega (arith, w .1, e .more))
@@ -99,24 +116,24 @@ module _ (F : Format) where
             (omega (arith, s .last-sector), (λ u. omega (arith, s .small, s .behind)), table, way-kept (s .extends) k old b (r .way));
       }
 
-  -- of the pages, m were there when the save at block b was made
-  pub record Since (d : F .Disc) (pages : List Snapshot) (m b : ℕ) : Type 0 where
+  -- of the pages, m were there when the save at block b was k steps back
+  pub record Since (d : F .Disc) (pages : List Snapshot) (m k b : ℕ) : Type 0 where
     pub followed : ℕ
-    pub counted : length pages ≡ followed + m
+    pub counted : k + length pages ≡ followed + m
     pub behind : Behind d followed b
 
-  since-plain : {d d′ : F .Disc} → Plain F d d′ → {pages : List Snapshot} {m b : ℕ} → Since d pages m b → Since d′ pages m b
-  since-plain p {pages} {m} {b} r = record { followed = r .followed; counted = r .counted; behind = behind-plain p (r .followed) b (r .behind) }
+  since-plain : {d d′ : F .Disc} → Plain F d d′ → {pages : List Snapshot} {m k b : ℕ} → Since d pages m k b → Since d′ pages m k b
+  since-plain p {pages} {m} {k} {b} r = record { followed = r .followed; counted = r .counted; behind = behind-plain p (r .followed) b (r .behind) }
 
   since-saved : {d d′ : F .Disc} (xs : List ℕ) (last t : ℕ) → Saved F d d′ (working F xs last) t → {draft : Option Snapshot} → Drafted F d xs last draft
-      → {pages : List Snapshot} {m b : ℕ} → Since d pages m b → Since d′ (saved draft pages) m b
-  since-saved {d} {d′} xs last t s {draft} g {pages} {m} {b} r =
-      subst (λ (o : Option Snapshot). Since d′ (saved o pages) m b) (sym (g .shown))
+      → {pages : List Snapshot} {m k b : ℕ} → Since d pages m k b → Since d′ (saved draft pages) m k b
+  since-saved {d} {d′} xs last t s {draft} g {pages} {m} {k} {b} r =
+      subst (λ (o : Option Snapshot). Since d′ (saved o pages) m k b) (sym (g .shown))
       (record { followed = suc (r .followed); counted = omega (arith, r .counted); behind = behind-saved xs last t s (g .newest) (r .followed) b (r .behind) })
 
-  pub since-kept : {s s′ : State F} {f : Fed} (h : History) → Step F s f s′ → Inv F s h → {m b : ℕ} → Since (s .disc) (h .pages) m b → Since (s′ .disc) (feed h f .pages) m b
+  pub since-kept : {s s′ : State F} {f : Fed} (h : History) → Step F s f s′ → Inv F s h → {m k b : ℕ} → Since (s .disc) (h .pages) m k b → Since (s′ .disc) (feed h f .pages) m k b
   unfolding feed
-  since-kept {s} h (Step.quiet same) i {m} {b} r = subst (λ (g : History). Since (s .disc) (g .pages) m b) (sym (same h)) r
+  since-kept {s} h (Step.quiet same) i {m} {k} {b} r = subst (λ (g : History). Since (s .disc) (g .pages) m k b) (sym (same h)) r
   since-kept h (Step.begun second none-there) i r = r
   since-kept h (Step.mounted second t there) i r = r
   since-kept h (Step.looked k second w looks) i r = r
@@ -124,5 +141,5 @@ module _ (F : Format) where
   since-kept h (Step.wrote xs last (some n) t block p inside used reads) i r = since-plain p r
   since-kept h (Step.released xs last n second) i r = r
   since-kept h (Step.committed xs last t second s) i r = since-saved xs last t s (i .draft) r
-  since-kept {s} {s′} h (Step.lost f clears p) i {m} {b} r = subst (λ (g : History). Since (s′ .disc) (g .pages) m b) (sym (clears h)) (since-plain p r)
+  since-kept {s} {s′} h (Step.lost f clears p) i {m} {k} {b} r = subst (λ (g : History). Since (s′ .disc) (g .pages) m k b) (sym (clears h)) (since-plain p r)
   since-kept h (Step.lost-saved xs last t s) i r = since-saved xs last t s (i .draft) r

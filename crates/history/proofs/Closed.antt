@@ -12,7 +12,7 @@ use mathlib.Core.Option.{Option, some}
 use lib.Dec.{eqb}
 use lib.ListN.{length, take, drop, replicate, length-replicate}
 use lib.Seq.{drop-cons}
-use borrow.Author.Tests.{le-ltb, le-leb}
+use borrow.Author.Tests.{le-leb}
 use Rattle.le.specs.Bytes.{every}
 use Rattle.anchor.specs.declared.Extent.{Extent}
 use Rattle.anchor.specs.Anchor.{anchor, anchorTagged}
@@ -22,9 +22,9 @@ use Rattle.disc.specs.Session.{zeroSectors, zeroSector, closing, closingLength,
 use Rattle.disc.proofs.Recording.{Sound, Recorded, put-recorded, puts-append}
 use Rattle.volume.specs.Volume.{ledgerLength, readOnly, unpack, fits}
 use Rattle.volume.proofs.State.{Proper}
-use Rattle.recorder.specs.Calls.{Call, begin, mount, write, release, closePacket, commit, closeSession, read, lookBack, timeOf, bufferOf, mayRecord}
+use Rattle.recorder.specs.Calls.{Call, begin, mount, write, release, closePacket, commit, closeSession, read, lookBack, timeOf, mayRecord}
 use Rattle.recorder.specs.Refusals.{Test, test, first, basic, gate, links, target, ledgerLent, blockLent, stampLent, writeTests, commitTests, closingTests, notInUse, tests, outcome}
-use Rattle.recorder.specs.Effects.{settled, sectorsIf, effect, after, sectorsOf}
+use Rattle.recorder.specs.Effects.{effect, after, sectorsOf}
 use Rattle.recorder.proofs.Done.{ClosingDone, closing-done}
 use Rattle.recorder.proofs.Sectors.{AllWhole, links-whole, closing-whole, length-closing}
 use Rattle.history.specs.History.{Snapshot, History, Fed, feed}
@@ -35,6 +35,8 @@ use Rattle.history.proofs.Log.{none-some, Extends}
 use Rattle.history.proofs.Growth.{F, data-there, data-within, plain-content, NoTables, Grown, puts-plain, links-no-tables, closing-no-tables, behind-counted, behind-extends}
 use Rattle.history.proofs.Saving.{Saving, closing-saving, tableSector, beforeTable, length-before, before-whole, before-no-tables, room, sector-long, savedDisc, save}
 use Rattle.history.proofs.Steps.{done-fed, refused-records-none, records-nothing}
+use Rattle.history.proofs.Recorded.{after-disc, cut-nothing}
+use Rattle.history.proofs.Blank.{closes-blank}
 use Rattle.history.proofs.Theorem.{Kept, all-kept, claimed, begun-kept, mounted-kept, drafted, saved-page, saved-disc, remounts}
 
 -- ---- sectors stand where they were recorded
@@ -220,23 +222,6 @@ module _ (d : Disc) (closed : sessionClosed d ≡ true) (l : List ℕ) where
   nothing (lookBack k) = records-nothing d l (lookBack k) tt
   nothing (timeOf k answer) = records-nothing d l (timeOf k answer) tt
 
--- a call leaves the disc with its sectors
-after-disc : (d : Disc) (l : List ℕ) (c : Call) → after d l c .disc ≡ puts d (recorded d) (sectorsOf d l c)
-unfolding after sectorsOf puts
-after-disc d l c = go (outcome d l c)
-  where
-    go : (n : ℕ) → settled d l (bufferOf c) n (effect d l c) .disc ≡ puts d (recorded d) (sectorsIf n (effect d l c .sectors))
-    go zero = refl
-    go (suc n) = refl
-
-cut-nothing : (d : Disc) (j : ℕ) (tear : Option (List ℕ)) → cutDisc d [] j tear ≡ d
-unfolding cutDisc puts
-cut-nothing d j tear = rw (le-ltb j 0 (omega arith)) (ap (puts d (recorded d)) (none-taken j))
-  where
-    none-taken : (j : ℕ) → take {A = Sector} j [] ≡ []
-    none-taken zero = refl
-    none-taken (suc j) = refl
-
 same-next : (w : World) → sessionClosed (w .disc) ≡ true → (e : Event) → next w e .disc ≡ w .disc
 unfolding next puts
 same-next w closed (calls c junk) =
@@ -288,6 +273,7 @@ closes w h k l here main reserve start e =
 pub closed-discs : ClosedDiscs
 closed-discs =
     record {
+      on-blank = closes-blank;
       after-begin = λ d l e es a.
           closes (runs (afterCall d l begin) es) (remembers (afterCall d l begin) begunHistory es) (all-kept es (afterCall d l begin) begunHistory (begun-kept d l e) a);
       after-mount = λ d l e es a.

@@ -94,7 +94,7 @@ proper-table d ok b mode hm e =
 -- ---- a call that is done or refused
 
 -- what the two look like, once the outcome is known
-refused-next : (w : World) (c : Call) (junk : List ℕ) (n : ℕ) → outcome (w .disc) (ledgerHeld (w .ledger) junk) c ≡ suc n → next w (calls c junk) ≡ w
+pub refused-next : (w : World) (c : Call) (junk : List ℕ) (n : ℕ) → outcome (w .disc) (ledgerHeld (w .ledger) junk) c ≡ suc n → next w (calls c junk) ≡ w
 unfolding next after
 refused-next w c junk n e = rw e (λ i. record { disc = w .disc; ledger = still (onlyTells c) i })
   where

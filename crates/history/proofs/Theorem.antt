@@ -62,8 +62,8 @@ all-extends (e ∷ es) w g a =
     let s : GoodStep w (fed w e) (next w e) = event-step w e g (a .0) in
     extends-on F (step-extends F (s .step)) (all-extends es (next w e) (s .good) (a .1))
 
-pub all-since : (es : List Event) (w : World) (h : History) → Kept w h → AllAllowed w es → {m b : ℕ}
-    → Since F (w .disc) (h .pages) m b → Since F (runs w es .disc) (remembers w h es .pages) m b
+pub all-since : (es : List Event) (w : World) (h : History) → Kept w h → AllAllowed w es → {m k b : ℕ}
+    → Since F (w .disc) (h .pages) m k b → Since F (runs w es .disc) (remembers w h es .pages) m k b
 unfolding AllAllowed runs remembers
 all-since [] w h r a s = s
 all-since (e ∷ es) w h r a s =

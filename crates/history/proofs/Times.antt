@@ -150,8 +150,8 @@ each-told w h r es a e allowed more later follow k counted =
     let r₂ : Kept w₂ h₂ = all-kept (e ∷ []) w₁ h₁ r₁ (allowed, tt) in
     let r₃ : Kept (runs w₂ later) (remembers w₂ h₂ later) = all-kept later w₂ h₂ r₂ follow in
     let b = made w₁ h₁ (r₁ .good) e allowed more in
-    let s : Since F (w₂ .disc) (h₂ .pages) (length (h₂ .pages)) (b .0) = record { followed = 0; counted = omega arith; behind = b .1 } in
-    let t : Since F (runs w₂ later .disc) (remembers w₂ h₂ later .pages) (length (h₂ .pages)) (b .0) = all-since later w₂ h₂ r₂ follow s in
+    let s : Since F (w₂ .disc) (h₂ .pages) (length (h₂ .pages)) 0 (b .0) = record { followed = 0; counted = omega arith; behind = b .1 } in
+    let t : Since F (runs w₂ later .disc) (remembers w₂ h₂ later .pages) (length (h₂ .pages)) 0 (b .0) = all-since later w₂ h₂ r₂ follow s in
     let same : t .followed ≡ k = omega (arith, t .counted, counted) in
     let time : timeAt (runs w₂ later .disc) (b .0) ≡ savedStamp (callOf e) = all-extends later w₂ (r₂ .good) follow .times (b .0) (b .2) ∙ b .3 in
     subst₂ (λ (n : ℕ) (stamp : List ℕ). TellsTime (runs w₂ later .disc) n stamp) same time

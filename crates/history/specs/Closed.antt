@@ -1,14 +1,16 @@
 -- Closed discs (document 02, R-5): a closing that is done leaves one, and on a closed disc nothing is recorded any more.
-use Prim.Native.Nat.{ℕ, _≤_, _<_}
+use Prim.Native.Nat.{ℕ, _*_, _≤_, _<_}
 use mathlib.Core.Bool.{true}
 use mathlib.Core.List.{List}
 use mathlib.Core.Logic.{_⊎_}
 use mathlib.Core.Option.{some}
 use mathlib.Core.Path.{_≡_}
-use lib.ListN.{length}
+use lib.ListN.{length, replicate}
+use Rattle.vat.specs.Table.{sectorLength}
 use Rattle.anchor.specs.declared.Extent.{Extent}
-use Rattle.disc.specs.Disc.{Disc}
-use Rattle.disc.specs.Session.{sessionClosed}
+use Rattle.anchor.specs.Anchor.{farthestStart}
+use Rattle.disc.specs.Disc.{Disc, lent, mostSectors}
+use Rattle.disc.specs.Session.{closingLength, sessionClosed}
 use Rattle.volume.specs.Volume.{ledgerLength}
 use Rattle.recorder.specs.Calls.{Call, begin, mount, closeSession, mayRecord}
 use Rattle.recorder.specs.Refusals.{outcome}
@@ -33,7 +35,16 @@ Closes w h =
 abbrev pub TurnedAway : ℕ → Type 0
 TurnedAway n = (n ≡ 17) ⊎ ((0 < n) × (n ≤ 5))
 
+-- A closing can be done: on the disc d a begin is done, and then a closing.
+abbrev pub ClosesBlank : Disc → List ℕ → Type 0
+ClosesBlank d l =
+    (outcome d l begin ≡ 0)
+    × ((main reserve : Extent) (start : ℕ) → start ≤ farthestStart → outcome (after d l begin .disc) (after d l begin .ledger) (closeSession main reserve start) ≡ 0)
+
 pub record ClosedDiscs : Type 0 where
+  -- Blank discs of 257 sectors or more.
+  pub on-blank : (image l : List ℕ) (n : ℕ) → closingLength < n → n ≤ mostSectors → length image ≡ sectorLength * n → length l ≡ ledgerLength
+      → ClosesBlank (lent image (replicate n 0)) l
   pub after-begin : (d : Disc) (l : List ℕ) → outcome d l begin ≡ 0 → (es : List Event) → AllAllowed (afterCall d l begin) es
       → Closes (runs (afterCall d l begin) es) (remembers (afterCall d l begin) begunHistory es)
   pub after-mount : (d : Disc) (l : List ℕ) → outcome d l mount ≡ 0 → (es : List Event) → AllAllowed (afterCall d l mount) es

@@ -116,7 +116,7 @@ pub fn is_entry(kinds: &[u8], s: &[u8], b: u32) -> bool
     if !vat::table::entry_held(s, FILE_TYPE, b) {
         return false;
     }
-    if le::read16(s, 34) % 8 != 0 {
+    if (le::read16(s, 34) & 7) != 0 {
         return false;
     }
     let n = extent_count(s);

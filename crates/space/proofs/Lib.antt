@@ -4,4 +4,5 @@ pub mod Counts
 pub mod Calls
 pub mod Saves
 pub mod Theorem
+pub mod Called
 pub mod Worked

@@ -4,17 +4,20 @@ use Prim.Native.Nat.{ℕ}
 use mathlib.Core.Bool.{Bool, true, _&&_}
 use mathlib.Core.List.{List, [], _∷_, _++_}
 use mathlib.Core.Option.{none, some}
-use lib.Dec.{T}
+use mathlib.Core.Path.{_≡_, refl, sym, _∙_}
+use lib.Dec.{T, eqb, eqb→eq}
 use lib.ListN.{replicate}
 use Rattle.vat.specs.Table.{unused}
-use Rattle.disc.specs.Disc.{Disc}
+use Rattle.vat.specs.Sector.{noStamp, sector}
+use Rattle.disc.specs.Disc.{Disc, plain, torn, puts}
 use Rattle.volume.specs.Volume.{pack}
-use Rattle.recorder.specs.Calls.{Call, begin, write, release, closePacket, commit, lookBack}
-use Rattle.bench.proofs.Starred.{opened, blank, block, same, full, holding, behind}
+use Rattle.recorder.specs.Calls.{Call, begin, mount, write, release, closePacket, commit, lookBack}
+use Rattle.bench.proofs.Starred.{opened, blank, block, same, both, same-bytes, full, holding, behind}
 use Rattle.tag.specs.Tag.{seal}
 use Rattle.roles.specs.Roles.{names, roleAt, tabulate}
 use Rattle.roles.specs.Keeping.{scanned, letGo, marked, keptUp, outcomeRoles, afterRoles}
-use Rattle.space.specs.Space.{Lent, leavesAll}
+use Rattle.space.specs.Space.{Lent, leavesAll, afresh}
+use Rattle.space.proofs.Theorem.{space}
 
 -- Calls on a disc with these roles and this ledger, and the roles that they leave.
 pub record Row : Type 0 where
@@ -51,3 +54,31 @@ rows =
 pub worked-rows : T (all-right rows)
 unfolding opened same names roleAt tabulate scanned letGo marked keptUp outcomeRoles afterRoles leavesAll all-right rows
 worked-rows = tt
+
+-- ---- and drawn from the claim
+
+-- A mounted disc whose first block cannot be read: number 1 is written again, and a block has no number.
+unfoldable pub scratched : Lent
+scratched =
+    record {
+      disc = puts (blank 20) 0 (torn (block 5) ∷ plain (block 6) ∷ plain (sector (0 ∷ 1 ∷ []) unused noStamp 2) ∷ []);
+      roles = replicate 20 9;
+      ledger = full;
+    }
+
+unfoldable pub evening : List Call
+evening = write (some 1) (block 7) ∷ write none (block 8) ∷ []
+
+unfoldable pub after-evening : List ℕ
+after-evening = 5 ∷ 1 ∷ 3 ∷ replicate 7 4 ++ (0 ∷ 2 ∷ replicate 8 6)
+
+worked-evening : T (eqb (outcomeRoles (scratched .disc) (scratched .roles) (scratched .ledger) mount) 0 && same (leavesAll scratched (mount ∷ evening) .roles) after-evening)
+unfolding opened same names roleAt tabulate scanned letGo marked keptUp outcomeRoles afterRoles leavesAll scratched evening after-evening
+worked-evening = tt
+
+-- worked out afresh from the history these roles are the same
+pub afresh-evening : afresh (scratched .disc) (scratched .ledger) [] (mount ∷ evening) ≡ after-evening
+afresh-evening =
+    let s = both (eqb (outcomeRoles (scratched .disc) (scratched .roles) (scratched .ledger) mount) 0) (same (leavesAll scratched (mount ∷ evening) .roles) after-evening) worked-evening in
+    sym (space .kept-up scratched mount refl (eqb→eq (outcomeRoles (scratched .disc) (scratched .roles) (scratched .ledger) mount) 0 (s .0)) evening)
+    ∙ same-bytes (leavesAll scratched (mount ∷ evening) .roles) after-evening (s .1)

@@ -1,4 +1,5 @@
-// The archive's viewer: shows runs longer than a block. It stands above the log and knows only the log's promises.
+// The archive's viewer: shows runs longer than a block. It stands above the log and knows only the log's promises, and what the floors below say of an
+// entry and of the ledger's bytes.
 use anchor::Extent;
 use vat::table::SECTOR;
 ghost use mathlib.Core.Path.{_≡_};

@@ -30,7 +30,7 @@ last-call c = c .before .before
 
 -- the day
 abbrev stored : tie.Start → List Call
-stored s = storing (X s) (s .args .fresh) (s .args .v) (s .args .block .now) (s .args .n)
+stored s = storing (X s) (s .args .fresh) (s .args .v) (s .args .block .now) [] (s .args .n)
 
 begun : (c : tie.After-store) → ended (c .store .result) (c .store .last .0) (c .store .last .1 .0) (c .store .last .1 .1 .0) (c .store .last .1 .1 .1 .0) ≡ day (X (start-of c)) (stored (start-of c))
 begun c = c .store .ensures

@@ -1,8 +1,10 @@
 -- `client::earlier::write_on_closed` meets its contract: the write is turned away, and alters nothing.
 -- Assumes nothing.
-use mathlib.Core.Path.{_∙_, ap}
+use mathlib.Core.Option.{some}
+use mathlib.Core.Path.{refl, _∙_, ap}
 use Rattle.disc.specs.Session.{sessionClosed}
-use Rattle.client.proofs.Closings.{left-closed, write-is-refused}
+use Rattle.recorder.specs.Calls.{write}
+use Rattle.client.proofs.Closings.{left-closed, is-refused}
 use borrow.Author.Needs.{needs}
 use Rattle.client.proofs.earlier.write_on_closed.Statement.{statement}
 use Rattle.client.proofs.earlier.write_on_closed.Tie as tie
@@ -30,7 +32,7 @@ returns c =
     let w = c .before .before .before .before .before .before .before .before in
     let a = start-of w .args in
     λ x fresh before main reserve n ok all there.
-    write-is-refused (a .image .now) (a .kinds .now) (a .roles .now) (a .ledger .now) (a .block .now) (a .v) (w .write .ensures)
+    is-refused (a .image .now) (a .kinds .now) (a .roles .now) (a .ledger .now) (write (some (a .v)) (a .block .now)) refl (w .write .ensures)
     (ap sessionClosed there ∙ left-closed x fresh ok before main reserve n all .2 .is-closed)
 
 pub write-on-closed-spec : {M : Type 1} → statement M

@@ -6,6 +6,7 @@ use mathlib.Core.Path.{_≡_, sym, ap, _∙_}
 use mathlib.Core.Bool.{true, false}
 use mathlib.Core.List.{List}
 use lib.Dec.{eqb, leb}
+use lib.Bits.{bitAnd, and-mask}
 use lib.ListN.{length}
 use borrow.Author.Tests.{eq-eqb, ne-eqb, le-leb, lt-leb, not-true, not-false}
 use Rattle.le.specs.Field.{holds}
@@ -46,8 +47,8 @@ B c = start-of c .args .b
 rows : (c : tie.After-entry-held) → c .entry-held .result ≡ holds (S c) (entryRows fileType (B c))
 rows c = c .entry-held .ensures
 
-flags : (c : tie.After-read16) → c .read16 .result % 8 ≡ allocationType (S (entry-of c))
-flags c = ap (λ (x : ℕ). x % 8) (c .read16 .ensures)
+flags : (c : tie.After-read16) → bitAnd (c .read16 .result) 7 ≡ allocationType (S (entry-of c))
+flags c = and-mask (c .read16 .result) 3 ∙ ap (λ (x : ℕ). x % 8) (c .read16 .ensures)
 
 count : (c : tie.After-extent-count) → c .extent-count .result ≡ extentCount (S (entry-of (flags-of c)))
 count c = c .extent-count .ensures
