@@ -4,30 +4,36 @@
 use crate::arguments::Arguments;
 use crate::failure::{Done, Failure};
 use crate::finding::seems_another_decks;
-use crate::form::{counted, Disc};
+use crate::form::counted;
 use crate::names::shown;
+use crate::session::Session;
 
 /// Of a disc that the core would begin.
-pub fn check(given: &Arguments, disc: &Disc) -> Done {
-    let recorded = disc.used();
+pub fn check(given: &Arguments, session: &Session) -> Done {
+    let recorded = session.disc.used();
     if recorded == 0 || given.has("--anyway") {
         return Ok(());
     }
     let name = shown(given.path(0));
     let sectors = counted(recorded, "recorded sector");
-    let (image, kinds) = disc.lent();
-    Err(Failure::Unsure(match seems_another_decks(image, kinds) {
-        true => format!(
-            "{name} has {sectors} and no save, and seems to be another deck's\n\
-             Leave it as it is: our first save would hide the deck's files from every reader. \
-             If nobody needs these, type 'station begin {name} --anyway'."
-        ),
-        false => format!(
-            "{name} has {sectors} and no save\n\
-             If the power failed before the first save, type 'station begin {name} --anyway'; \
-             what is recorded then only takes room. If it was written just now, commit saves it. \
-             If another deck recorded it, leave it as it is: \
-             our first save would hide the deck's files from every reader."
-        ),
+    let anyway = format!("type 'station begin {name} --anyway'");
+    let hides = "our first save would hide the deck's files from every reader";
+    let (image, kinds) = session.disc.lent();
+    Err(Failure::Unsure(if session.is_kept_up() {
+        format!(
+            "{name} has {sectors} and no save; commit saves what is written here. \
+             To leave it out, {anyway}."
+        )
+    } else if seems_another_decks(image, kinds) {
+        format!(
+            "{name} has {sectors} and no save, and seems to be another deck's. \
+             Leave it as it is: {hides}. If nobody needs these, {anyway}."
+        )
+    } else {
+        format!(
+            "{name} has {sectors} and no save. If the power failed before the first one, {anyway}; \
+             what is recorded then only takes room. If another deck recorded it, \
+             leave it as it is: {hides}."
+        )
     }))
 }

@@ -35,7 +35,7 @@ pub fn begin(given: &Arguments, around: &mut Surroundings) -> Done {
     let (image, kinds, roles, ledger) = session.lent();
     let begun = station::begin(image, kinds, roles, ledger);
     begun.map_err(|refusal| refused(refusal, &Asked::Begin, &session))?;
-    beginning::check(given, &session.disc)?;
+    beginning::check(given, &session)?;
     let left_out = left_out(&session, None);
     session.keep_ledger()?;
     say_done(around, format!("begun, size 0\n{left_out}"))

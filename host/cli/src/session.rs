@@ -11,7 +11,7 @@ use crate::failure::{Done, Failure};
 use crate::files::{folder_of, lock, lock_folder, open, read_at_most, unlock, Place};
 use crate::form::Disc;
 use crate::keeping::{self, Recording, Roles};
-use crate::ledger::Map;
+use crate::ledger::{recorded, Map};
 use crate::mark::{belonging, marked, MARKED};
 use crate::parts::clear_left;
 use crate::progress::Progress;
@@ -151,6 +151,13 @@ impl Session {
     /// left, whatever this command has done since.
     pub fn kept_map(&self) -> Option<Map> {
         self.kept.as_ref().map(|kept| Map::of(kept))
+    }
+
+    /// Whether the ledger file belongs to the disc as it is: a commit is then not
+    /// refused for it.
+    pub fn is_kept_up(&self) -> bool {
+        let kept = self.kept.as_ref();
+        kept.is_some_and(|kept| recorded(kept) == self.disc.used())
     }
 
     /// As the files have it, after a call of several was refused.

@@ -84,6 +84,24 @@ fn names_of_files() {
     assert!(lines.starts_with(&format!("station: {TOLD} is no disc: ")));
 }
 
+/// What is told of a disc that an import made, and of names beside it.
+#[test]
+fn names_of_imported_discs() {
+    let folder = Folder::example();
+    folder.put("deck.img", &[7; 2048]);
+    let output = run(&folder, &["import", "deck.img", NAME, "--start", "0"]);
+    let told = String::from_utf8(output.stdout).expect("text");
+    assert!(told.contains(&format!("do not begin {TOLD}")), "{told}");
+    assert_eq!(told.lines().count(), 3, "{told}");
+    let lines = fails(&folder, &["begin", NAME], 64);
+    let anyway = format!("type 'station begin {TOLD} --anyway'");
+    assert!(lines.contains(&anyway), "{lines}");
+    let beside = format!("{NAME}.ledger");
+    let lines = fails(&folder, &["export", "run.disc", &beside], 73);
+    let place = format!("the name is for what lies beside {TOLD}\n");
+    assert!(lines.ends_with(&place), "{lines}");
+}
+
 /// The word before a closing.
 #[test]
 fn the_name_of_a_disc_that_is_closed() {

@@ -150,7 +150,7 @@ fn a_disc_with_recorded_sectors_is_begun_by_another_word() {
     assert_eq!(folder.done("begin run.disc"), "begun, size 0\n");
     folder.write(0, "run A");
     let told = folder.fails("begin run.disc", 64);
-    let start = "station: run.disc has 1 recorded sector and no save\n";
+    let start = "station: run.disc has 1 recorded sector and no save; commit saves what is written";
     assert!(told.starts_with(start), "{told}");
     assert!(
         told.contains("type 'station begin run.disc --anyway'"),
@@ -162,7 +162,8 @@ fn a_disc_with_recorded_sectors_is_begun_by_another_word() {
     }
     let folder = Folder::begun(31);
     folder.done_with("cut 1 write run.disc 0 --pad", b"run A");
-    folder.fails("begin run.disc", 64);
+    let told = folder.fails("begin run.disc", 64);
+    assert!(told.contains("If the power failed before"), "{told}");
     assert_eq!(folder.done("begin run.disc --anyway"), "begun, size 0\n");
     assert_eq!(folder.write(0, "run A"), "block 8\n");
 }
