@@ -8,10 +8,12 @@ use crate::form::counted;
 use crate::names::shown;
 use crate::session::Session;
 
-/// Of a disc that the core would begin.
+/// Of a disc that the core would begin. Where it is begun, and nothing written since,
+/// nothing changes.
 pub fn check(given: &Arguments, session: &Session) -> Done {
     let recorded = session.disc.used();
-    if recorded == 0 || given.has("--anyway") {
+    let is_begun = session.is_kept_up() && session.kept_map().is_some_and(|map| map.size == 0);
+    if recorded == 0 || is_begun || given.has("--anyway") {
         return Ok(());
     }
     let name = shown(given.path(0));

@@ -15,7 +15,7 @@ use crate::form::{counted, sector_place, Disc};
 use crate::making::{make, make_disc};
 use crate::mapping;
 use crate::session::{Lent, Session};
-use crate::surroundings::{say, say_aside, waiting, Surroundings};
+use crate::surroundings::{say, say_aside, say_done, waiting, Surroundings};
 
 const DATA: u8 = 1;
 
@@ -47,13 +47,8 @@ pub fn import(given: &Arguments, around: &mut Surroundings) -> Done {
     })?;
     let blank = sectors - data;
     let found = image.found(disc)?;
-    say(
-        around,
-        format!(
-            "{} imported, {blank} blank\n{found}",
-            counted(data, "sector")
-        ),
-    )
+    let data = counted(data, "sector");
+    say_done(around, format!("{data} imported, {blank} blank\n{found}"))
 }
 
 /// What an image has from its partition's first sector on.
@@ -134,7 +129,7 @@ pub fn export(given: &Arguments, around: &mut Surroundings) -> Done {
     })?;
     let told = exported(disc);
     drop(session);
-    say(around, told)
+    say_done(around, told)
 }
 
 /// To standard output, so that the words go aside. As of a view, the files are free

@@ -15,7 +15,7 @@ use crate::reasons::{refused, Asked};
 use crate::runs::InUse;
 use crate::saves::each_save;
 use crate::session::Session;
-use crate::surroundings::{say, Surroundings};
+use crate::surroundings::{say, say_done, Surroundings};
 
 /// A line for each role, and the answer in words.
 pub fn space(given: &Arguments, around: &mut Surroundings) -> Done {
@@ -70,7 +70,7 @@ fn draw_into(file: &Path, plan: &Plan, around: &mut Surroundings) -> Done {
         part.write_at(0, picture.as_bytes())
     })?;
     let sectors = counted(plan.roles.len(), "sector");
-    say(around, format!("drawn, {sectors}\n"))
+    say_done(around, format!("drawn, {sectors}\n"))
 }
 
 /// The disc with its roles, if these are known.

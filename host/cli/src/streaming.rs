@@ -33,9 +33,10 @@ pub fn put_aside(
         return Ok((Box::new(Cursor::new(piece)), length));
     }
     let unwritable = |error: io::Error| Failure::unwritable(folder_of(&place.disc), error);
-    let made = Part::make(&place.run, |part| part.write(&piece));
-    let made = made.and_then(Part::without_a_name);
+    // Nobody can open it by a name once there is something in it.
+    let made = Part::make(&place.run, |_| Ok(())).and_then(Part::without_a_name);
     let mut file = made.map_err(|failure| of_the_folder(failure, place))?;
+    file.write_all(&piece).map_err(unwritable)?;
     let mut length = piece.len();
     loop {
         let piece = read_at_most(stream, PIECE.min(most - length)).map_err(unreadable)?;

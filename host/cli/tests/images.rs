@@ -274,6 +274,23 @@ fn what_has_no_tables() {
     );
 }
 
+/// What is made is made, though nobody is told.
+#[test]
+fn an_answer_that_cannot_be_told() {
+    let (folder, _) = example_and_deck();
+    for line in [
+        "import deck.img deck.disc --start 5",
+        "export run.disc back.img",
+    ] {
+        let told = folder.shell(&format!("station {line} > /dev/full; echo $?"));
+        assert!(
+            told.contains(" sectors ") && told.ends_with("\n74\n"),
+            "{told}"
+        );
+    }
+    assert_eq!(folder.done("list deck.disc"), EXAMPLE_LISTING);
+}
+
 /// The words go aside; the disc is free while the bytes go out.
 #[test]
 fn export_as_a_stream() {

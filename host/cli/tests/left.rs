@@ -77,11 +77,13 @@ fn a_stream_that_waits() {
             "{store} {options} station store run.disc 0; echo $?; rm trace"
         ))
     };
-    for (when, left) in [(1, 1), (2, 0), (3, 0)] {
-        stopped("write", &format!("signal=KILL:when={when}"));
-        assert_eq!(folder.names().len(), names.len() + left, "{when}");
+    for (call, left) in [("unlink", 1), ("write", 0)] {
+        stopped(call, "signal=KILL:when=1");
+        assert_eq!(folder.names().len(), names.len() + left, "{call}");
         folder.done("space run.disc");
         assert_eq!(folder.names(), names);
+    }
+    for when in 1..4 {
         let told = stopped("write", &format!("error=ENOSPC:when={when}"));
         assert!(told.contains(" cannot be written: No space left"), "{told}");
         assert!(told.ends_with("\n73\n"), "{told}");

@@ -239,6 +239,20 @@ fn a_long_stream_in_little_memory() {
     assert_eq!(told, "0\n65000001\n");
 }
 
+/// What waits in memory, and what waits in a file.
+#[test]
+fn streams_around_a_piece() {
+    let folder = Folder::begun(3000);
+    for (v, length) in [(1 << 20) - 1, 1 << 20, (1 << 20) + 1, 2 << 20]
+        .into_iter()
+        .enumerate()
+    {
+        let bytes = run(length);
+        folder.done_with(&format!("store run.disc {v}"), &bytes);
+        assert!(view(&folder, &v.to_string()) == bytes, "{length}");
+    }
+}
+
 /// The number is refused before the stream is read.
 #[test]
 fn a_stream_whose_number_is_refused() {
