@@ -113,7 +113,7 @@ fn seeming(image: &[u8]) -> Option<&'static str> {
     if has(b"NSR03") || last.as_ref().is_some_and(Tag::is_later) {
         Some("UDF 2.00 or later, whose tables have another form")
     } else if has(b"NSR02") || has(b"BEA01") {
-        Some("UDF 1.50 or earlier, without a table, as on hard disks")
+        Some("UDF 1.50 or earlier, without a table, as on hard disks and pressed discs")
     } else if has(b"CD001") {
         Some("ISO 9660, which has no tables")
     } else {

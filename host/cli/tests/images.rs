@@ -225,7 +225,7 @@ const FOUND: &str = "\
 -m cdr -r 2.01 --noefe | 257 | no save is found: the image seems to be UDF 2.00 or later, whose tables have another form
 -m dvdr -r 2.01 | 272 | no save is found: the image seems to be UDF 2.00 or later, whose tables have another form
 -m hd -r 2.01 -b 2048 | 257 | no save is found: the image seems to be UDF 2.00 or later, whose tables have another form
--m hd -r 1.50 -b 2048 | 257 | no save is found: the image seems to be UDF 1.50 or earlier, without a table, as on hard disks";
+-m hd -r 1.50 -b 2048 | 257 | no save is found: the image seems to be UDF 1.50 or earlier, without a table, as on hard disks and pressed discs";
 
 /// Each is followed by what to do, and none of the others is begun by itself.
 #[test]
