@@ -43,7 +43,7 @@ HOMES = {
     "[]": "mathlib.Core.List",
     "none": "mathlib.Core.Option",
     "some": "mathlib.Core.Option",
-    "extent": "Rattle.anchor.specs.Anchor",
+    "extent": "Rattle.extent.specs.Extents",
     "lent": "Rattle.disc.specs.Disc",
     "left": "Rattle.recorder.specs.Effects",
     "after": "Rattle.recorder.specs.Effects",
