@@ -24,12 +24,12 @@ def without_comments(text):
 
 
 def chunks(text):
-    """The lines that begin at the left edge, each with what is indented below it."""
+    """The lines that begin at the left edge, each with what is indented below it, and with a bracket that is closed at the edge."""
     found = []
     for line in text.splitlines():
         if not line.strip():
             continue
-        if line[0].isspace() and found:
+        if line[0] in " \t)}" and found:
             found[-1] += "\n" + line
         else:
             found.append(line)

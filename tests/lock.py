@@ -75,18 +75,17 @@ class Lock:
         path = self.root / "crates" / f"{file}.antt"
         if file not in self.modules and path.is_file():
             # In specs/ what is neither unfolded by itself nor opened by a proof is a definition all the same.
-            self.modules[file] = antt.module(path.read_text(), "definition" if "/specs/" in file else "law")
+            module = self.modules[file] = antt.module(path.read_text(), "definition" if "/specs/" in file else "law")
+            self.faults += [(f"crates/{file}.antt", fault) for fault in module.faults]
         return self.modules.get(file)
 
     def file_of(self, path):
         return str(path.relative_to(self.root / "crates")).removesuffix(".antt")
 
     def definitions(self, path):
-        """Every declaration of specs/, and nothing there that is passed on from elsewhere."""
+        """Every declaration of specs/."""
         file = self.file_of(path)
-        module = self.module(file)
-        self.faults += [(f"crates/{file}.antt", fault) for fault in module.faults]
-        for name in module.declared:
+        for name in self.module(file).declared:
             self.put(file, name)
 
     def put(self, file, name):
@@ -98,11 +97,10 @@ class Lock:
         self.add(crate, f"{place}.{name}", module.resolved([*declared.around, *declared.says, "=", *body]))
         for part, words in declared.parts:
             self.add(crate, f"{place}.{name}.{part}", module.resolved(words))
-        if "/proofs/" in file:
-            self.cited(file, declared, [*declared.around, *declared.says, *body, *(word for _, words in declared.parts for word in words)])
+        self.cited(file, declared, [*declared.around, *declared.says, *body, *(word for _, words in declared.parts for word in words)])
 
     def cited(self, file, citing, words):
-        """What a statement in proofs/ cites there is part of it. What stands in a module of parameters is known to what stands there too."""
+        """What a statement cites of proofs/ is part of it. What stands in a module of parameters is known to what stands there too."""
         module = self.module(file)
         for word in dict.fromkeys(words):
             home = self.home(file, module.homes.get(word))
@@ -121,10 +119,12 @@ class Lock:
         return f"{found[1]}/proofs/{found[2].replace('.', '/')}" if found else None
 
     def law(self, file, name):
-        """A theorem, where it stands: one that is gone has no line."""
+        """A theorem, which must stand there."""
         module = self.module(file)
         if module and name in module.declared:
             self.put(file, name)
+        else:
+            self.faults.append((f"crates/{file}.antt", f"has no theorem {name}, which tests/lock.py names"))
 
     def all_laws(self, path):
         file = self.file_of(path)
@@ -150,7 +150,8 @@ class Lock:
         """Each function's parameters and each of its clauses, and the declared types. A promise without a precondition has no line for one."""
         crate, _, place = str(path.relative_to(self.root / "crates")).removesuffix(".rt").partition("/")
         source = path.read_text()
-        named, _ = rattle.ghost_names(source)
+        named, others = rattle.ghost_names(source)
+        self.faults += [(f"crates/{crate}/{place}.rt", f"`ghost {item}` is not of the form `ghost use MODULE.{{names}}`, without `as`") for item in others]
         homes = {part: home for home, name in named for part in {name, *filter(None, name.split("_"))}}
         for name, text in rattle.types(source).items():
             self.add(crate, f"{place}.{name}", text.split())
@@ -166,13 +167,14 @@ class Lock:
                     self.add(crate, f"{name} {word}" + (f" {number}" if number > 1 else ""), words)
 
     def edits(self):
-        """Each edit that must be refused: where, and what it puts in definitions and code. What it mends in proofs is no part of it."""
+        """Each edit that must be refused: by which crate, and what it puts in definitions and code. What it mends in proofs, and at which law it is refused,
+        moves with the proofs and is no part of it."""
         for path in [*self.root.glob("crates/*/must-fail/*.edit"), *self.root.glob("tests/must-fail/*.edit")]:
             words, kept = [], True
             for line in path.read_text().splitlines():
                 word, _, text = line.partition(": ")
                 kept = not re.search(r"(^|/)proofs/", text) if word == "file" else kept
-                if word in ("refused", "at") or word in ("file", "old", "new") and kept:
+                if word == "refused" or word in ("file", "old", "new") and kept:
                     words += [word, *antt.tokens(text)]
             parent = path.parent.parent
             self.add("tests" if parent.name == "tests" else parent.name, f"must-fail/{path.stem}", words)

@@ -1,8 +1,10 @@
 """Wrong copies for the lock of the statements: each must be told by the name of what moved. statements_edits.py tries them."""
 from pathlib import Path
 
+import lock
+
 ROOT = Path(__file__).resolve().parent.parent
-LOCK = "tests/statements.lock"
+LOCK = lock.LOCK
 CLOSED = "crates/history/specs/Closed.antt"
 CLAIM = "crates/history/specs/Claim.antt"
 THEOREM = "crates/history/proofs/Theorem.antt"
@@ -37,6 +39,9 @@ def clause_less(file, name, number=0):
     return text[start:end], text[start:end - len(clause)], clause
 
 
+COUNTS, LINES = lock.read(ROOT)
+ROWS, LISTS_WORKED, EDITS = (COUNTS[what] for what in ("worked rows", "worked lists", "edits"))
+TURNED_AWAY = f"{LINES[('history', 'specs/Closed.TurnedAway')]} history specs/Closed.TurnedAway\n"
 WRITE_CUT, WRITE_BARE, _ = clause_less(EARLIER, "after_cut")
 CRASH, CRASH_BARE, _ = clause_less(EARLIER, "after_crash", 1)
 LISTED, LISTED_BARE, _ = clause_less("crates/listing/src/list.rt", "list")
@@ -59,10 +64,12 @@ WRONG = {
     "a_struct_of_narrower_numbers": ("crates/anchor/src/lib.rt", "    pub location: u32,", "    pub location: u16,", "anchor src/lib.Extent moved"),
     # a theorem
     "a_theorem_deleted": (THEOREM, "pub save-then-mount : ", "save-and-mount : ", "history proofs/Theorem.save-then-mount went"),
+    "a_theorem_that_is_named_and_gone": (THEOREM, "pub save-then-mount : ", "save-and-mount : ", "proofs/Theorem.antt: has no theorem save-then-mount, which tests/lock.py names"),
     "a_theorem_of_commits_alone": (THEOREM, "pub save-then-mount : (d : Disc) (l : List ℕ) → AllBytes l → (c : Call) → saves c ≡ true",
         "pub save-then-mount : (d : Disc) (l : List ℕ) → AllBytes l → (c : Call) → c ≡ commit none → saves c ≡ true", "history proofs/Theorem.save-then-mount moved"),
     "what_a_theorem_cites": (THEOREM, line_of(THEOREM, "  pub clean : "), "", "history proofs/Theorem.Remounted.clean went"),
     "a_theorem_on_the_page": (PAGE, None, "pub record Delivered : Type 0 where\n  pub power-cuts : PowerCuts\n", "delivery specs/Delivered.Delivered.power-cuts is new"),
+    "a_theorem_proved_on_the_page": ("crates/delivery/proofs/Delivered.antt", None, "pub delivered : Delivered\ndelivered = record { power-cuts = power-cuts }\n", "delivery proofs/Delivered.delivered is new"),
     # a contract
     "after_cut_promises_nothing": (EARLIER, WRITE_CUT, WRITE_BARE, "client src/earlier.after_cut ensures went"),
     "after_cut_promises_an_empty_word": (EARLIER, WRITE_CUT, WRITE_BARE + EMPTY, "client src/earlier.after_cut ensures moved"),
@@ -71,20 +78,20 @@ WRONG = {
     "mount_of_the_log_asks_for_31_sectors": (LOG, MOUNTED, MOUNTED_BARE + "    requires { ⌜ length (now kinds) ≡ 31 ⌝ }\n" + MOUNTED_CLAUSE, "log src/lib.mount requires is new"),
     "the_keeper_takes_roles_from_elsewhere": (KEEPER, "ghost use Rattle.roles.specs.Keeping.{rolesTests, leftRoles, afterRoles};",
         "ghost use Rattle.roles.specs.Keeping.{rolesTests, leftRoles};\nghost use Rattle.roles.specs.Weaker.{afterRoles};", "keeper src/lib.write ensures moved"),
+    "the_keeper_renames_what_it_takes": (KEEPER, "ghost use Rattle.roles.specs.Keeping.{rolesTests, leftRoles, afterRoles};",
+        "ghost use Rattle.roles.specs.Keeping.{rolesTests, leftRoles, weaker as afterRoles};", "keeper/src/lib.rt: `ghost use Rattle.roles.specs.Keeping.{rolesTests, leftRoles, weaker as afterRoles}` is not of the form"),
     "the_viewer_from_an_offset_of_32_bits": ("crates/viewer/src/lib.rt", "    offset: u64,\n    buffer: &mut [u8],\n", "    offset: u32,\n    buffer: &mut [u8],\n", "viewer src/lib.view moved"),
     # what is worked out and tried
-    "a_row_deleted": (STARRED, ROW, "", "59 worked rows, and the lock has 60"),
+    "a_row_deleted": (STARRED, ROW, "", f"{ROWS - 1} worked rows, and the lock has {ROWS}"),
     "a_row_of_another_answer": (STARRED, ROW, ROW.replace("2028", "2029"), "bench proofs/Starred.starred moved"),
-    "a_worked_list_deleted": (LISTS, SHOWN, "", "17 worked lists, and the lock has 18"),
+    "a_worked_list_deleted": (LISTS, SHOWN, "", f"{LISTS_WORKED - 1} worked lists, and the lock has {LISTS_WORKED}"),
     "an_edit_deleted": (SIX_LINKS, None, None, "tests must-fail/six_links went"),
     "an_edit_that_edits_another_line": (SIX_LINKS, "linkCount = 6", "linkCount = 8", "tests must-fail/six_links moved"),
-    "an_edit_more": ("crates/le/must-fail/nothing.edit", None, "file: src/lib.rt\nold: a\nnew: b\n", "101 edits, and the lock has 100"),
+    "an_edit_more": ("crates/le/must-fail/nothing.edit", None, "file: src/lib.rt\nold: a\nnew: b\n", f"{EDITS + 1} edits, and the lock has {EDITS}"),
     # the lock itself
-    "a_line_missing": (LOCK, line_of(LOCK, (ROOT / LOCK).read_text().split("history specs/Closed.TurnedAway")[0].splitlines()[-1] + "history specs/Closed.TurnedAway"), "",
-        "history specs/Closed.TurnedAway is new"),
-    "a_line_more": (LOCK, "history specs/Closed.TurnedAway\n", "history specs/Closed.TurnedAway\n0123456789abcdef history specs/Closed.Forgotten\n",
-        "history specs/Closed.Forgotten went"),
-    "a_count_missing": (LOCK, "100 edits\n", "", "100 edits, and the lock has no"),
+    "a_line_missing": (LOCK, TURNED_AWAY, "", "history specs/Closed.TurnedAway is new"),
+    "a_line_more": (LOCK, TURNED_AWAY, TURNED_AWAY + "0123456789abcdef history specs/Closed.Forgotten\n", "history specs/Closed.Forgotten went"),
+    "a_count_missing": (LOCK, f"{EDITS} edits\n", "", f"{EDITS} edits, and the lock has no"),
     "no_lock": (LOCK, None, None, "history specs/Closed.TurnedAway is new"),
     # what no one could read off the definitions
     "a_definition_passed_on": (CLOSED, "use Rattle.history.specs.Claim.{DoneShowing}", "pub use Rattle.history.specs.Claim.{DoneShowing}",
