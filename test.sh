@@ -84,31 +84,13 @@ told_by() {
     return "$(cat "$1.status")"
 }
 
+# A crate that is proved is one, and each of its must-fail edits.
 rattle_tests() {
-    grep -cE '^[a-z]' crates.txt
+    { grep -E '^[a-z]' crates.txt; find crates -path '*/must-fail/*.edit'; } | wc -l
 }
 
 must_fail_tests() {
     find crates/*/must-fail tests/must-fail -name '*.edit' | wc -l
-}
-
-# Every crate from nothing, and each program run: all that `rt ci` does but for the edits. Those are tried by tests/must_fail.sh, which checks what the edits
-# of a crate leave alone once for all of them. rt starts up to RT_JOBS crates of a floor and waits for all of them, so that with as many as there are
-# processors some would stand idle.
-proved() {
-    local log status told
-    log=$(mktemp)
-    rm -rf target
-    RT_JOBS=4 rt check >"$log" 2>&1
-    status=$?
-    cat "$log"
-    told=$(grep -oE '^rt: ok, [0-9]+ crates proved' "$log" | grep -oE '[0-9]+')
-    rm -f "$log"
-    if [ "$status" -eq 0 ] && [ -n "$told" ]; then
-        echo "$told passed, 0 failed"
-    else
-        return 1
-    fi
 }
 
 # Functions marked as tests, and examples in the documentation, each between two fences.
@@ -147,7 +129,8 @@ one "rt fmt --check" rt fmt --check
 one "tests/vectors.py" outside_vectors
 one "tests/statements.py" python3 tests/statements.py
 counted "tests/statements_edits.py" "$(wrong_statements)" python3 tests/statements_edits.py
-counted "rt check" "$(rattle_tests)" proved
+# rt starts up to RT_JOBS crates of a floor and waits for all of them, so that with as many as there are processors some would stand idle.
+counted "rt ci" "$(rattle_tests)" env RT_JOBS=4 rt ci
 # The edits beside the archive and what is run on it: each leaves a processor idle now and then.
 edits=$(mktemp)
 in_background "$edits" tests/must_fail.sh

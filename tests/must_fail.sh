@@ -1,29 +1,21 @@
 #!/usr/bin/env bash
 # Edits that must be refused: wrong code and definitions, and statements made narrower.
 #     tests/must_fail.sh                     all of them; the last line is 'N passed, M failed'
-#     tests/must_fail.sh --try EDIT FOLDER   one, in a copy of the repository that the folder has or gets
-# The edits of a crate, crates/NAME/must-fail, are refused by the crate itself. Those of tests/must-fail are refused by a crate above the one that they edit,
-# where the theorem, the row or the program stands that rules the edit out: 'refused:' names it, and none below it may refuse. An edit has the form of rt's:
+#     tests/must_fail.sh --try EDIT FOLDER   one of tests/must-fail, in a copy of the repository that the folder has or gets
+# The edits of crates/NAME/must-fail are tried by `rt ci`, each at the price of its whole crate, and only what it was told is looked at here. Those of
+# tests/must-fail are tried here: of crates whose check takes long, and of definitions, contracts and claims that a crate above must refuse, where the
+# theorem, the row or the program stands that rules the edit out. 'refused:' names the crate, and none below it may refuse. An edit has the form of rt's:
 # 'file:', then 'old:' and 'new:' in pairs. 'at:' names a declaration that must be refused, by its file in the crate and its name, or a function that has
 # no such file, as 'fn NAME'. An edit passes if each that it names is refused for itself, and not only since it cites another one that is. Where a statement
 # is made narrower, the edit mends the proof of it too, so that only what uses the statement can refuse it.
-# Run after `rt check`, whose results for the crates that an edit leaves alone are used. What a crate's edits leave alone within it is checked once for all
+# Run after `rt ci`, whose results for the crates that an edit leaves alone are used. What a crate's edits leave alone within it is checked once for all
 # of them: each is checked as `rt dev` does, over what the one before it left.
 set -u
 cd "$(dirname "$0")/.." || exit 2
 
-# edits_of CRATE: the edits that it must refuse
+# edits_of CRATE: those of tests/must-fail that it must refuse
 edits_of() {
-    find crates/"$1"/must-fail -name '*.edit' 2>/dev/null | sort
     grep -lxF "refused: $1" tests/must-fail/*.edit
-}
-
-# refusing EDIT: the crate that must refuse it
-refusing() {
-    case $1 in
-    crates/*) echo "$1" | cut -d/ -f2 ;;
-    *) sed -n 's/^refused: //p' "$1" ;;
-    esac
 }
 
 # apply EDIT FOLDER: makes each of the edit's replacements below the folder; its old text must stand there once
@@ -75,7 +67,7 @@ restored() {
 # refused_at FILE: what is refused for itself, by what the check said: declarations, and functions whose proof rt makes and does not close
 refused_at() {
     {
-        grep -E ': error: `' "$1" | grep -vE 'was not admitted \(' | sed -E 's/^.*crates\/[^/]+\/([^:]*):[0-9]+:[0-9]+: error: `([^`]*)`.*/\1: \2/'
+        grep -E ': error: `' "$1" | grep -vE 'was not admitted \(' | sed -E 's/^.*(crates|must-fail\/[^/]+)\/[^/]+\/([^:]*):[0-9]+:[0-9]+: error: `([^`]*)`.*/\2: \3/'
         sed -nE 's/^fn [a-z_]+::(.*): no proof: .* does not close .*/fn \1/p' "$1"
     } | awk '!seen[$0]++'
 }
@@ -103,19 +95,29 @@ judged() {
 # try EDIT FOLDER: the edit made in the folder's copy, and the crate checked that must refuse it. That it passed stands in a file: a shell that has many
 # children forgets how one ended, once another has its number.
 try() {
-    local edit=$1 folder=$2 work crate below=. began told
+    local edit=$1 folder=$2 work crate began told
     work=$folder/worker-${WORKER:-0}
-    crate=$(refusing "$edit")
-    case $edit in crates/*) below=crates/$crate ;; esac
+    crate=$(sed -n 's/^refused: //p' "$edit")
     began=$(date +%s)
     restored "$work"
-    if told=$(apply "$edit" "$work/$below" 2>&1); then
+    if told=$(apply "$edit" "$work" 2>&1); then
         (cd "$work" && rt dev "$crate") >"$work/said" 2>&1
         told=$(judged "$edit" "$crate" "$work/said" $?) && touch "$folder/$(echo "$edit" | tr / -).passed"
     else
         told="cannot be made: $told"
     fi
     echo "edit $(basename "$edit" .edit): $told ($(($(date +%s) - began)) s)"
+}
+
+# looked_at EDIT FOLDER: what `rt ci` was told when it tried this edit of a crate
+looked_at() {
+    local edit=$1 folder=$2 crate name told
+    crate=$(echo "$edit" | cut -d/ -f2)
+    name=$(basename "$edit" .edit)
+    if told=$(judged "$edit" "$crate" "target/must-fail/$crate/$name/.log" 1 2>&1); then
+        touch "$folder/$(echo "$edit" | tr / -).passed"
+    fi
+    echo "edit $name: $told"
 }
 
 # groups: the crates that must refuse edits, the dearest first: by the seconds of their proof and how many edits there are
@@ -141,6 +143,7 @@ esac
 
 all=$(mktemp -d)
 written=$(find crates/*/must-fail tests/must-fail -name '*.edit' | wc -l)
+for edit in crates/*/must-fail/*.edit; do looked_at "$edit" "$all"; done
 groups | xargs -P 2 --process-slot-var=WORKER -I CRATE tests/must_fail.sh --group CRATE "$all"
 passed=$(find "$all" -maxdepth 1 -name '*.passed' | wc -l)
 failed=$((written - passed))
