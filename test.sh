@@ -1,7 +1,7 @@
 #!/usr/bin/env bash
-# Proves and tests everything: the layout, every crate with its must-fail edits and programs, the outside vectors, the archive for the host program,
-# and on it the Rust tests, which compare it with an independent model and with other makers' discs.
-# The last line is 'N passed, 0 failed'; where something fails it is named above, and the exit status is 1.
+# Proves and tests everything: the layout, every crate with its programs, the edits that must be refused, the outside vectors, the archive for the host
+# program, and on it the Rust tests, which compare it with an independent model and with other makers' discs.
+# The last line is 'N passed, 0 failed'; where something fails it is named above, and the exit status is 1. Each part says how many seconds it took.
 set -u
 cd "$(dirname "$0")" || exit 2
 . host/setup.sh || exit 2
@@ -14,7 +14,7 @@ broken=()
 
 # one NAME COMMAND...: one test, passed if the command succeeds
 one() {
-    local name=$1
+    local name=$1 began=$SECONDS
     shift
     if "$@"; then
         passed=$((passed + 1))
@@ -22,6 +22,7 @@ one() {
         failed=$((failed + 1))
         broken+=("$name")
     fi
+    echo "part $name: $((SECONDS - began)) s"
 }
 
 # What the tests need. None of them is left out where a tool is missing: it fails.
@@ -40,7 +41,7 @@ set_up() {
 # LEAST is how many there are in the sources: a runner that passes fewer, or none, has failed, also if only its words have changed.
 # Only what the runners say of themselves is printed, and the whole end of the output where something fails.
 counted() {
-    local name=$1 least=$2 log good bad
+    local name=$1 least=$2 began=$SECONDS log good bad
     shift 2
     log=$(mktemp)
     "$@" >"$log" 2>&1
@@ -65,6 +66,7 @@ counted() {
     passed=$((passed + good))
     failed=$((failed + bad))
     rm -f "$log"
+    echo "part $name: $((SECONDS - began)) s"
 }
 
 # in_background FILE COMMAND...: starts the command, which writes to the file and leaves its exit status in FILE.status. The shell's own word for how a
@@ -88,7 +90,7 @@ rattle_tests() {
 }
 
 must_fail_tests() {
-    find tests/must-fail -name '*.edit' | wc -l
+    find crates/*/must-fail tests/must-fail -name '*.edit' | wc -l
 }
 
 # Functions marked as tests, and examples in the documentation, each between two fences.
@@ -101,7 +103,7 @@ host_tests_written() {
 
 # Wrong copies, each with its label.
 wrong_statements() {
-    grep -cE '^ +"[a-z_0-9]+": \(' tests/statements_edits.py
+    cat tests/statements_edits.py tests/lock_edits.py | grep -cE '^ +"[a-z_0-9]+": \('
 }
 
 outside_vectors() {
@@ -127,11 +129,12 @@ one "rt fmt --check" rt fmt --check
 one "tests/vectors.py" outside_vectors
 one "tests/statements.py" python3 tests/statements.py
 counted "tests/statements_edits.py" "$(wrong_statements)" python3 tests/statements_edits.py
-counted "rt ci" "$(rattle_tests)" rt ci
-one "rt staticlib station" archive
-# These two at once: each leaves a processor idle now and then.
+# rt starts up to RT_JOBS crates of a floor and waits for all of them, so that with as many as there are processors some would stand idle.
+counted "rt ci" "$(rattle_tests)" env RT_JOBS=4 rt ci
+# The edits beside the archive and what is run on it: each leaves a processor idle now and then.
 edits=$(mktemp)
 in_background "$edits" tests/must_fail.sh
+one "rt staticlib station" archive
 counted "host tests" "$(host_tests_written)" host_tests
 counted "tests/must_fail.sh" "$(must_fail_tests)" told_by "$edits"
 rm -f "$edits" "$edits.status"

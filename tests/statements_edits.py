@@ -3,7 +3,7 @@
 
     python3 tests/statements_edits.py
 
-An edit is tried on a copy of the sources in a temporary folder. The last line is 'N passed, M failed'.
+An edit is tried on a copy of the sources in a temporary folder. Those of the lock stand in lock_edits.py. The last line is 'N passed, M failed'.
 """
 import re
 import shutil
@@ -12,10 +12,14 @@ import sys
 import tempfile
 from pathlib import Path
 
+import lock_edits
+import statements
+
 ROOT = Path(__file__).resolve().parent.parent
 CODE = "crates/station/src/lib.rt"
 HEADER = "host/include/station.h"
 CALLS = "crates/recorder/specs/Calls.antt"
+EFFECTS = "crates/recorder/specs/Effects.antt"
 VIEW = "crates/run/specs/View.antt"
 FLOORS = "crates.txt"
 
@@ -132,8 +136,10 @@ SOURCES = {
         "crates/listing/src/lib.rt: station_list: exported from another crate than station"),
     "exported_under_another_name": ("crates/calls/src/lib.rt", "pub fn refused", '#[export_name = "station_refused"]\npub fn refused',
         "crates/calls/src/lib.rt: 1 marks of an exported function"),
-    "exported_and_not_declared": (CODE, "use anchor::Extent;\n", "use anchor::Extent;\n\n" + EXPORT.format("station_erase"),
+    "exported_and_not_declared": (CODE, "use extent::Extent;\n", "use extent::Extent;\n\n" + EXPORT.format("station_erase"),
         "station.h: station_erase is declared 0 times, not once"),
+    "exported_under_a_condition": (CODE, '#[no_mangle]\npub extern "C" fn station_begin_roles(', '#[cfg(none)]\n#[no_mangle]\npub extern "C" fn station_begin_roles(',
+        "lib.rt: `#[cfg(none)]`: what it makes of the code is not known here"),
     "nothing_exported": (CODE, None, "", "no function is exported"),
     # the header
     "header_lends_the_image_to_begin": (HEADER, "station_begin_roles(const uint8_t *image", "station_begin_roles(uint8_t *image",
@@ -164,6 +170,10 @@ SOURCES = {
         "station.h: station_commit_roles is declared 0 times, not once"),
     "header_renames_by_a_macro": (HEADER, "#define STATION_SECTOR 2048", "#define station_write station_begin\n#define STATION_SECTOR 2048",
         "station.h: defines station_write, which is not a STATION_ name"),
+    "header_leaves_commit_to_a_condition": (HEADER, "uint64_t station_commit_roles(", "#if 0\nuint64_t station_commit_roles(",
+        "station.h: `#if 0`: what stands behind it may be declared or not"),
+    "header_declares_commit_for_c_plus_plus_alone": (HEADER, "uint64_t station_commit_roles(", "#ifdef __cplusplus\nuint64_t station_commit_roles(",
+        "station.h: `#ifdef __cplusplus`: what stands behind it may be declared or not"),
     # what the symbols mean
     "after_from_another_module": (CODE, "specs.Effects.{left, after};", "specs.Effects.{left};\nghost use Rattle.recorder.specs.Weaker.{after};",
         "lib.rt: no ghost use brings after from Rattle.recorder.specs.Effects"),
@@ -178,14 +188,20 @@ SOURCES = {
         "lib.rt: left_ from Rattle.recorder.specs.Weaker stands in for left"),
     "now_from_another_module": (CODE, "ghost use mathlib.Core.List.{[]};", "ghost use mathlib.Core.List.{[]};\nghost use Rattle.recorder.specs.Weaker.{now};",
         "lib.rt: now from Rattle.recorder.specs.Weaker stands in for now from the logic"),
-    "extent_from_another_module": (CODE, "ghost use Rattle.anchor.specs.Anchor.{extent};", "ghost use Rattle.recorder.specs.Weaker.{extent};",
-        "lib.rt: no ghost use brings extent from Rattle.anchor.specs.Anchor"),
+    "extent_from_another_module": (CODE, "ghost use Rattle.extent.specs.Extents.{extent};", "ghost use Rattle.recorder.specs.Weaker.{extent};",
+        "lib.rt: no ghost use brings extent from Rattle.extent.specs.Extents"),
     "view_from_another_module": (CODE, "ghost use Rattle.run.specs.View.{view};", "ghost use Rattle.recorder.specs.Weaker.{view};",
         "lib.rt: no ghost use brings view from Rattle.run.specs.View"),
     "a_call_renamed": (CODE, ", commit, ", ", closePacket as commit, ",
         f"lib.rt: `{IMPORTED.replace(', commit, ', ', closePacket as commit, ')}` is not of the form"),
     "a_call_not_imported": (CODE, ", commit, ", ", ",
         "lib.rt: no ghost use brings commit from Rattle.recorder.specs.Calls"),
+    "a_name_that_no_contract_has": (CODE, "ghost use mathlib.Core.List.{[]};", "ghost use mathlib.Core.List.{[]};\nghost use Rattle.recorder.specs.Weaker.{_whenever_};",
+        "lib.rt: a ghost use brings _whenever_ from Rattle.recorder.specs.Weaker, which no contract here has"),
+    "after_passed_on_by_its_home": (EFFECTS, "unfoldable pub after : ", "pub use Rattle.recorder.specs.Weaker.{after}\n\nunfoldable pub afterwards : ",
+        "crates/recorder/specs/Effects.antt: does not declare after, which the contracts take from it"),
+    "a_call_passed_on_by_its_home": (CALLS, "  commit : Option (List ℕ) → Call", "  save : Option (List ℕ) → Call",
+        "crates/recorder/specs/Calls.antt: does not declare commit, which the contracts take from it"),
     "a_module_taken_whole": (CODE, "ghost use mathlib.Core.List.{[]};", "ghost use mathlib.Core.List.{[]};\nghost use Rattle.recorder.specs.Weaker;",
         "lib.rt: `ghost use Rattle.recorder.specs.Weaker` is not of the form"),
     # who stands above whom
@@ -223,37 +239,44 @@ passed = failed = 0
 
 
 def copied(folder):
-    """What tests/statements.py reads, and the script itself."""
-    files = [*ROOT.glob("crates/*/src/**/*.rt"), ROOT / CALLS, ROOT / VIEW, ROOT / FLOORS, ROOT / HEADER, ROOT / "tests/statements.py"]
-    for path in files:
+    """What tests/statements.py reads."""
+    patterns = ["crates/*/src/**/*.rt", "crates/*/specs/**/*.antt", "crates/*/proofs/**/*.antt", "crates/*/must-fail/*.edit", "tests/must-fail/*.edit"]
+    for path in [*(path for pattern in patterns for path in ROOT.glob(pattern)), ROOT / FLOORS, ROOT / HEADER, ROOT / lock_edits.LOCK]:
         copy = folder / path.relative_to(ROOT)
         copy.parent.mkdir(parents=True, exist_ok=True)
         shutil.copyfile(path, copy)
 
 
-def said_of(folder, *words, given=""):
-    told = subprocess.run([sys.executable, str(folder / "tests/statements.py"), *words], input=given, capture_output=True, text=True)
-    return told.returncode, told.stdout + told.stderr
-
-
 def expect(label, told, status, text):
     """One test: the exit status, and the text in what was said."""
     global passed, failed
-    if told[0] == status and text in told[1]:
+    if told[1] == status and text in told[0]:
         passed += 1
         print(f"{label}: {'refused' if status else 'accepted'}, as it must be")
     else:
         failed += 1
-        print(f"{label}: FAILED: status {told[0]}, and not {status} with '{text}':\n{told[1]}")
+        print(f"{label}: FAILED: status {told[1]}, and not {status} with '{text}':\n{told[0]}")
 
 
 def edited(folder, file, old, new):
-    """The file with one text put for another; without an old text, that alone. The answer is what it held before."""
-    right = (folder / file).read_text()
+    """The file with one text put for another; without an old text, that alone; without a new one, none. The answer is what it held before."""
+    path = folder / file
+    right = path.read_text() if path.is_file() else None
+    if new is None:
+        path.unlink()
+        return right
     if old is not None and right.count(old) != 1:
         sys.exit(f"an edit's old text stands {right.count(old)} times in {file}, and not once: {old}")
-    (folder / file).write_text(new if old is None else right.replace(old, new))
+    path.parent.mkdir(parents=True, exist_ok=True)
+    path.write_text(new if old is None else right.replace(old, new))
     return right
+
+
+def restored(folder, file, right):
+    if right is None:
+        (folder / file).unlink()
+    else:
+        (folder / file).write_text(right)
 
 
 def archive_of(folder, names):
@@ -266,28 +289,41 @@ def archive_of(folder, names):
     return str(archive)
 
 
-with tempfile.TemporaryDirectory() as name:
-    folder = Path(name)
-    copied(folder)
-    expect("sources_as_they_are", said_of(folder), 0, "exported functions, each with the contract of its signature")
-    for label, (file, old, new, refusal) in SOURCES.items():
+def try_sources(folder):
+    """Wrong copies of the sources and of the lock, and right ones: another layout, and what `--accept` has taken."""
+    expect("sources_as_they_are", statements.said_of(folder, []), 0, "exported functions, each with the contract of its signature")
+    for label, (file, old, new, refusal) in {**SOURCES, **lock_edits.WRONG}.items():
         right = edited(folder, file, old, new)
-        expect(label, said_of(folder), 1, refusal)
-        (folder / file).write_text(right)
+        expect(label, statements.said_of(folder, []), 1, refusal)
+        restored(folder, file, right)
+    for label, (file, old, new) in lock_edits.RIGHT.items():
+        right = edited(folder, file, old, new)
+        expect(label, statements.said_of(folder, []), 0, "as the lock has them")
+        restored(folder, file, right)
     for file, old, new in ANOTHER_NUMBER:
         edited(folder, file, old, new)
-    expect("another_number", said_of(folder), 0, "exported functions, each with the contract of its signature")
+    expect("another_number", statements.said_of(folder, ["--accept"]), 0, "exported functions, each with the contract of its signature")
+    expect("another_number_accepted", statements.said_of(folder, []), 0, "exported functions, each with the contract of its signature")
     edited(folder, CODE, "(lookBack k «from_block»)", "(lookBack «from_block» k)")
-    expect("another_number_in_another_order", said_of(folder), 1, "lib.rt: station_look_back_roles: its ensures is not")
+    expect("another_number_in_another_order", statements.said_of(folder, []), 1, "lib.rt: station_look_back_roles: its ensures is not")
     copied(folder)
-    expect("line_as_it_is", said_of(folder, "--archive", PROVED), 0, PROVED)
-    expect("line_on_standard_input", said_of(folder, "--archive", "-", given=f"said before\n{PROVED}\n"), 0, PROVED)
+
+
+def try_archives(folder):
+    expect("line_as_it_is", statements.said_of(folder, ["--archive", PROVED]), 0, PROVED)
+    expect("line_on_standard_input", statements.said_of(folder, ["--archive", "-"], f"said before\n{PROVED}\n"), 0, PROVED)
     for label, (line, refusal) in LINES.items():
-        expect(label, said_of(folder, "--archive", line), 1, refusal)
-    expect("archive_as_declared", said_of(folder, "--archive", PROVED, archive_of(folder, NAMES)), 0, PROVED)
+        expect(label, statements.said_of(folder, ["--archive", line]), 1, refusal)
+    expect("archive_as_declared", statements.said_of(folder, ["--archive", PROVED, archive_of(folder, NAMES)]), 0, PROVED)
     for label, (names, refusal) in ARCHIVES.items():
-        expect(label, said_of(folder, "--archive", PROVED, archive_of(folder, names)), 1, refusal)
-    expect("archive_that_is_missing", said_of(folder, "--archive", PROVED, str(folder / "none.a")), 1, "nm: ")
+        expect(label, statements.said_of(folder, ["--archive", PROVED, archive_of(folder, names)]), 1, refusal)
+    expect("archive_that_is_missing", statements.said_of(folder, ["--archive", PROVED, str(folder / "none.a")]), 1, "nm: ")
+
+
+with tempfile.TemporaryDirectory() as name:
+    copied(Path(name))
+    try_sources(Path(name))
+    try_archives(Path(name))
 
 print(f"{passed} passed, {failed} failed")
 sys.exit(1 if failed else 0)

@@ -9,12 +9,13 @@ use mathlib.Core.List.{List, [], _∷_, _++_}
 use lib.Dec.{eqb, ltb}
 use lib.ListN.{length, take, drop}
 use borrow.Author.Tests.{eqb-true, not-false}
+use Rattle.extent.specs.Extents.{totalLength}
 use Rattle.disc.specs.Disc.{Disc, kindAt, sectorAt, readable, content}
 use Rattle.volume.specs.Volume.{unpack}
 use Rattle.recorder.specs.Refusals.{Test, test, first, basic, blockOf, notInUse, numberedTests}
 use Rattle.recorder.specs.Effects.{settled}
 use Rattle.recorder.proofs.Done.{stopped, none-applies}
-use Rattle.run.specs.Entry.{totalLength, entryAt}
+use Rattle.run.specs.Entry.{entryAt}
 use Rattle.run.specs.View.{bufferLent, runTests, viewOutcome, shownFrom, filledWith, viewEffect, view}
 use Rattle.history.proofs.Growth.{data-within}
 use Rattle.archive.specs.Earlier.{seen}

@@ -17,7 +17,7 @@ use Rattle.tag.specs.Tag.{crcLength}
 use Rattle.tag.proofs.Sums.{sealRows, seal-lays, summed-seal}
 use Rattle.vat.specs.Table.{sectorLength, plainRows, isTable}
 use Rattle.vat.proofs.Theorems.{recognised}
-use Rattle.anchor.specs.declared.Extent.{Extent}
+use Rattle.extent.specs.declared.Extent.{Extent}
 use Rattle.anchor.specs.Anchor.{anchorIdentifier, anchorRows, anchor, farthestStart, anchorTagged}
 
 module _ (main reserve : Extent) (location : ℕ) where

@@ -8,10 +8,7 @@ use lib.ListN.{replicate}
 use Rattle.le.specs.Field.{Row, row, readLe, lay}
 use Rattle.tag.specs.Tag.{summed, seal}
 use Rattle.vat.specs.Table.{sectorLength}
-use Rattle.anchor.specs.declared.Extent.{Extent}
-
-abbrev pub extent : ℕ → ℕ → Extent
-extent length location = record { length = length; location = location }
+use Rattle.extent.specs.declared.Extent.{Extent}
 
 -- "tag identifier 2".
 abbrev pub anchorIdentifier : ℕ

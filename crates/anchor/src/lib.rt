@@ -1,4 +1,5 @@
 // The Anchor Volume Descriptor Pointer: made, and known by its tag.
+use extent::Extent;
 ghost use mathlib.Core.Path.{_≡_};
 ghost use lib.ListN.{length};
 ghost use Rattle.le.specs.Field.{lay};
@@ -6,12 +7,6 @@ ghost use Rattle.vat.specs.Table.{sectorLength};
 ghost use Rattle.anchor.specs.Anchor.{anchorRows, anchor, anchorTagged};
 
 pub const FARTHEST_START: u32 = 400000;
-
-// An extent as a descriptor names it: its length in bytes and its first sector.
-pub struct Extent {
-    pub length: u32,
-    pub location: u32,
-}
 
 fn put_rows(s: &mut [u8], main: Extent, reserve: Extent, location: u32)
     requires { ⌜ length (now s) ≡ sectorLength ⌝ }

@@ -15,7 +15,7 @@ use borrow.Author.Tests.{leb-true}
 use Rattle.le.specs.Bytes.{every}
 use Rattle.le.proofs.Rows.{and-left, and-right}
 use Rattle.vat.specs.Table.{sectorLength}
-use Rattle.anchor.specs.declared.Extent.{Extent}
+use Rattle.extent.specs.declared.Extent.{Extent}
 use Rattle.disc.specs.Disc.{Disc, kindAt, sectorAt, readable, content}
 use Rattle.run.specs.Entry.{extentsOf, sectorsFor, lies, wholeBefore, laid, isEntry, entryAt, extentsAt, extentBytes, runBytes}
 use Rattle.run.proofs.Theorems.{Lies, Laid, laid-tells, recognised}

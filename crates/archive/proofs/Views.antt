@@ -16,7 +16,8 @@ use borrow.Author.Tests.{eq-eqb, eqb-true, leb-true, not-false}
 use Rattle.le.specs.Bytes.{every}
 use Rattle.le.proofs.Rows.{and-left, and-right}
 use Rattle.vat.specs.Table.{sectorLength, unused}
-use Rattle.anchor.specs.declared.Extent.{Extent}
+use Rattle.extent.specs.declared.Extent.{Extent}
+use Rattle.extent.specs.Extents.{totalLength}
 use Rattle.disc.specs.Disc.{Disc, recorded, kindAt, sectorAt}
 use Rattle.disc.proofs.Recording.{Sound, sound-sized, sound-order}
 use Rattle.volume.specs.declared.Volume.{Volume}
@@ -25,7 +26,7 @@ use Rattle.recorder.specs.Calls.{read}
 use Rattle.recorder.specs.Refusals.{Test, test, first, ledgerLent, blockOf, notInUse, tests, outcome}
 use Rattle.recorder.specs.Effects.{settled, effect, after}
 use Rattle.recorder.proofs.Done.{coded, NoneApplies, none-applies, Fits, Admitted, fittingTests, fitting-admits, entry-recorded}
-use Rattle.run.specs.Entry.{totalLength, entryAt}
+use Rattle.run.specs.Entry.{entryAt}
 use Rattle.run.specs.View.{mostViewed, runTests, viewOutcome, shownFrom, filledWith, viewEffect, view}
 use Rattle.archive.specs.Earlier.{Seen, showing, seen, Fitting}
 use Rattle.archive.proofs.Runs.{SameBelow, data-same, sector-same, extents-same, entry-same, run-same}

@@ -17,7 +17,8 @@ use Rattle.timestamp.specs.Calendar.{months, real, daysOfYears, daysBefore, min
 use Rattle.timestamp.specs.Timestamp.{zoneOf, momentOf, valid, minutesOf, told}
 use Rattle.vat.specs.Table.{unused, plainRows, lengthRows, tableRows, tableName, attributeLength, entryCount, entriesOf, previousOf, modifiedOf, framed, isTable}
 use Rattle.vat.specs.Sector.{tableRegid, tableBytes, ownRows, stationName, timed, noStamp, body, sector}
-use Rattle.anchor.specs.Anchor.{extent, anchorRows, anchor, anchorTagged}
+use Rattle.extent.specs.Extents.{extent}
+use Rattle.anchor.specs.Anchor.{anchorRows, anchor, anchorTagged}
 use Rattle.disc.specs.Disc.{Disc, sized, leading, inOrder, sectorAt, content, stored, puts}
 use Rattle.disc.specs.Tables.{newestBelow, walk}
 use Rattle.disc.specs.Session.{closing, sessionClosed}

@@ -10,7 +10,7 @@ use lib.ListN.{length, set, replicate, length-append, length-replicate}
 use Rattle.timestamp.specs.Timestamp.{stampLength, told}
 use Rattle.vat.specs.Table.{sectorLength, limit}
 use Rattle.vat.specs.Sector.{noStamp, sector}
-use Rattle.anchor.specs.declared.Extent.{Extent}
+use Rattle.extent.specs.declared.Extent.{Extent}
 use Rattle.anchor.specs.Anchor.{farthestStart, anchor}
 use Rattle.disc.specs.declared.Walk.{Walk}
 use Rattle.disc.specs.declared.Walk.the-variants.{Reached}

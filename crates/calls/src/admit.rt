@@ -2,9 +2,9 @@
 use crate::Plan;
 use crate::basic::LEDGER;
 use crate::refused;
-use anchor::Extent;
 use anchor::FARTHEST_START;
 use disc::session::CLOSING;
+use extent::Extent;
 use timestamp::STAMP;
 use timestamp::TOLD;
 use vat::table::LIMIT;

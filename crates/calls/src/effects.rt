@@ -1,8 +1,8 @@
 // What the calls that are done have in common: links, a block behind them, a save, and a table that is shown.
 use crate::Plan;
-use anchor::Extent;
 use disc::session::CLOSING;
 use disc::session::ZEROS;
+use extent::Extent;
 use vat::table::SECTOR;
 use volume::Volume;
 ghost use mathlib.Core.Path.{_≡_};

@@ -15,8 +15,8 @@ use lib.Seq.{drop-cons, take-take}
 use borrow.Author.Tests.{eq-eqb, lt-ltb, le-ltb, le-leb}
 use Rattle.le.specs.Bytes.{every}
 use Rattle.vat.specs.Table.{sectorLength}
-use Rattle.anchor.specs.declared.Extent.{Extent}
-use Rattle.anchor.specs.Anchor.{extent}
+use Rattle.extent.specs.declared.Extent.{Extent}
+use Rattle.extent.specs.Extents.{extent, totalLength}
 use Rattle.disc.specs.Disc.{Disc, recorded, kindAt, sectorAt, content}
 use Rattle.disc.proofs.Recording.{sound-sized, sound-order}
 use Rattle.volume.specs.declared.Volume.{Volume}
@@ -25,7 +25,7 @@ use Rattle.volume.proofs.State.{Proper}
 use Rattle.recorder.specs.Calls.{Call, write}
 use Rattle.recorder.specs.Refusals.{first, links, target, blockOf, notInUse, outcome}
 use Rattle.recorder.proofs.Done.{Writable}
-use Rattle.run.specs.Entry.{extentsOf, totalLength, lies, laid, isEntry, entryAt, extentsAt, extentBytes, runBytes, entry}
+use Rattle.run.specs.Entry.{extentsOf, lies, laid, isEntry, entryAt, extentsAt, extentBytes, runBytes, entry}
 use Rattle.run.specs.View.{mostViewed, viewOutcome, shownFrom, view}
 use Rattle.run.proofs.Theorems.{reads-back}
 use Rattle.viewer.proofs.Outcome.{view-done}

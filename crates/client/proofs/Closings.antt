@@ -12,7 +12,7 @@ use mathlib.Core.Option.{Option, some}
 use lib.Dec.{eqb}
 use lib.ListN.{length, getD}
 use Rattle.vat.specs.Table.{sectorLength}
-use Rattle.anchor.specs.declared.Extent.{Extent}
+use Rattle.extent.specs.declared.Extent.{Extent}
 use Rattle.disc.specs.Disc.{Disc, lent, sized}
 use Rattle.disc.specs.Session.{sessionClosed}
 use Rattle.volume.specs.Volume.{ledgerLength}

@@ -12,7 +12,7 @@ use mathlib.Core.Option.{none, some}
 use lib.ListN.{length, take, drop}
 use borrow.Author.Tests.{lt-ltb, le-ltb}
 use Rattle.vat.specs.Table.{sectorLength}
-use Rattle.anchor.specs.Anchor.{extent}
+use Rattle.extent.specs.Extents.{extent}
 use Rattle.disc.specs.Disc.{Disc, lent, recorded, content}
 use Rattle.volume.specs.Volume.{ledgerLength, unpack}
 use Rattle.volume.proofs.State.{Proper}

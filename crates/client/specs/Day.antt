@@ -7,7 +7,7 @@ use mathlib.Core.Path.{_≡_}
 use lib.Dec.{eqb, ltb}
 use lib.ListN.{length, getD, take}
 use Rattle.vat.specs.Table.{sectorLength, unused}
-use Rattle.anchor.specs.Anchor.{extent}
+use Rattle.extent.specs.Extents.{extent}
 use Rattle.disc.specs.Disc.{Disc, lent, Sector, torn, recorded, put, puts}
 use Rattle.volume.specs.Volume.{unpack, grown}
 use Rattle.recorder.specs.Calls.{Call, begin, mount, write, read, saves}

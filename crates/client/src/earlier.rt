@@ -1,7 +1,7 @@
 // The disc that an earlier day left: what a host then reads, sees and is told, whatever led to it. Each promise is for every such day, drawn from the
 // claims about power cuts, times, closed discs and runs.
 use crate::REFUSED;
-use anchor::Extent;
+use extent::Extent;
 ghost use mathlib.Core.Path.{_≡_};
 ghost use mathlib.Core.Bool.{Bool, true};
 ghost use mathlib.Core.List.{List, [], _∷_, _++_};
@@ -11,7 +11,7 @@ ghost use lib.ListN.{length, take, drop};
 ghost use Rattle.timestamp.specs.Timestamp.{toldLength, told};
 ghost use Rattle.vat.specs.Table.{sectorLength};
 ghost use Rattle.vat.specs.Sector.{noStamp};
-ghost use Rattle.anchor.specs.declared.Extent.{Extent};
+ghost use Rattle.extent.specs.declared.Extent.{Extent};
 ghost use Rattle.disc.specs.Disc.{Disc, lent};
 ghost use Rattle.volume.specs.Volume.{ledgerLength};
 ghost use Rattle.recorder.specs.Calls.{Call, write, commit, closeSession, saves};

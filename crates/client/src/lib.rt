@@ -5,7 +5,7 @@
 pub mod account;
 pub mod earlier;
 
-use anchor::Extent;
+use extent::Extent;
 ghost use mathlib.Core.Path.{_≡_};
 ghost use mathlib.Core.Bool.{true};
 ghost use mathlib.Core.List.{[], _∷_};
@@ -14,7 +14,7 @@ ghost use Prim.Native.Nat.{_*_, _≤_, _<_};
 ghost use lib.ListN.{length, take, drop};
 ghost use Rattle.timestamp.specs.Timestamp.{toldLength, told};
 ghost use Rattle.vat.specs.Table.{sectorLength};
-ghost use Rattle.anchor.specs.declared.Extent.{Extent};
+ghost use Rattle.extent.specs.declared.Extent.{Extent};
 ghost use Rattle.volume.specs.Volume.{unpack};
 ghost use Rattle.recorder.specs.Calls.{begin, mount, write, release, closePacket, commit, closeSession, read, lookBack, timeOf};
 ghost use Rattle.run.specs.View.{mostViewed};

@@ -10,12 +10,12 @@ use mathlib.Core.Option.{none, some}
 use mathlib.Core.Path.{_≡_, sym, ap, _∙_, subst, subst₂}
 use lib.Dec.{T, eqb, eqb→eq}
 use lib.ListN.{length}
-use Rattle.anchor.specs.Anchor.{extent}
+use Rattle.extent.specs.Extents.{extent, extentsFrom, descriptors, totalLength}
 use Rattle.disc.specs.Disc.{Disc}
 use Rattle.recorder.specs.Calls.{begin, write, commit, lookBack}
 use Rattle.recorder.specs.Refusals.{outcome}
 use Rattle.recorder.specs.Effects.{After, after}
-use Rattle.run.specs.Entry.{extentCount, extentsFrom, totalLength, lies, laid, isEntry, extentBytes, runBytes, descriptors, totalSectors, fileRows, entry}
+use Rattle.run.specs.Entry.{extentCount, lies, laid, isEntry, extentBytes, runBytes, totalSectors, fileRows, entry}
 use Rattle.run.specs.View.{viewOutcome, shownFrom, viewEffect, view}
 use Rattle.history.specs.History.{History, feed}
 use Rattle.history.specs.Events.{World, Event, calls, cuts, AllAllowed, cutDisc, next, fed, runs, remembers, begunHistory}

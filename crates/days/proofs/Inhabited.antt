@@ -10,7 +10,7 @@ use mathlib.Core.Path.{_≡_, refl, sym, _∙_, subst}
 use lib.Dec.{T, eqb, ltb, eqb→eq, ltb→lt}
 use lib.ListN.{length, replicate, length-replicate}
 use Rattle.vat.specs.Table.{sectorLength}
-use Rattle.anchor.specs.declared.Extent.{Extent}
+use Rattle.extent.specs.declared.Extent.{Extent}
 use Rattle.anchor.specs.Anchor.{farthestStart}
 use Rattle.disc.specs.Disc.{Disc, lent, mostSectors, recorded, puts}
 use Rattle.disc.specs.Session.{closingLength}

@@ -8,7 +8,7 @@ use mathlib.Core.Option.{some}
 use mathlib.Core.Path.{_≡_, ap}
 use lib.ListN.{length, getD}
 use Rattle.vat.specs.Table.{unused}
-use Rattle.anchor.specs.declared.Extent.{Extent}
+use Rattle.extent.specs.declared.Extent.{Extent}
 use Rattle.disc.specs.Disc.{Disc}
 use Rattle.disc.specs.Session.{sessionClosed}
 use Rattle.volume.specs.Volume.{unpack}

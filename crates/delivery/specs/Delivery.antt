@@ -20,7 +20,7 @@ use Rattle.timestamp.proofs.Theorems.{Risen}
 use Rattle.vat.specs.Table.{sectorLength, limit, unused, entryCount, entriesOf, previousOf, unusedOrBelow, isTable}
 use Rattle.vat.specs.Sector.{sector}
 use Rattle.vat.proofs.Theorems.{Tells, ReadsBack}
-use Rattle.anchor.specs.declared.Extent.{Extent}
+use Rattle.extent.specs.declared.Extent.{Extent}
 use Rattle.anchor.specs.Anchor.{farthestStart, anchor, anchorTagged}
 use Rattle.disc.specs.Disc.{Disc}
 use Rattle.volume.specs.declared.Volume.{Volume}

@@ -7,7 +7,7 @@ use lib.Dec.{eqb, leb}
 use lib.ListN.{take, drop, replicate}
 use Rattle.le.specs.Bytes.{every}
 use Rattle.vat.specs.Table.{sectorLength}
-use Rattle.anchor.specs.declared.Extent.{Extent}
+use Rattle.extent.specs.declared.Extent.{Extent}
 use Rattle.anchor.specs.Anchor.{anchor, anchorTagged}
 use Rattle.disc.specs.Disc.{Disc, recorded, sectorAt, Sector, plain}
 use Rattle.disc.specs.Tables.{tableAt}

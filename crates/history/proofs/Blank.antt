@@ -11,7 +11,7 @@ use lib.ListN.{length, replicate, length-replicate}
 use borrow.Author.Tests.{eq-eqb, le-ltb, lt-leb}
 use Rattle.le.specs.Bytes.{every}
 use Rattle.vat.specs.Table.{sectorLength, limit, unused}
-use Rattle.anchor.specs.declared.Extent.{Extent}
+use Rattle.extent.specs.declared.Extent.{Extent}
 use Rattle.anchor.specs.Anchor.{farthestStart}
 use Rattle.disc.specs.Disc.{Disc, lent, mostSectors, leading, recorded, blanks, puts}
 use Rattle.disc.specs.Tables.{newestBelow, newest}

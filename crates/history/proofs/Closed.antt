@@ -14,7 +14,7 @@ use lib.ListN.{length, take, drop, replicate, length-replicate}
 use lib.Seq.{drop-cons}
 use borrow.Author.Tests.{le-leb}
 use Rattle.le.specs.Bytes.{every}
-use Rattle.anchor.specs.declared.Extent.{Extent}
+use Rattle.extent.specs.declared.Extent.{Extent}
 use Rattle.anchor.specs.Anchor.{anchor, anchorTagged}
 use Rattle.anchor.proofs.Theorems.{tagged-anchor}
 use Rattle.disc.specs.Disc.{Disc, sized, inOrder, recorded, kindAt, sectorAt, content, Sector, link, plain, torn, put, puts}

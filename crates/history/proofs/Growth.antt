@@ -17,7 +17,7 @@ use Rattle.le.specs.Bytes.{every}
 use Rattle.le.proofs.Rows.{and-left, and-right}
 use Rattle.vat.specs.Table.{sectorLength, unused, unusedOrBelow, entriesOf, previousOf, modifiedOf, isTable}
 use Rattle.vat.proofs.Theorems.{Named, named, recognised, of-kind-1}
-use Rattle.anchor.specs.declared.Extent.{Extent}
+use Rattle.extent.specs.declared.Extent.{Extent}
 use Rattle.anchor.proofs.Theorems.{anchor-no-table, zeros-no-table}
 use Rattle.disc.specs.Disc.{Disc, recorded, kindAt, sectorAt, readable, content, Sector, link, plain, torn, put, puts}
 use Rattle.disc.specs.Tables.{tableAt, mapAt, previousAt, timeAt}

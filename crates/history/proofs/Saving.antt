@@ -17,7 +17,7 @@ use borrow.Author.Tests.{eqb-true}
 use Rattle.vat.specs.Table.{sectorLength, unused, unusedOrBelow, isTable}
 use Rattle.vat.specs.Sector.{noStamp, sector}
 use Rattle.vat.proofs.Theorems.{recognised, ReadsBack, reads-back}
-use Rattle.anchor.specs.declared.Extent.{Extent}
+use Rattle.extent.specs.declared.Extent.{Extent}
 use Rattle.disc.specs.Disc.{Disc, recorded, Sector, link, puts}
 use Rattle.disc.specs.Tables.{tableAt, timeAt}
 use Rattle.disc.specs.Session.{closing}

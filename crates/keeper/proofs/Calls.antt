@@ -13,7 +13,7 @@ use lib.ListN.{length, length-set}
 use Rattle.vat.specs.Table.{sectorLength, limit, unused}
 use Rattle.vat.specs.Sector.{noStamp}
 use Rattle.vat.proofs.Theorems.{Tells, tells}
-use Rattle.anchor.specs.declared.Extent.{Extent}
+use Rattle.extent.specs.declared.Extent.{Extent}
 use Rattle.disc.specs.declared.Walk.{Walk}
 use Rattle.disc.specs.Disc.{Disc, lent, mostSectors, sized, Sector, recorded, blanks, kindAt, sectorAt}
 use Rattle.disc.specs.Tables.{tableAt, mapAt, blockFound, newest}

@@ -1,9 +1,9 @@
 // The calls of the log, each lent the roles too and keeping them up: "Each call that alters disc or ledger is lent these bytes too" (document 02, R-7). No
 // function has a precondition. Its promise is one equation: the answer and every lent buffer at the end, the roles among them, are what the definition
 // `afterRoles` says of what the buffers held at the beginning.
-use anchor::Extent;
 use calls::basic::LEDGER;
 use disc::session::CLOSING;
+use extent::Extent;
 use roles::IN_USE;
 use roles::TABLE;
 use roles::UNNUMBERED;

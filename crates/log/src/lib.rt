@@ -1,7 +1,7 @@
 // The log: the calls on a lent disc and ledger. The answer is outcome × 4,294,967,296 + second number. No function has a precondition. Its promise is one
 // equation: the answer and every lent buffer at the end are what the definition `after` says of what the buffers held at the beginning. These promises
 // are all that is known of the log above it.
-use anchor::Extent;
+use extent::Extent;
 use vat::table::SECTOR;
 use volume::Volume;
 ghost use mathlib.Core.Path.{_≡_};

@@ -16,7 +16,7 @@ use Rattle.timestamp.specs.Timestamp.{stampLength, toldLength, valid}
 use Rattle.vat.specs.Table.{sectorLength, limit, unused, unusedOrBelow, wholeLength, isTable}
 use Rattle.vat.specs.Sector.{noStamp}
 use Rattle.vat.proofs.Theorems.{tells}
-use Rattle.anchor.specs.declared.Extent.{Extent}
+use Rattle.extent.specs.declared.Extent.{Extent}
 use Rattle.anchor.specs.Anchor.{farthestStart, anchorTagged}
 use Rattle.disc.specs.Disc.{Disc, sized, inOrder, recorded, blanks, kindAt, sectorAt, Sector}
 use Rattle.disc.specs.declared.Walk.{Walk}

@@ -1,47 +1,17 @@
--- The extents of an entry, one after another, on plain values.
+-- Extents that are laid, one after another, on plain values.
 -- Assumes nothing.
-use Prim.Native.Nat.{ℕ, zero, suc, _+_, _-_, _*_, _%_, _≤_, _<_}
+use Prim.Native.Nat.{ℕ, zero, suc, _+_, _-_, _*_, _%_, _<_}
 use native.Mathlib.Omega.{arith}
 use mathlib.Core.Path.{_≡_, refl, sym, ap, _∙_}
 use mathlib.Core.Bool.{Bool, true, false, _&&_, _||_}
-use mathlib.Core.List.{List, [], _∷_}
+use mathlib.Core.List.{List, _∷_}
 use lib.Dec.{eqb}
 use borrow.Author.Tests.{eq-eqb, ne-eqb, eqb-true, eqb-false}
-use Rattle.le.specs.Field.{readLe}
 use Rattle.vat.specs.Table.{sectorLength}
-use Rattle.anchor.specs.declared.Extent.{Extent}
-use Rattle.anchor.specs.Anchor.{extent}
-use Rattle.run.specs.Entry.{descriptorsAt, extentsFrom, totalLength, lies, wholeBefore, laid}
-
--- extent i, and of m extents those from i on
-abbrev pub extentAt : List ℕ → ℕ → Extent
-extentAt s i = extent (readLe 4 s (descriptorsAt + 8 * i)) (readLe 4 s (descriptorsAt + 8 * i + 4))
-
-abbrev pub extentsLeft : List ℕ → ℕ → ℕ → List Extent
-extentsLeft s m i = extentsFrom (m - i) s (descriptorsAt + 8 * i)
-
-pub extent-taken : (s : List ℕ) (m i : ℕ) → i < m → extentsLeft s m i ≡ extentAt s i ∷ extentsLeft s m (i + 1)
-unfolding extentsFrom
-extent-taken s m i h =
-    let one : m - i ≡ suc (m - (i + 1)) = omega arith in
-    let next : descriptorsAt + 8 * i + 8 ≡ descriptorsAt + 8 * (i + 1) = omega arith in
-    ap (λ (k : ℕ). extentsFrom k s (descriptorsAt + 8 * i)) one ∙ ap (λ (at : ℕ). extentAt s i ∷ extentsFrom (m - (i + 1)) s at) next
-
-pub all-left : (s : List ℕ) (m : ℕ) → extentsLeft s m 0 ≡ extentsFrom m s descriptorsAt
-all-left s m =
-    let all : m - 0 ≡ m = omega arith in
-    ap (λ (k : ℕ). extentsFrom k s descriptorsAt) all
-
-pub none-left : (s : List ℕ) (m i : ℕ) → m ≤ i → extentsLeft s m i ≡ []
-unfolding extentsFrom
-none-left s m i h =
-    let none : m - i ≡ 0 = omega arith in
-    ap (λ (k : ℕ). extentsFrom k s (descriptorsAt + 8 * i)) none
-
-pub length-taken : (total : ℕ) (s : List ℕ) (m i : ℕ) (e : Extent) → i < m → e ≡ extentAt s i
-    → total + e .length + totalLength (extentsLeft s m (i + 1)) ≡ total + totalLength (extentsLeft s m i)
-unfolding totalLength
-length-taken total s m i e h here = rw (extent-taken s m i h) (omega (arith, ap (λ (f : Extent). f .length) here))
+use Rattle.extent.specs.declared.Extent.{Extent}
+use Rattle.extent.specs.Extents.{extentsFrom}
+use Rattle.extent.proofs.Extents.{extentAt, extentsLeft, extent-taken}
+use Rattle.run.specs.Entry.{descriptorsAt, lies, wholeBefore, laid}
 
 -- the last one need not be whole
 whole-before : (e : Extent) (s : List ℕ) (k at : ℕ) → wholeBefore e (extentsFrom k s at) ≡ (eqb k 0 || eqb (e .length % sectorLength) 0)
@@ -56,11 +26,11 @@ last-of m i h = go (eqb (i + 1) m) refl
     go true e = eq-eqb (m - (i + 1)) 0 (omega (arith, eqb-true (i + 1) m e))
     go false e = ne-eqb (m - (i + 1)) 0 (λ z. eqb-false (i + 1) m e (omega arith))
 
-pub laid-taken : (kinds : List ℕ) (b : ℕ) (s : List ℕ) (m i : ℕ) (e : Extent) → i < m → e ≡ extentAt s i
-    → laid kinds b (extentsLeft s m i) ≡ (lies kinds b e && ((eqb (i + 1) m || eqb (e .length % sectorLength) 0) && laid kinds b (extentsLeft s m (i + 1))))
+pub laid-taken : (kinds : List ℕ) (b : ℕ) (s : List ℕ) (m i : ℕ) (e : Extent) → i < m → e ≡ extentAt s descriptorsAt i
+    → laid kinds b (extentsLeft s descriptorsAt m i) ≡ (lies kinds b e && ((eqb (i + 1) m || eqb (e .length % sectorLength) 0) && laid kinds b (extentsLeft s descriptorsAt m (i + 1))))
 unfolding laid
 laid-taken kinds b s m i e h here =
-    let more : List Extent = extentsLeft s m (i + 1) in
+    let more : List Extent = extentsLeft s descriptorsAt m (i + 1) in
     let whole : wholeBefore e more ≡ (eqb (i + 1) m || eqb (e .length % sectorLength) 0) =
     whole-before e s (m - (i + 1)) (descriptorsAt + 8 * (i + 1)) ∙ ap (λ (t : Bool). t || eqb (e .length % sectorLength) 0) (last-of m i h) in
-    ap (laid kinds b) (extent-taken s m i h ∙ ap (λ (f : Extent). f ∷ more) (sym here)) ∙ ap (λ (t : Bool). lies kinds b e && (t && laid kinds b more)) whole
+    ap (laid kinds b) (extent-taken s descriptorsAt m i h ∙ ap (λ (f : Extent). f ∷ more) (sym here)) ∙ ap (λ (t : Bool). lies kinds b e && (t && laid kinds b more)) whole

@@ -11,8 +11,9 @@ use Rattle.le.proofs.Rows.{length-lay, lay-append, read-laid}
 use Rattle.tag.specs.Tag.{crcLength, seal}
 use Rattle.vat.specs.Table.{sectorLength, entryRows, lengthRows}
 use Rattle.vat.specs.Sector.{ownRows, stationAt, stationName}
-use Rattle.anchor.specs.declared.Extent.{Extent}
-use Rattle.run.specs.Entry.{mostExtents, descriptorsAt, descriptorsLength, totalLength, fileType, descriptors, fileRows, entry}
+use Rattle.extent.specs.declared.Extent.{Extent}
+use Rattle.extent.specs.Extents.{descriptorsLength, descriptors, totalLength}
+use Rattle.run.specs.Entry.{mostExtents, descriptorsAt, fileType, fileRows, entry}
 
 -- the descriptors and the name over zeros, and the rows that are laid over them
 abbrev pub body : List Extent → List ℕ

@@ -6,27 +6,26 @@
 -- Assumes nothing.
 use Prim.Native.Nat.{ℕ, _+_, _*_, _≤_, _<_}
 use native.Mathlib.Omega.{arith}
-use mathlib.Core.Path.{_≡_, refl, sym, ap, ap₂, _∙_}
+use mathlib.Core.Path.{_≡_, sym, ap, _∙_}
 use mathlib.Core.Bool.{Bool, true, _&&_}
-use mathlib.Core.List.{List, [], _∷_, _++_, append-assoc}
+use mathlib.Core.List.{List, [], _∷_, _++_}
 use lib.Dec.{eqb, ltb, leb, lit≤}
-use lib.ListN.{length, take, drop, replicate, length-append, length-replicate}
+use lib.ListN.{length, take, drop, replicate, length-replicate}
 use lib.Seq.{sets}
 use borrow.Author.Tests.{eq-eqb, eqb-true, ltb-true, leb-true, le-leb}
 use Rattle.le.specs.Bytes.{every}
-use Rattle.le.specs.Field.{Row, le, readLe, holds, lay}
+use Rattle.le.specs.Field.{Row, readLe, holds, lay}
 use Rattle.le.proofs.Bytes.{drop-sets, drop-sets-after}
-use Rattle.le.proofs.Fields.{length-le, read-le}
 use Rattle.le.proofs.Rows.{and-left, and-right, length-lay, holds-lay, holds-spared, holds-append, drop-lay}
-use Rattle.le.proofs.Runs.{drop-on}
 use Rattle.tag.specs.Tag.{sealed}
 use Rattle.tag.proofs.Sums.{sealRows, seal-lays, sealed-seal}
 use Rattle.vat.specs.Table.{sectorLength, unused, entryRows, lengthRows, allocationType}
 use Rattle.vat.specs.Sector.{ownRows, stationAt, stationName}
 use Rattle.vat.proofs.Frame.{lengths}
-use Rattle.anchor.specs.declared.Extent.{Extent}
-use Rattle.anchor.specs.Anchor.{extent}
-use Rattle.run.specs.Entry.{mostExtents, descriptorsAt, descriptorsLength, extentCount, extentsFrom, extentsOf, totalLength, sectorsFor, lies, wholeBefore, laid, fileType, isEntry, descriptors, totalSectors, fileRows, entry}
+use Rattle.extent.specs.declared.Extent.{Extent}
+use Rattle.extent.specs.Extents.{descriptorsLength, extentsFrom, descriptors, totalLength}
+use Rattle.extent.proofs.Extents.{AllFit, length-descriptors, extents-read}
+use Rattle.run.specs.Entry.{mostExtents, descriptorsAt, extentCount, extentsOf, sectorsFor, lies, wholeBefore, laid, fileType, isEntry, totalSectors, fileRows, entry}
 use Rattle.run.proofs.Record.{body, header, laidOver, entry-seals, length-body, length-laid}
 
 -- ---- what is laid
@@ -109,13 +108,6 @@ recognised kinds s b e =
 
 -- ---- what was recorded
 
-length-descriptors : (es : List Extent) → length (descriptors es) ≡ descriptorsLength (length es)
-unfolding descriptors
-length-descriptors [] = refl
-length-descriptors (e ∷ es) =
-    rw (length-append (le 4 (e .length)) (le 4 (e .location) ++ descriptors es), length-append (le 4 (e .location)) (descriptors es), length-le 4 (e .length), length-le 4 (e .location), length-descriptors es)
-    (omega arith)
-
 -- the totals of laid extents
 total-fits : (kinds : List ℕ) (b : ℕ) (es : List Extent) → laid kinds b es ≡ true → totalLength es ≤ 1073741824 * length es
 unfolding totalLength
@@ -131,22 +123,11 @@ sectors-fit kinds b (e ∷ es) t =
     let l : Laid kinds b e es = laid-tells kinds b e es t in
     omega (arith, l .first .short, sectors-fit kinds b es (l .rest))
 
--- where descriptors stand, the extents are read
-extents-read : (kinds : List ℕ) (b : ℕ) (es : List Extent) (s rest : List ℕ) (at : ℕ) → b < 4294967296 → laid kinds b es ≡ true → drop at s ≡ descriptors es ++ rest
-    → extentsFrom (length es) s at ≡ es
-unfolding extentsFrom descriptors
-extents-read kinds b [] s rest at small t here = refl
-extents-read kinds b (e ∷ es) s rest at small t here =
+all-fit : (kinds : List ℕ) (b : ℕ) (es : List Extent) → b < 4294967296 → laid kinds b es ≡ true → AllFit es
+all-fit kinds b [] small t = tt
+all-fit kinds b (e ∷ es) small t =
     let l : Laid kinds b e es = laid-tells kinds b e es t in
-    let more : List ℕ = descriptors es ++ rest in
-    let first : drop at s ≡ le 4 (e .length) ++ (le 4 (e .location) ++ more) =
-    here ∙ append-assoc (le 4 (e .length)) (le 4 (e .location) ++ descriptors es) rest ∙ ap (λ (x : List ℕ). le 4 (e .length) ++ x) (append-assoc (le 4 (e .location)) (descriptors es) rest) in
-    let second : drop (at + 4) s ≡ le 4 (e .location) ++ more = drop-on s (le 4 (e .length)) (le 4 (e .location) ++ more) at 4 first (length-le 4 (e .length)) in
-    let behind : drop (at + 4 + 4) s ≡ more = drop-on s (le 4 (e .location)) more (at + 4) 4 second (length-le 4 (e .location)) in
-    let eight : at + 4 + 4 ≡ at + 8 = omega arith in
-    ap₂ {C = List Extent} (λ (x : Extent) (xs : List Extent). x ∷ xs)
-    (ap₂ extent (read-le 4 (e .length) s (le 4 (e .location) ++ more) at first (omega (arith, l .first .short))) (read-le 4 (e .location) s more (at + 4) second (omega (arith, l .first .below))))
-    (extents-read kinds b es s rest (at + 8) small (l .rest) (ap (λ (k : ℕ). drop k s) (sym eight) ∙ behind))
+    (omega (arith, l .first .short), omega (arith, l .first .below), all-fit kinds b es small (l .rest))
 
 entry-lays : (es : List Extent) (b : ℕ) → entry es b ≡ lay (laidOver es b) (sealRows (laidOver es b))
 entry-lays es b = entry-seals es b ∙ seal-lays (laidOver es b)
@@ -215,7 +196,7 @@ module _ (kinds : List ℕ) (es : List Extent) (b : ℕ) (small : b < 4294967296
   listed : extentsOf (entry es b) ≡ es
   listed =
       ap (λ (m : ℕ). extentsFrom m (entry es b) descriptorsAt) counted
-      ∙ extents-read kinds b es (entry es b) (drop (descriptorsAt + descriptorsLength (length es)) (replicate sectorLength 0)) descriptorsAt small on-data descriptors-stand
+      ∙ extents-read es (entry es b) (drop (descriptorsAt + descriptorsLength (length es)) (replicate sectorLength 0)) descriptorsAt (all-fit kinds b es small on-data) descriptors-stand
 
   pub reads-back : (isEntry kinds (entry es b) b ≡ true) × (extentsOf (entry es b) ≡ es)
   unfolding isEntry

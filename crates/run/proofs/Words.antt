@@ -9,8 +9,8 @@ use lib.ListN.{length, getD, drop}
 use lib.Seq.{drop-cons}
 use Rattle.le.specs.Field.{le, leWords}
 use Rattle.vat.specs.Table.{sectorLength}
-use Rattle.anchor.specs.Anchor.{extent}
-use Rattle.run.specs.Entry.{totalLength, totalSectors, descriptors, descriptorsLength, paired}
+use Rattle.extent.specs.Extents.{extent, descriptorsLength, descriptors, totalLength}
+use Rattle.run.specs.Entry.{totalSectors, paired}
 
 pub length-paired : (words : List ℕ) → length words % 2 ≡ 0 → descriptorsLength (length (paired words)) ≡ 4 * length words
 unfolding paired

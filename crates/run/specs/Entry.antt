@@ -11,35 +11,22 @@ use Rattle.le.specs.Field.{Row, row, le, readLe, holds, lay}
 use Rattle.tag.specs.Tag.{sealed, seal}
 use Rattle.vat.specs.Table.{sectorLength, tableStart, entryRows, lengthRows, allocationType}
 use Rattle.vat.specs.Sector.{ownRows, stationAt, stationName}
-use Rattle.anchor.specs.declared.Extent.{Extent}
-use Rattle.anchor.specs.Anchor.{extent}
+use Rattle.extent.specs.declared.Extent.{Extent}
+use Rattle.extent.specs.Extents.{extent, descriptorsLength, extentsFrom, descriptors, totalLength}
 use Rattle.disc.specs.Disc.{Disc, sectorAt}
 
--- "1 to 100 short allocation descriptors", eight bytes each: the extent's type and length in 32 bits, then its block. They start where there are
--- "no attributes".
+-- "1 to 100 short allocation descriptors", which start where there are "no attributes". "The information length is their total."
 abbrev pub mostExtents : ℕ
 mostExtents = 100
 
 abbrev pub descriptorsAt : ℕ
 descriptorsAt = tableStart 0
 
-abbrev pub descriptorsLength : ℕ → ℕ
-descriptorsLength m = 8 * m
-
 unfoldable pub extentCount : List ℕ → ℕ
 extentCount s = readLe 4 s 172 / 8
 
-unfoldable pub extentsFrom : ℕ → List ℕ → ℕ → List Extent
-extentsFrom zero s at = []
-extentsFrom (suc m) s at = extent (readLe 4 s at) (readLe 4 s (at + 4)) ∷ extentsFrom m s (at + 8)
-
 abbrev pub extentsOf : List ℕ → List Extent
 extentsOf s = extentsFrom (extentCount s) s descriptorsAt
-
--- "The information length is their total."
-unfoldable pub totalLength : List Extent → ℕ
-totalLength [] = 0
-totalLength (e ∷ es) = e .length + totalLength es
 
 -- The sectors that an extent takes, the last of them in part.
 abbrev pub sectorsFor : Extent → ℕ
@@ -91,10 +78,6 @@ runBytes d [] = []
 runBytes d (e ∷ es) = extentBytes d e ++ runBytes d es
 
 -- The entry that is recorded for a list of extents at block b. Beside what is asked of it, it tells its sectors, has one link, and all may read it.
-unfoldable pub descriptors : List Extent → List ℕ
-descriptors [] = []
-descriptors (e ∷ es) = le 4 (e .length) ++ (le 4 (e .location) ++ descriptors es)
-
 unfoldable pub totalSectors : List Extent → ℕ
 totalSectors [] = 0
 totalSectors (e ∷ es) = sectorsFor e + totalSectors es

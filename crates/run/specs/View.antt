@@ -5,11 +5,12 @@ use mathlib.Core.Bool.{Bool, _&&_, not}
 use mathlib.Core.List.{List, [], _∷_, _++_}
 use lib.Dec.{ltb, leb}
 use lib.ListN.{length, take, drop}
+use Rattle.extent.specs.Extents.{totalLength}
 use Rattle.disc.specs.Disc.{Disc}
 use Rattle.volume.specs.Volume.{unpack}
 use Rattle.recorder.specs.Refusals.{Test, test, first, basic, ledgerLent, blockOf, numberedTests}
 use Rattle.recorder.specs.Effects.{Effect, After, settled}
-use Rattle.run.specs.Entry.{totalLength, entryAt, extentsAt, runBytes}
+use Rattle.run.specs.Entry.{entryAt, extentsAt, runBytes}
 
 abbrev pub mostViewed : ℕ
 mostViewed = 65536

@@ -1,5 +1,5 @@
 // The entry of a run, recognised and read.
-use anchor::Extent;
+use extent::Extent;
 use vat::table::ATTRIBUTES_AT;
 use vat::table::SECTOR;
 ghost use mathlib.Core.Path.{_≡_};
@@ -7,8 +7,8 @@ ghost use Prim.Native.Nat.{_+_, _*_, _≤_, _<_};
 ghost use lib.ListN.{length};
 ghost use Rattle.le.specs.Field.{readLe, holds};
 ghost use Rattle.vat.specs.Table.{sectorLength, lengthRows};
-ghost use Rattle.anchor.specs.Anchor.{extent};
-ghost use Rattle.run.specs.Entry.{mostExtents, descriptorsAt, descriptorsLength, extentCount, extentsFrom, totalLength, lies, laid, isEntry};
+ghost use Rattle.extent.specs.Extents.{extent, descriptorsLength, extentsFrom, totalLength};
+ghost use Rattle.run.specs.Entry.{mostExtents, descriptorsAt, extentCount, lies, laid, isEntry};
 
 pub const MOST_EXTENTS: u32 = 100;
 
@@ -33,27 +33,7 @@ pub fn extent(s: &[u8], i: usize) -> Extent
     requires { ⌜ (length (now s) ≡ sectorLength) × (i < mostExtents) ⌝ }
     ensures { λ r. ⌜ r ≡ extent (readLe 4 (now (s .entry)) (descriptorsAt + 8 * i)) (readLe 4 (now (s .entry)) (descriptorsAt + 8 * i + 4)) ⌝ }
 {
-    let at = ATTRIBUTES_AT + 8 * i;
-    Extent {
-        length: le::read32(s, at),
-        location: le::read32(s, at + 4),
-    }
-}
-
-// At most 100 lengths of 32 bits: their sum stays far below 64 bits.
-fn total_length(s: &[u8], n: u32) -> u64
-    requires { ⌜ (length (now s) ≡ sectorLength) × (n ≤ mostExtents) ⌝ }
-    ensures { λ r. ⌜ r ≡ totalLength (extentsFrom n (now (s .entry)) descriptorsAt) ⌝ }
-{
-    let count = n as usize;
-    let mut total: u64 = 0;
-    let mut i: usize = 0;
-    while i < count {
-        let e = extent(s, i);
-        total += e.length as u64;
-        i += 1;
-    }
-    total
+    extent::read(s, ATTRIBUTES_AT + 8 * i)
 }
 
 fn lengths_held(s: &[u8], n: u32) -> bool
@@ -62,7 +42,7 @@ fn lengths_held(s: &[u8], n: u32) -> bool
 {
     let attributes = le::read32(s, 168) == 0;
     let descriptors = le::read32(s, 172) == 8 * n;
-    let information = information_length(s) == total_length(s, n);
+    let information = information_length(s) == extent::total_length(s, ATTRIBUTES_AT, n);
     let summed = (le::read16(s, 10) as u32) == 160 + 8 * n;
     attributes & (descriptors & (information & summed))
 }

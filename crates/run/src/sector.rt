@@ -6,7 +6,8 @@ ghost use Prim.Native.Nat.{_*_, _%_, _≤_};
 ghost use lib.ListN.{length};
 ghost use Rattle.le.specs.Field.{lay};
 ghost use Rattle.vat.specs.Table.{sectorLength};
-ghost use Rattle.run.specs.Entry.{mostExtents, totalLength, totalSectors, paired, fileRows, entry};
+ghost use Rattle.extent.specs.Extents.{totalLength};
+ghost use Rattle.run.specs.Entry.{mostExtents, totalSectors, paired, fileRows, entry};
 
 // Of each two words the first is a length.
 fn total_length(words: &[u32]) -> u64

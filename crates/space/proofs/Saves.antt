@@ -8,7 +8,7 @@ use mathlib.Core.List.{List, [], _∷_, _++_, append-assoc}
 use mathlib.Core.Option.{Option, some}
 use lib.ListN.{length, replicate, length-replicate}
 use Rattle.vat.specs.Table.{unused, isTable}
-use Rattle.anchor.specs.declared.Extent.{Extent}
+use Rattle.extent.specs.declared.Extent.{Extent}
 use Rattle.disc.specs.Disc.{Disc, recorded, Sector, link, plain, stored, puts}
 use Rattle.disc.specs.Session.{closingLength, closing}
 use Rattle.disc.proofs.Recording.{Sound}

@@ -12,7 +12,7 @@ use lib.ListN.{length, set, replicate}
 use lib.Seq.{set-out}
 use borrow.Author.Tests.{ltb-true, ltb-false, eqb-true, eqb-false}
 use Rattle.vat.specs.Table.{sectorLength, isTable}
-use Rattle.anchor.specs.declared.Extent.{Extent}
+use Rattle.extent.specs.declared.Extent.{Extent}
 use Rattle.anchor.specs.Anchor.{anchor}
 use Rattle.anchor.proofs.Theorems.{anchor-no-table, zeros-no-table}
 use Rattle.disc.specs.Disc.{Disc, recorded, kindAt, Sector, link, plain, torn, stored, put, puts}

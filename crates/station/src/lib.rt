@@ -1,10 +1,10 @@
 // The calls and the archive's viewer as C functions for the host program, and nothing else: an archive has only the exported functions of the crate that it
 // is made of. Each slice is a pointer and then a length. The promises are those of the keeper, the log and the viewer, word for word.
-use anchor::Extent;
+use extent::Extent;
 ghost use mathlib.Core.Path.{_≡_};
 ghost use mathlib.Core.List.{[]};
 ghost use mathlib.Core.Option.{none, some};
-ghost use Rattle.anchor.specs.Anchor.{extent};
+ghost use Rattle.extent.specs.Extents.{extent};
 ghost use Rattle.disc.specs.Disc.{lent};
 ghost use Rattle.recorder.specs.Calls.{begin, mount, write, release, closePacket, commit, closeSession, read, lookBack, timeOf};
 ghost use Rattle.recorder.specs.Effects.{left, after};

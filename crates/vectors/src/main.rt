@@ -1,6 +1,6 @@
 // Runs the CRC, the table sector, timestamps, a closing's pointer and the entry of a run on outside vectors, and prints what it finds. What must come stands in
 // the file `stdout`; an independent program, tests/vectors.py, makes it.
-use anchor::Extent;
+use extent::Extent;
 use vat::sector::record;
 use vat::table::UNUSED;
 use vat::table::entry_count;

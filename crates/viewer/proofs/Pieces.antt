@@ -8,7 +8,7 @@ use mathlib.Core.List.{List, [], _∷_, _++_, append-nil, append-assoc}
 use lib.ListN.{length, take, drop, length-append, length-take, length-drop, take-append-drop}
 use lib.Seq.{sets, take-nil, drop-nil, drop-drop, length-take-le, take-at, drop-at, sets-eq}
 use Rattle.vat.specs.Table.{sectorLength}
-use Rattle.anchor.specs.declared.Extent.{Extent}
+use Rattle.extent.specs.declared.Extent.{Extent}
 use Rattle.disc.specs.Disc.{Disc, lent}
 use Rattle.run.specs.Entry.{extentBytes, runBytes}
 use Rattle.run.specs.View.{filledWith}

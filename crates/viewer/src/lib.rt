@@ -1,6 +1,6 @@
 // The archive's viewer: shows runs longer than a block. It stands above the log and knows only the log's promises, and what the floors below say of an
 // entry and of the ledger's bytes.
-use anchor::Extent;
+use extent::Extent;
 use vat::table::SECTOR;
 ghost use mathlib.Core.Path.{_≡_};
 ghost use mathlib.Core.Bool.{true};

@@ -5,7 +5,7 @@ use mathlib.Core.Path.{_≡_, sym, ap, _∙_, subst}
 use mathlib.Core.List.{List, [], _∷_}
 use mathlib.Core.Option.{none, some}
 use native.Mathlib.Omega.{arith}
-use Rattle.anchor.specs.Anchor.{extent}
+use Rattle.extent.specs.Extents.{extent}
 use Rattle.recorder.specs.Calls.{Call, write}
 use Rattle.run.specs.Entry.{entry, paired}
 use Rattle.client.specs.Day.{Day, ended, morning, day, AllDone, opening}

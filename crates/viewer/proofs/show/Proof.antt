@@ -7,10 +7,11 @@ use mathlib.Core.Bool.{true}
 use mathlib.Core.List.{List, [], _∷_}
 use lib.ListN.{length, take, drop}
 use Rattle.vat.specs.Table.{sectorLength}
-use Rattle.anchor.specs.declared.Extent.{Extent}
+use Rattle.extent.specs.declared.Extent.{Extent}
+use Rattle.extent.specs.Extents.{extentsFrom}
+use Rattle.extent.proofs.Extents.{extentsLeft, extent-taken, all-left, none-left}
 use Rattle.disc.specs.Disc.{lent}
-use Rattle.run.specs.Entry.{descriptorsAt, extentsFrom, extentsOf, laid, runBytes}
-use Rattle.run.proofs.Extents.{extentsLeft, extent-taken, all-left, none-left}
+use Rattle.run.specs.Entry.{descriptorsAt, extentsOf, laid, runBytes}
 use Rattle.run.proofs.Theorems.{Recognised, recognised, Laid, laid-tells, bytes-below}
 use Rattle.viewer.proofs.Pieces.{Filled, filled-start, filled-turn, filled-end}
 use borrow.Author.Needs.{needs}
@@ -20,8 +21,8 @@ use Rattle.viewer.proofs.show.Tie as tie
 abbrev Inv-loop : tie.InvT-loop
 Inv-loop image entry offset buffer₀ count skip₀ filled₀ i₀ buffer skip filled i =
     (i ≤ count)
-    × ((kinds : List ℕ) (b : ℕ) → laid kinds b (extentsOf entry) ≡ true → laid kinds b (extentsLeft entry count i) ≡ true)
-    × Filled buffer₀ (take (length buffer₀) (drop offset (runBytes (lent image []) (extentsOf entry)))) (lent image []) (extentsLeft entry count i) buffer skip filled
+    × ((kinds : List ℕ) (b : ℕ) → laid kinds b (extentsOf entry) ≡ true → laid kinds b (extentsLeft entry descriptorsAt count i) ≡ true)
+    × Filled buffer₀ (take (length buffer₀) (drop offset (runBytes (lent image []) (extentsOf entry)))) (lent image []) (extentsLeft entry descriptorsAt count i) buffer skip filled
 
 abbrev μ-loop : tie.MeasureT-loop
 μ-loop image entry offset buffer₀ count skip₀ filled₀ i₀ buffer skip filled i = count - i
@@ -56,8 +57,8 @@ cast-count c = search needs
 loop-holds : tie.Need-loop-holds Inv-loop μ-loop
 loop-holds c =
     let s = c .before .before .before .before in
-    let those : extentsLeft (S s) (c .extent-count .result) 0 ≡ extentsOf (S s) =
-    all-left (S s) (c .extent-count .result) ∙ ap (λ (m : ℕ). extentsFrom m (S s) descriptorsAt) (c .extent-count .ensures) in (
+    let those : extentsLeft (S s) descriptorsAt (c .extent-count .result) 0 ≡ extentsOf (S s) =
+    all-left (S s) descriptorsAt (c .extent-count .result) ∙ ap (λ (m : ℕ). extentsFrom m (S s) descriptorsAt) (c .extent-count .ensures) in (
       omega arith,
       λ kinds b t. ap (laid kinds b) those ∙ t,
       subst (λ (es : List Extent). Filled (s .args .buffer .now) (all s) (lent (s .args .image .now) []) es (s .args .buffer .now) (s .args .offset) 0) (sym those)
@@ -67,18 +68,18 @@ loop-holds c =
 -- the extent that is shown, and those behind it
 here : (c : tie.After-extent Inv-loop μ-loop)
     → let at = loop-of c in let s = start-of at in
-    extentsLeft (S s) (count-of at) (at .loop .i) ≡ c .extent .result ∷ extentsLeft (S s) (count-of at) (at .loop .i + 1)
+    extentsLeft (S s) descriptorsAt (count-of at) (at .loop .i) ≡ c .extent .result ∷ extentsLeft (S s) descriptorsAt (count-of at) (at .loop .i + 1)
 here c =
     let at = loop-of c in let s = start-of at in
-    extent-taken (S s) (count-of at) (at .loop .i) (omega arith)
-    ∙ ap (λ (e : Extent). e ∷ extentsLeft (S s) (count-of at) (at .loop .i + 1)) (sym (c .extent .ensures))
+    extent-taken (S s) descriptorsAt (count-of at) (at .loop .i) (omega arith)
+    ∙ ap (λ (e : Extent). e ∷ extentsLeft (S s) descriptorsAt (count-of at) (at .loop .i + 1)) (sym (c .extent .ensures))
 
 behind-laid : (c : tie.After-extent Inv-loop μ-loop) (kinds : List ℕ) (b : ℕ)
     → let at = loop-of c in let s = start-of at in
-    laid kinds b (extentsOf (S s)) ≡ true → Laid kinds b (c .extent .result) (extentsLeft (S s) (count-of at) (at .loop .i + 1))
+    laid kinds b (extentsOf (S s)) ≡ true → Laid kinds b (c .extent .result) (extentsLeft (S s) descriptorsAt (count-of at) (at .loop .i + 1))
 behind-laid c kinds b t =
     let at = loop-of c in let s = start-of at in
-    laid-tells kinds b (c .extent .result) (extentsLeft (S s) (count-of at) (at .loop .i + 1)) (ap (laid kinds b) (sym (here c)) ∙ at .loop .inv .1 kinds b t)
+    laid-tells kinds b (c .extent .result) (extentsLeft (S s) descriptorsAt (count-of at) (at .loop .i + 1)) (ap (laid kinds b) (sym (here c)) ∙ at .loop .inv .1 kinds b t)
 
 inside : (c : tie.After-extent Inv-loop μ-loop)
     → let e = c .extent .result in sectorLength * e .location + e .length ≤ length (start-of (loop-of c) .args .image .now)
@@ -108,7 +109,7 @@ loop-again c =
     let r = c .before .before .before in let x = r .before .before in let at = loop-of x in let s = start-of at in
     let a = s .args in
     let e : Extent = x .extent .result in
-    let es : List Extent = extentsLeft (S s) (count-of at) (at .loop .i + 1) in
+    let es : List Extent = extentsLeft (S s) descriptorsAt (count-of at) (at .loop .i + 1) in
     let before = subst (λ (l : List Extent). Filled (a .buffer .now) (all s) (lent (a .image .now) []) l (at .loop .buffer) (at .loop .skip) (at .loop .filled)) (here x) (at .loop .inv .2) in (
       omega arith,
       λ kinds b t. behind-laid x kinds b t .rest,
@@ -125,7 +126,7 @@ returns c =
     let at = c .before in let s = start-of at in let a = s .args in
     filled-end (a .buffer .now) (all s) (lent (a .image .now) []) (at .loop .buffer) (at .loop .skip) (at .loop .filled)
     (subst (λ (es : List Extent). Filled (a .buffer .now) (all s) (lent (a .image .now) []) es (at .loop .buffer) (at .loop .skip) (at .loop .filled))
-    (none-left (S s) (count-of at) (at .loop .i) (omega arith)) (at .loop .inv .2))
+    (none-left (S s) descriptorsAt (count-of at) (at .loop .i) (omega arith)) (at .loop .inv .2))
 
 pub show-spec : {M : Type 1} → statement M
 show-spec =

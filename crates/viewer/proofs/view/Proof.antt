@@ -10,6 +10,7 @@ use lib.ListN.{length, take, drop, replicate, length-replicate}
 use borrow.Author.Tests.{not-true, not-false, le-ltb, lt-ltb}
 use Rattle.le.specs.Field.{readLe}
 use Rattle.vat.specs.Table.{sectorLength}
+use Rattle.extent.specs.Extents.{totalLength}
 use Rattle.disc.specs.Disc.{Disc, lent, recorded, sectorAt}
 use Rattle.disc.proofs.Recording.{sized-tells, sound-sized, leading-le}
 use Rattle.disc.proofs.Found.{sector-long}
@@ -18,7 +19,7 @@ use Rattle.recorder.specs.Calls.{read}
 use Rattle.recorder.specs.Refusals.{test, first, blockOf, outcome}
 use Rattle.recorder.specs.Effects.{After, left}
 use Rattle.recorder.proofs.Done.{stop, skip, none-left, ledger-accepted, ReadDone, read-done, entry-recorded}
-use Rattle.run.specs.Entry.{extentsOf, totalLength, isEntry, entryAt, extentsAt, runBytes}
+use Rattle.run.specs.Entry.{extentsOf, isEntry, entryAt, extentsAt, runBytes}
 use Rattle.run.specs.View.{viewOutcome, shownFrom, filledWith}
 use Rattle.run.proofs.Theorems.{recognised}
 use Rattle.viewer.proofs.Pieces.{of-image}

@@ -12,7 +12,8 @@ use borrow.Author.Tests.{eq-eqb, ne-eqb, le-leb, lt-leb, not-true, not-false}
 use Rattle.le.specs.Field.{holds}
 use Rattle.vat.specs.Table.{sectorLength, entryRows, lengthRows, allocationType}
 use Rattle.vat.proofs.Frame.{lengths}
-use Rattle.run.specs.Entry.{mostExtents, descriptorsAt, descriptorsLength, extentCount, extentsFrom, extentsOf, totalLength, laid, fileType, isEntry}
+use Rattle.extent.specs.Extents.{descriptorsLength, extentsFrom, totalLength}
+use Rattle.run.specs.Entry.{mostExtents, descriptorsAt, extentCount, extentsOf, laid, fileType, isEntry}
 use borrow.Author.Needs.{needs}
 use Rattle.run.proofs.entry.is_entry.Statement.{statement}
 use Rattle.run.proofs.entry.is_entry.Tie as tie

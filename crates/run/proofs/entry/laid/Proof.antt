@@ -8,14 +8,16 @@ use mathlib.Core.List.{[]}
 use lib.Dec.{eqb}
 use borrow.Author.Tests.{not-true, not-false}
 use Rattle.vat.specs.Table.{sectorLength}
-use Rattle.anchor.specs.declared.Extent.{Extent}
-use Rattle.run.specs.Entry.{descriptorsAt, extentsFrom, lies, laid}
-use Rattle.run.proofs.Extents.{extentsLeft, all-left, none-left, laid-taken}
+use Rattle.extent.specs.declared.Extent.{Extent}
+use Rattle.extent.specs.Extents.{extentsFrom}
+use Rattle.extent.proofs.Extents.{extentsLeft, all-left, none-left}
+use Rattle.run.specs.Entry.{descriptorsAt, lies, laid}
+use Rattle.run.proofs.Extents.{laid-taken}
 use Rattle.run.proofs.entry.laid.Statement.{statement}
 use Rattle.run.proofs.entry.laid.Tie as tie
 
 abbrev Inv-loop : tie.InvT-loop
-Inv-loop kinds s b n count i₀ i = (i ≤ count) × (laid kinds b (extentsLeft s count i) ≡ laid kinds b (extentsFrom n s descriptorsAt))
+Inv-loop kinds s b n count i₀ i = (i ≤ count) × (laid kinds b (extentsLeft s descriptorsAt count i) ≡ laid kinds b (extentsFrom n s descriptorsAt))
 
 abbrev μ-loop : tie.MeasureT-loop
 μ-loop kinds s b n count i₀ i = count - i
@@ -35,7 +37,7 @@ abbrev W : tie.After-struct-known Inv-loop μ-loop → Bool
 W c = let at = loop-of c in eqb (at .loop .i + 1) (start-of at .args .n) || eqb (E c .length % sectorLength) 0
 
 abbrev L : tie.After-struct-known Inv-loop μ-loop → Bool
-L c = let a = start-of (loop-of c) .args in laid (a .kinds .now) (a .b) (extentsLeft (a .s .now) (a .n) (loop-of c .loop .i + 1))
+L c = let a = start-of (loop-of c) .args in laid (a .kinds .now) (a .b) (extentsLeft (a .s .now) descriptorsAt (a .n) (loop-of c .loop .i + 1))
 
 settled : (c : tie.After-struct-known Inv-loop μ-loop)
     → let a = start-of (loop-of c) .args in
@@ -45,7 +47,7 @@ settled c =
     sym (at .loop .inv .1) ∙ laid-taken (a .kinds .now) (a .b) (a .s .now) (a .n) (at .loop .i) (E c) (omega arith) (c .before .extent .ensures)
 
 loop-holds : tie.Need-loop-holds Inv-loop μ-loop
-loop-holds c = let a = c .before .before .args in (omega arith, ap (laid (a .kinds .now) (a .b)) (all-left (a .s .now) (a .n)))
+loop-holds c = let a = c .before .before .args in (omega arith, ap (laid (a .kinds .now) (a .b)) (all-left (a .s .now) descriptorsAt (a .n)))
 
 extent-requires : tie.Need-extent-requires Inv-loop μ-loop
 extent-requires c κs = (start-of (c .before) .pre .1, omega arith)
@@ -81,7 +83,7 @@ returns-3 : tie.Need-returns-3 Inv-loop μ-loop
 unfolding laid
 returns-3 c =
     let at = c .before in let a = start-of at .args in
-    let none : extentsLeft (a .s .now) (a .n) (at .loop .i) ≡ [] = none-left (a .s .now) (a .n) (at .loop .i) (omega arith) in
+    let none : extentsLeft (a .s .now) descriptorsAt (a .n) (at .loop .i) ≡ [] = none-left (a .s .now) descriptorsAt (a .n) (at .loop .i) (omega arith) in
     rw none at (at .loop .inv .1)
 
 pub laid-spec : {M : Type 1} → statement M

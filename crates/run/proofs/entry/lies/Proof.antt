@@ -9,7 +9,7 @@ use lib.Dec.{eqb, ltb, leb}
 use lib.ListN.{take, drop}
 use borrow.Author.Tests.{lt-ltb, le-ltb, le-leb, lt-leb}
 use Rattle.le.specs.Bytes.{every}
-use Rattle.anchor.specs.declared.Extent.{Extent}
+use Rattle.extent.specs.declared.Extent.{Extent}
 use Rattle.run.specs.Entry.{sectorsFor, lies}
 use borrow.Author.Needs.{needs}
 use Rattle.run.proofs.entry.lies.Statement.{statement}

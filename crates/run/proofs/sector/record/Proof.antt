@@ -10,7 +10,7 @@ use Rattle.le.specs.Field.{lay}
 use Rattle.tag.specs.Tag.{seal}
 use Rattle.vat.specs.Table.{entryRows, lengthRows}
 use Rattle.vat.specs.Sector.{ownRows, stationAt, stationName}
-use Rattle.anchor.specs.declared.Extent.{Extent}
+use Rattle.extent.specs.declared.Extent.{Extent}
 use Rattle.run.specs.Entry.{mostExtents, descriptorsAt, fileType, fileRows, paired}
 use Rattle.run.proofs.Words.{length-paired, descriptors-paired}
 use Rattle.run.proofs.Record.{body, laidOver, entry-seals, length-laid, crc-length, header-laid}

@@ -6,7 +6,8 @@ use native.Mathlib.Omega.{arith}
 use mathlib.Core.Path.{_≡_, sym, _∙_}
 use mathlib.Core.List.{List, []}
 use lib.ListN.{length, getD, drop, drop-of-length-le}
-use Rattle.run.specs.Entry.{totalLength, paired}
+use Rattle.extent.specs.Extents.{totalLength}
+use Rattle.run.specs.Entry.{paired}
 use Rattle.run.proofs.Words.{length-taken}
 use Rattle.run.proofs.sector.total_length.Statement.{statement}
 use Rattle.run.proofs.sector.total_length.Tie as tie
