@@ -13,7 +13,7 @@ KEEPER = "crates/keeper/src/lib.rt"
 LOG = "crates/log/src/lib.rt"
 STARRED = "crates/bench/proofs/Starred.antt"
 LISTS = "crates/cuts/proofs/Lists.antt"
-PAGE = "crates/delivery/specs/Delivered.antt"
+PAGE = "crates/delivery/specs/Delivery.antt"
 SIX_LINKS = "tests/must-fail/six_links.edit"
 
 
@@ -68,8 +68,9 @@ WRONG = {
     "a_theorem_of_commits_alone": (THEOREM, "pub save-then-mount : (d : Disc) (l : List ℕ) → AllBytes l → (c : Call) → saves c ≡ true",
         "pub save-then-mount : (d : Disc) (l : List ℕ) → AllBytes l → (c : Call) → c ≡ commit none → saves c ≡ true", "history proofs/Theorem.save-then-mount moved"),
     "what_a_theorem_cites": (THEOREM, line_of(THEOREM, "  pub clean : "), "", "history proofs/Theorem.Remounted.clean went"),
-    "a_theorem_on_the_page": (PAGE, None, "pub record Delivered : Type 0 where\n  pub power-cuts : PowerCuts\n", "delivery specs/Delivered.Delivered.power-cuts is new"),
-    "a_theorem_proved_on_the_page": ("crates/delivery/proofs/Delivered.antt", None, "pub delivered : Delivered\ndelivered = record { power-cuts = power-cuts }\n", "delivery proofs/Delivered.delivered is new"),
+    "a_claim_gone_from_the_page": (PAGE, "  pub power-cuts : PowerCuts\n", "", "delivery specs/Delivery.Delivery.power-cuts went"),
+    "a_claim_of_another_type_on_the_page": (PAGE, "  pub never-twice : WriteOnce\n", "  pub never-twice : RecordedSame\n", "delivery specs/Delivery.Delivery.never-twice moved"),
+    "another_record_proved_for_the_page": ("crates/delivery/proofs/Delivered.antt", "pub delivered : Delivery\n", "pub delivered : Unit\n", "delivery proofs/Delivered.delivered moved"),
     # a contract
     "after_cut_promises_nothing": (EARLIER, WRITE_CUT, WRITE_BARE, "client src/earlier.after_cut ensures went"),
     "after_cut_promises_an_empty_word": (EARLIER, WRITE_CUT, WRITE_BARE + EMPTY, "client src/earlier.after_cut ensures moved"),
