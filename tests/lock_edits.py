@@ -13,7 +13,8 @@ KEEPER = "crates/keeper/src/lib.rt"
 LOG = "crates/log/src/lib.rt"
 STARRED = "crates/bench/proofs/Starred.antt"
 LISTS = "crates/cuts/proofs/Lists.antt"
-PAGE = "crates/delivery/specs/Delivered.antt"
+PAGE = "crates/delivery/specs/Another.antt"
+PROVED = "crates/delivery/proofs/Another.antt"
 SIX_LINKS = "tests/must-fail/six_links.edit"
 
 
@@ -68,8 +69,8 @@ WRONG = {
     "a_theorem_of_commits_alone": (THEOREM, "pub save-then-mount : (d : Disc) (l : List ℕ) → AllBytes l → (c : Call) → saves c ≡ true",
         "pub save-then-mount : (d : Disc) (l : List ℕ) → AllBytes l → (c : Call) → c ≡ commit none → saves c ≡ true", "history proofs/Theorem.save-then-mount moved"),
     "what_a_theorem_cites": (THEOREM, line_of(THEOREM, "  pub clean : "), "", "history proofs/Theorem.Remounted.clean went"),
-    "a_theorem_on_the_page": (PAGE, None, "pub record Delivered : Type 0 where\n  pub power-cuts : PowerCuts\n", "delivery specs/Delivered.Delivered.power-cuts is new"),
-    "a_theorem_proved_on_the_page": ("crates/delivery/proofs/Delivered.antt", None, "pub delivered : Delivered\ndelivered = record { power-cuts = power-cuts }\n", "delivery proofs/Delivered.delivered is new"),
+    "a_theorem_on_the_page": (PAGE, None, "pub record Another : Type 0 where\n  pub power-cuts : PowerCuts\n", "delivery specs/Another.Another.power-cuts is new"),
+    "a_theorem_proved_on_the_page": (PROVED, None, "pub another : Another\nanother = record { power-cuts = power-cuts }\n", "delivery proofs/Another.another is new"),
     # a contract
     "after_cut_promises_nothing": (EARLIER, WRITE_CUT, WRITE_BARE, "client src/earlier.after_cut ensures went"),
     "after_cut_promises_an_empty_word": (EARLIER, WRITE_CUT, WRITE_BARE + EMPTY, "client src/earlier.after_cut ensures moved"),
