@@ -39,7 +39,7 @@ THEOREMS = {
 }
 
 # Where rows and lists are worked out: all that is defined there and every claim.
-WORKED = ["bench/proofs/*", "cuts/proofs/Dated", "cuts/proofs/Drawn", "cuts/proofs/Lists", "cuts/proofs/Viewed", "space/proofs/Worked"]
+WORKED = ["bench/proofs/*", "cuts/proofs/Dated", "cuts/proofs/Drawn", "cuts/proofs/Lists", "cuts/proofs/Viewed", "days/proofs/*", "space/proofs/Worked"]
 
 
 def summed(words):
@@ -143,7 +143,7 @@ class Lock:
                 self.put(file, name)
             if declared.says[:1] == ["List"] and declared.says[1] in own and declared.is_definition():
                 self.counts["worked rows"] += elements(declared.body)
-            if file.startswith("cuts/") and declared.word == "law" and test:
+            if file.startswith(("cuts/", "days/")) and declared.word == "law" and test:
                 self.counts["worked lists"] += 1
 
     def contracts(self, path):
