@@ -11,6 +11,7 @@ use lib.Dec.{T, eqb, ltb, eqb→eq, ltb→lt}
 use lib.ListN.{length, replicate, length-replicate}
 use Rattle.vat.specs.Table.{sectorLength}
 use Rattle.extent.specs.declared.Extent.{Extent}
+use Rattle.extent.specs.Extents.{totalLength, descriptors}
 use Rattle.anchor.specs.Anchor.{farthestStart}
 use Rattle.disc.specs.Disc.{Disc, lent, mostSectors, recorded, puts}
 use Rattle.disc.specs.Session.{closingLength}
@@ -20,7 +21,7 @@ use Rattle.recorder.specs.Effects.{after}
 use Rattle.recorder.proofs.Answers.{done-small}
 use Rattle.roles.specs.Roles.{names, roleAt, tabulate}
 use Rattle.roles.specs.Keeping.{scanned, letGo, marked, keptUp, outcomeRoles, afterRoles}
-use Rattle.run.specs.Entry.{totalLength, descriptors, totalSectors, fileRows, entry}
+use Rattle.run.specs.Entry.{totalSectors, fileRows, entry}
 use Rattle.space.specs.Space.{Lent, leavesAll}
 use Rattle.bench.proofs.Starred.{opened, blank, block, both, full, stamp}
 use Rattle.client.specs.Day.{Day, day, AllDone, opening, CutBehind, StoppedStoring, StoppedMarking, storing}
