@@ -40,17 +40,17 @@ pub fn record_block(image: &mut [u8], kinds: &mut [u8], ledger: &[u8], block: &[
     b
 }
 
-// The table sector of a state, with a timestamp, at block b.
-fn record_table(image: &mut [u8], kinds: &mut [u8], state: Volume, stamp: &[u8], b: u32)
-    requires { ⌜ (length (now image) ≡ sectorLength * length (now kinds)) × (b < length (now kinds)) × (state .size ≤ limit) × (length (now stamp) ≡ stampLength) ⌝ }
-    ensures { λ _. ⌜ (now (image .exit) ≡ stored (now (image .entry)) (sectorLength * b) (sector (mapOf state) (state .last) (now (stamp .entry)) b)) × (now (kinds .exit) ≡ set (now (kinds .entry)) b 1) ⌝ }
+// The table sector of the ledger's state, with a timestamp, at block b. The map is taken from the ledger's bytes.
+fn record_table(image: &mut [u8], kinds: &mut [u8], ledger: &[u8], stamp: &[u8], b: u32)
+    requires { ⌜ (length (now ledger) ≡ ledgerLength) × (length (now image) ≡ sectorLength * length (now kinds)) × (b < length (now kinds)) × (unpack (now ledger) .size ≤ limit) × (length (now stamp) ≡ stampLength) ⌝ }
+    ensures { λ _. ⌜ (now (image .exit) ≡ stored (now (image .entry)) (sectorLength * b) (sector (mapOf (unpack (now (ledger .entry)))) (unpack (now (ledger .entry)) .last) (now (stamp .entry)) b)) × (now (kinds .exit) ≡ set (now (kinds .entry)) b 1) ⌝ }
 {
+    let size = volume::ledger::size(ledger);
+    let last = volume::ledger::last(ledger);
     let place = b as usize;
     let at = SECTOR * place;
     let end = at + SECTOR;
-    let entries = state.entries;
-    let size = state.size as usize;
-    vat::sector::record(&mut image[at..end], &entries[0..size], state.last, stamp, b);
+    vat::sector::record(&mut image[at..end], ledger, size, last, stamp, b);
     kinds[place] = 1;
 }
 
@@ -78,9 +78,8 @@ fn save_at(image: &mut [u8], kinds: &mut [u8], ledger: &mut [u8], stamp: &[u8], 
     requires { ⌜ (length (now ledger) ≡ ledgerLength) × (length (now image) ≡ sectorLength * length (now kinds)) × (b < length (now kinds)) × (length (now kinds) ≤ 360000) × (unpack (now ledger) .size ≤ limit) × (length (now stamp) ≡ stampLength) ⌝ }
     ensures { λ _. ⌜ (lent (now (image .exit)) (now (kinds .exit)) ≡ put (lent (now (image .entry)) (now (kinds .entry))) b (plain (sector (mapOf (unpack (now (ledger .entry)))) (unpack (now (ledger .entry)) .last) (now (stamp .entry)) b))) × (now (ledger .exit) ≡ pack (committed b (unpack (now (ledger .entry))))) ⌝ }
 {
-    let state = Volume::load(ledger);
-    record_table(image, kinds, state, stamp, b);
-    state.committed(b).store(ledger);
+    record_table(image, kinds, ledger, stamp, b);
+    Volume::load(ledger).committed(b).store_fields(ledger);
 }
 
 // A commit's save: links, the table sector and the state after it; the answer is the table's block.

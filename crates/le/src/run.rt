@@ -4,7 +4,7 @@ ghost use Prim.Native.Nat.{_+_, _*_, _%_, _≤_, _<_};
 ghost use lib.ListN.{length, replicate};
 ghost use lib.Seq.{sets};
 ghost use Rattle.le.specs.Bytes.{total, holdsText};
-ghost use Rattle.le.specs.Field.{leWords};
+ghost use Rattle.le.specs.Field.{words, leWords};
 
 pub fn clear(s: &mut [u8])
     ensures { λ _. ⌜ now (s .exit) ≡ replicate (length (now (s .entry))) 0 ⌝ }
@@ -71,6 +71,20 @@ pub fn put_words(s: &mut [u8], at: usize, xs: &[u32])
     let mut place = at;
     while i < xs.len() {
         crate::put32(s, place, xs[i]);
+        i += 1;
+        place += 4;
+    }
+}
+
+// The n fields that stand in l from place `from` on, put at place `at`: a map goes from the ledger's bytes to a table's.
+pub fn copy_words(s: &mut [u8], at: usize, l: &[u8], from: usize, n: usize)
+    requires { ⌜ (at + 4 * n ≤ length (now s)) × (from + 4 * n ≤ length (now l)) ⌝ }
+    ensures { λ _. ⌜ now (s .exit) ≡ sets (now (s .entry)) at (leWords (words n (now (l .entry)) from)) ⌝ }
+{
+    let mut i: usize = 0;
+    let mut place = at;
+    while i < n {
+        crate::put32(s, place, crate::read32(l, from + 4 * i));
         i += 1;
         place += 4;
     }

@@ -3,6 +3,7 @@
 // are all that is known of the log above it.
 use extent::Extent;
 use vat::table::SECTOR;
+use vat::table::UNUSED;
 use volume::Volume;
 ghost use mathlib.Core.Path.{_≡_};
 ghost use mathlib.Core.List.{[]};
@@ -52,7 +53,7 @@ pub fn write(image: &mut [u8], kinds: &mut [u8], ledger: &mut [u8], v: u32, bloc
         return refusal(outcome);
     }
     let b = calls::effects::record_block(image, kinds, ledger, block);
-    Volume::load(ledger).wrote(v, b).store(ledger);
+    Volume::load(ledger).wrote(v, b).store_entry(ledger, v, b);
     b as u64
 }
 
@@ -64,7 +65,9 @@ pub fn write_unnumbered(image: &mut [u8], kinds: &mut [u8], ledger: &mut [u8], b
         return refusal(outcome);
     }
     let b = calls::effects::record_block(image, kinds, ledger, block);
-    Volume::load(ledger).wrote_unnumbered(b).store(ledger);
+    Volume::load(ledger)
+        .wrote_unnumbered(b)
+        .store_fields(ledger);
     b as u64
 }
 
@@ -75,7 +78,9 @@ pub fn release(image: &[u8], kinds: &[u8], ledger: &mut [u8], v: u32) -> u64
     if outcome != 0 {
         return refusal(outcome);
     }
-    Volume::load(ledger).released(v).store(ledger);
+    Volume::load(ledger)
+        .released(v)
+        .store_entry(ledger, v, UNUSED);
     0
 }
 
@@ -86,7 +91,7 @@ pub fn close_packet(image: &[u8], kinds: &[u8], ledger: &mut [u8]) -> u64
     if outcome != 0 {
         return refusal(outcome);
     }
-    Volume::load(ledger).closed().store(ledger);
+    Volume::load(ledger).closed().store_fields(ledger);
     0
 }
 

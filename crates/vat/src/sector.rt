@@ -4,10 +4,10 @@ use crate::table::MODIFIED_AT;
 use crate::table::TABLE_NAME;
 use crate::table::UNUSED;
 ghost use mathlib.Core.Path.{_≡_};
-ghost use Prim.Native.Nat.{_≤_};
+ghost use Prim.Native.Nat.{_*_, _≤_};
 ghost use lib.ListN.{length};
 ghost use lib.Seq.{sets};
-ghost use Rattle.le.specs.Field.{lay};
+ghost use Rattle.le.specs.Field.{words, lay};
 ghost use Rattle.vat.specs.Table.{sectorLength, limit, tableStart, entryRows, plainRows, lengthRows};
 ghost use Rattle.timestamp.specs.Timestamp.{stampLength};
 ghost use Rattle.vat.specs.Sector.{tableBytes, ownRows, stationAt, stationName, timed, sector};
@@ -64,14 +64,15 @@ pub fn put_name(s: &mut [u8])
     le::run::put_text(s, 129, &station);
 }
 
-// The entries, the regid (flags, text, suffix) and the previous table, one behind the other.
-fn put_table(s: &mut [u8], map: &[u32], previous: u32)
-    requires { ⌜ (length (now s) ≡ sectorLength) × (length (now map) ≤ limit) ⌝ }
-    ensures { λ _. ⌜ now (s .exit) ≡ sets (now (s .entry)) (tableStart 0) (tableBytes (now (map .entry)) previous) ⌝ }
+// The entries, the first n that the bytes of a map hold, the regid (flags, text, suffix) and the previous table, one behind the other.
+fn put_table(s: &mut [u8], map: &[u8], n: u32, previous: u32)
+    requires { ⌜ (length (now s) ≡ sectorLength) × (n ≤ limit) × (4 * n ≤ length (now map)) ⌝ }
+    ensures { λ _. ⌜ now (s .exit) ≡ sets (now (s .entry)) (tableStart 0) (tableBytes (words n (now (map .entry)) 0) previous) ⌝ }
 {
-    let regid = ATTRIBUTES_AT + 4 * map.len();
+    let count = n as usize;
+    let regid = ATTRIBUTES_AT + 4 * count;
     let name = TABLE_NAME;
-    le::run::put_words(s, ATTRIBUTES_AT, map);
+    le::run::copy_words(s, ATTRIBUTES_AT, map, 0, count);
     le::put8(s, regid, 0);
     le::run::put_text(s, regid + 1, &name);
     le::put64(s, regid + 24, 0x0150);
@@ -88,14 +89,14 @@ fn put_times(s: &mut [u8], stamp: &[u8])
     le::run::put_text(s, 96, stamp);
 }
 
-// The sector for a map, a previous table, a timestamp and the block b, into a lent buffer.
-pub fn record(s: &mut [u8], map: &[u32], previous: u32, stamp: &[u8], b: u32)
-    requires { ⌜ (length (now s) ≡ sectorLength) × (length (now map) ≤ limit) × (length (now stamp) ≡ stampLength) ⌝ }
-    ensures { λ _. ⌜ now (s .exit) ≡ sector (now (map .entry)) previous (now (stamp .entry)) b ⌝ }
+// The sector for a map of n entries, which are taken from bytes, a previous table, a timestamp and the block b, into a lent buffer.
+pub fn record(s: &mut [u8], map: &[u8], n: u32, previous: u32, stamp: &[u8], b: u32)
+    requires { ⌜ (length (now s) ≡ sectorLength) × (n ≤ limit) × (4 * n ≤ length (now map)) × (length (now stamp) ≡ stampLength) ⌝ }
+    ensures { λ _. ⌜ now (s .exit) ≡ sector (words n (now (map .entry)) 0) previous (now (stamp .entry)) b ⌝ }
 {
-    let length = 4 * (map.len() as u32) + 36;
+    let length = 4 * n + 36;
     le::run::clear(s);
-    put_table(s, map, previous);
+    put_table(s, map, n, previous);
     put_name(s);
     put_times(s, stamp);
     put_plain(s, b);

@@ -1,7 +1,6 @@
 // Runs the CRC, the table sector, timestamps, a closing's pointer and the entry of a run on outside vectors, and prints what it finds. What must come stands in
 // the file `stdout`; an independent program, tests/vectors.py, makes it.
 use extent::Extent;
-use vat::sector::record;
 use vat::table::UNUSED;
 use vat::table::entry_count;
 use vat::table::is_table;
@@ -186,11 +185,27 @@ fn show_tests(s: &[u8]) {
     show_test(1, &s[0..2047], 300000);
 }
 
+// The table sector of a map, whose entries are taken from bytes.
+fn make_table(sector: &mut [u8], map: &[u32], previous: u32, stamp: &[u8], b: u32) {
+    if sector.len() != 2048 {
+        return;
+    }
+    if 458 < map.len() {
+        return;
+    }
+    if stamp.len() != 12 {
+        return;
+    }
+    let mut entries = [0u8; 1832];
+    le::run::put_words(&mut entries, 0, map);
+    vat::sector::record(sector, &entries, map.len() as u32, previous, stamp, b);
+}
+
 fn small_table() {
     let mut sector = [0u8; 2048];
     let map = [0, UNUSED, 299999, 3, 65537];
     ramp(&mut sector);
-    record(&mut sector, &map, 123456, &[0u8; 12], 300000);
+    make_table(&mut sector, &map, 123456, &[0u8; 12], 300000);
     show_rows(&sector);
     show_tests(&sector);
     show_map(&sector);
@@ -202,7 +217,7 @@ fn dated_table() {
     let map = [0, UNUSED, 299999, 3, 65537];
     let stamp = [0x3C, 0x10, 0xEA, 0x07, 11, 15, 14, 5, 9, 12, 34, 56];
     ramp(&mut sector);
-    record(&mut sector, &map, 123456, &stamp, 300000);
+    make_table(&mut sector, &map, 123456, &stamp, 300000);
     show_rows(&sector);
     show_tests(&sector);
     show_map(&sector);
@@ -258,7 +273,7 @@ fn tables_behind() {
     let mut plain = [0u8; 2048];
     let mut sector = [0u8; 2048];
     let map = [0, UNUSED, 299999, 3, 65537];
-    record(&mut plain, &map, 123456, &[0u8; 12], 300000);
+    make_table(&mut plain, &map, 123456, &[0u8; 12], 300000);
     put_behind(&mut sector, &plain, 220);
     show_rows(&sector);
     show_tests(&sector);
@@ -276,7 +291,7 @@ fn full_table() {
     let mut sector = [0u8; 2048];
     let mut map = [0u32; 458];
     fill(&mut map);
-    record(&mut sector, &map, UNUSED, &[0u8; 12], 458);
+    make_table(&mut sector, &map, UNUSED, &[0u8; 12], 458);
     show_rows(&sector);
     show_test(1, &sector, 458);
     show_map(&sector);

@@ -6,10 +6,11 @@ ghost use mathlib.Core.Path.{_≡_};
 ghost use mathlib.Core.List.{_++_};
 ghost use mathlib.Core.Option.{none, some};
 ghost use Prim.Native.Nat.{_+_, _-_, _*_, _≤_, _<_};
-ghost use lib.ListN.{length, replicate};
-ghost use Rattle.le.specs.Field.{words};
+ghost use lib.ListN.{length, set, replicate};
+ghost use lib.Seq.{sets};
+ghost use Rattle.le.specs.Field.{le, words};
 ghost use Rattle.vat.specs.Table.{sectorLength, limit, unused, wholeLength, entriesOf};
-ghost use Rattle.volume.specs.Volume.{ledgerLength, unpack, pack, begun, filled, wrote, released, closed, committed};
+ghost use Rattle.volume.specs.Volume.{entriesLength, ledgerLength, unpack, pack, begun, filled, wrote, released, closed, committed};
 
 // "458 map entries, then size, recorded, last table, mode, each 32 bits."
 pub struct Volume {
@@ -52,6 +53,17 @@ fn fill_entries(s: &[u8], at: usize, n: u32) -> [u32; 458]
     entries
 }
 
+// The four fields, each in its place behind the entries.
+fn put_fields(l: &mut [u8], size: u32, recorded: u32, last: u32, mode: u32)
+    requires { ⌜ length (now l) ≡ ledgerLength ⌝ }
+    ensures { λ _. ⌜ now (l .exit) ≡ sets (sets (sets (sets (now (l .entry)) entriesLength (le 4 size)) (entriesLength + 4) (le 4 recorded)) (entriesLength + 8) (le 4 last)) (entriesLength + 12) (le 4 mode) ⌝ }
+{
+    le::put32(l, SIZE_AT, size);
+    le::put32(l, SIZE_AT + 4, recorded);
+    le::put32(l, SIZE_AT + 8, last);
+    le::put32(l, SIZE_AT + 12, mode);
+}
+
 impl Volume {
     pub fn load(l: &[u8]) -> Volume
         requires { ⌜ length (now l) ≡ ledgerLength ⌝ }
@@ -72,10 +84,24 @@ impl Volume {
     {
         let entries = self.entries;
         le::run::put_words(l, 0, &entries);
-        le::put32(l, SIZE_AT, self.size);
-        le::put32(l, SIZE_AT + 4, self.recorded);
-        le::put32(l, SIZE_AT + 8, self.last);
-        le::put32(l, SIZE_AT + 12, self.mode);
+        put_fields(l, self.size, self.recorded, self.last, self.mode);
+    }
+
+    // The fields, where the entries stand already: of a state that was loaded nothing is copied.
+    pub fn store_fields(self, l: &mut [u8])
+        requires { ⌜ (length (now l) ≡ ledgerLength) × (self .entries ≡ unpack (now l) .entries) ⌝ }
+        ensures { λ _. ⌜ now (l .exit) ≡ pack self ⌝ }
+    {
+        put_fields(l, self.size, self.recorded, self.last, self.mode);
+    }
+
+    // And entry n, where the others stand already.
+    pub fn store_entry(self, l: &mut [u8], n: u32, entry: u32)
+        requires { ⌜ (length (now l) ≡ ledgerLength) × (n < limit) × (self .entries ≡ set (unpack (now l) .entries) n entry) ⌝ }
+        ensures { λ _. ⌜ now (l .exit) ≡ pack self ⌝ }
+    {
+        le::put32(l, 4 * (n as usize), entry);
+        self.store_fields(l);
     }
 
     pub fn begun(recorded: u32) -> Volume
@@ -109,13 +135,14 @@ impl Volume {
         requires { ⌜ (n < limit) × (b < unused) × (self .size ≤ limit) ⌝ }
         ensures { λ r. ⌜ r ≡ wrote (some n) b self ⌝ }
     {
-        let at = n as usize;
-        self.entries[at] = b;
         if n == self.size {
             self.size = self.size + 1;
         }
         self.recorded = b + 1;
         self.mode = 1;
+        // Last, so that the compiler sees through the entry that is stored.
+        let at = n as usize;
+        self.entries[at] = b;
         self
     }
 

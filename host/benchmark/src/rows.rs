@@ -89,7 +89,7 @@ pub const CLOSE_PACKET: &str = "close packet, no table yet";
 pub const MOUNT: &str = "mount, clean";
 pub const TIME_OF: &str = "time of 0";
 
-pub static ROWS: [Row; 33] = [
+pub static ROWS: [Row; 34] = [
     row("begin, blank disc", blank, begin),
     row("begin, all data, no table", all_plain, begin).over_every_sector(),
     row(MOUNT, clean, mount).over_half_of_them(),
@@ -104,6 +104,7 @@ pub static ROWS: [Row; 33] = [
     row("write, mode 1, unused", open_unused, write).recording(1),
     row("write, mode 0 with links", open, write_links).recording(8),
     row("write unnumbered, mode 1", open, write_unnumbered).recording(1),
+    row("release, no table yet", open_without_vat, release),
     row("release", open, release),
     row("release, named twice", open_twice, release),
     row(CLOSE_PACKET, open_without_vat, close_packet),

@@ -4,10 +4,11 @@ use Prim.Native.Nat.{ℕ}
 use mathlib.Core.Path.{_≡_, sym, ap, _∙_}
 use mathlib.Core.List.{List, []}
 use Rattle.disc.specs.Disc.{Disc, lent}
-use Rattle.volume.specs.Volume.{pack}
+use Rattle.volume.specs.declared.Volume.{Volume}
+use Rattle.volume.specs.Volume.{unpack, pack, closed}
+use Rattle.volume.proofs.Standing.{entries-closed}
 use Rattle.recorder.specs.Refusals.{outcome}
 use Rattle.recorder.specs.Effects.{left}
-use Rattle.volume.specs.Volume.{closed}
 use Rattle.recorder.specs.Calls.{closePacket}
 use Rattle.recorder.proofs.Done.{ledger-accepted}
 use Rattle.calls.proofs.Left.{refused-left, close-left}
@@ -22,7 +23,7 @@ entered c = c .before .before .before .before .before
 abbrev start-of : tie.Else1 → tie.Start
 start-of c = entered (c .before)
 
-abbrev admitted : tie.After-store-arg → tie.Else1
+abbrev admitted : tie.After-store-fields-arg → tie.Else1
 admitted c = c .before .before .before .before
 
 -- the disc and the ledger
@@ -58,10 +59,12 @@ load-requires c κs =
 closed-requires : tie.Need-closed-requires
 closed-requires c κs = search needs
 
-store-requires : tie.Need-store-requires
-store-requires c κs =
-    let e = admitted c in let s = start-of e in
-    ledger-accepted (D s) (L s) closePacket (done e)
+store-fields-requires : tie.Need-store-fields-requires
+store-fields-requires c κs =
+    let e = admitted c in let s = start-of e in let w = c .before in (
+      ledger-accepted (D s) (L s) closePacket (done e),
+      ap (λ (v : Volume). v .entries) (w .closed .ensures ∙ ap closed (w .before .load .ensures)) ∙ entries-closed (unpack (L s)),
+    )
 
 same-length-2 : tie.Need-same-length-2
 same-length-2 c = search needs
@@ -69,7 +72,7 @@ same-length-2 c = search needs
 returns-2 : tie.Need-returns-2
 returns-2 c =
     let t = c .before .before in let w = t .before .before in let e = admitted (t .before) in let s = start-of e in
-    let stored = t .store .ensures ∙ ap pack (w .closed .ensures ∙ ap closed (w .before .load .ensures)) in
+    let stored = t .store-fields .ensures ∙ ap pack (w .closed .ensures ∙ ap closed (w .before .load .ensures)) in
     ap (λ (x : List ℕ). left 0 (D s .image) (D s .kinds) x []) stored ∙ close-left (D s) (L s) (done e)
 
 pub close-packet-spec : {M : Type 1} → statement M
@@ -82,6 +85,6 @@ close-packet-spec =
     returns
     load-requires
     closed-requires
-    store-requires
+    store-fields-requires
     same-length-2
     returns-2)

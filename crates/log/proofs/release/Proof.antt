@@ -6,7 +6,9 @@ use mathlib.Core.Path.{_≡_, sym, ap, _∙_}
 use mathlib.Core.List.{List, []}
 use lib.ListN.{length}
 use Rattle.disc.specs.Disc.{Disc, lent}
-use Rattle.volume.specs.Volume.{ledgerLength, pack}
+use Rattle.volume.specs.declared.Volume.{Volume}
+use Rattle.volume.specs.Volume.{ledgerLength, unpack, pack}
+use Rattle.volume.proofs.Standing.{entries-released}
 use Rattle.recorder.specs.Refusals.{outcome}
 use Rattle.recorder.specs.Effects.{left}
 use Rattle.volume.specs.Volume.{released}
@@ -64,8 +66,14 @@ released-requires c κs =
     let d = release-done (D s) (L s) (s .args .v) (done e) in
     omega (arith, d .2, d .1 .fit .few)
 
-store-requires : tie.Need-store-requires
-store-requires c κs = accepted (admitted (c .before .before))
+store-entry-requires : tie.Need-store-entry-requires
+store-entry-requires c κs =
+    let w = c .before in let l = w .before in let e = admitted l in let s = start-of e in
+    let d = release-done (D s) (L s) (s .args .v) (done e) in (
+      accepted e,
+      omega (arith, d .2, d .1 .fit .few),
+      ap (λ (v : Volume). v .entries) (w .released .ensures ∙ ap (released (s .args .v)) (l .load .ensures)) ∙ entries-released (unpack (L s)) (s .args .v),
+    )
 
 same-length-2 : tie.Need-same-length-2
 same-length-2 c = search needs
@@ -73,7 +81,7 @@ same-length-2 c = search needs
 returns-2 : tie.Need-returns-2
 returns-2 c =
     let t = c .before .before in let w = t .before .before in let e = admitted (w .before) in let s = start-of e in
-    let stored = t .store .ensures ∙ ap pack (w .released .ensures ∙ ap (released (s .args .v)) (w .before .load .ensures)) in
+    let stored = t .store-entry .ensures ∙ ap pack (w .released .ensures ∙ ap (released (s .args .v)) (w .before .load .ensures)) in
     ap (λ (x : List ℕ). left 0 (D s .image) (D s .kinds) x []) stored ∙ release-left (D s) (L s) (s .args .v) (done e)
 
 pub release-spec : {M : Type 1} → statement M
@@ -86,6 +94,6 @@ release-spec =
     returns
     load-requires
     released-requires
-    store-requires
+    store-entry-requires
     same-length-2
     returns-2)

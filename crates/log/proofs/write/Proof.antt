@@ -8,7 +8,8 @@ use mathlib.Core.Option.{Option, some}
 use Rattle.vat.specs.Table.{limit}
 use Rattle.disc.specs.Disc.{Disc, lent}
 use Rattle.volume.specs.declared.Volume.{Volume}
-use Rattle.volume.specs.Volume.{pack, wrote}
+use Rattle.volume.specs.Volume.{unpack, pack, wrote}
+use Rattle.volume.proofs.Standing.{entries-wrote}
 use Rattle.recorder.specs.Calls.{write}
 use Rattle.recorder.specs.Refusals.{outcome}
 use Rattle.recorder.specs.Effects.{left}
@@ -85,8 +86,14 @@ wrote-requires c κs =
     let r = after-block (c .before) in let e = admitted r in
     (told e .writable .0, omega (arith, r .record-block .ensures .0, asked e .2, asked e .3), subst (λ (v : Volume). v .size ≤ limit) (sym (c .load .ensures)) (told e .fit .few))
 
-store-requires : tie.Need-store-requires
-store-requires c κs = asked (admitted (after-block (c .before .before .before))) .0
+store-entry-requires : tie.Need-store-entry-requires
+store-entry-requires c κs =
+    let w = c .before in let l = w .before in let e = admitted (after-block (l .before)) in let s = start-of e in (
+      asked e .0,
+      told e .writable .0,
+      ap (λ (v : Volume). v .entries) (w .wrote .ensures ∙ ap (wrote (N s) (after-block (l .before) .record-block .result)) (l .load .ensures))
+          ∙ entries-wrote (unpack (L s)) (s .args .v) (after-block (l .before) .record-block .result),
+    )
 
 cast-result : tie.Need-cast-result
 cast-result c = search needs
@@ -106,7 +113,7 @@ returns-2 c =
     let e = admitted r in let s = start-of e in
     let at = r .record-block .ensures .0 in
     write-left (D s) (L s) (N s) (K s) (done e) at (r .record-block .ensures .1)
-    (t .store .ensures ∙ ap pack (w .wrote .ensures ∙ ap₂ (wrote (N s)) at (w .before .load .ensures)))
+    (t .store-entry .ensures ∙ ap pack (w .wrote .ensures ∙ ap₂ (wrote (N s)) at (w .before .load .ensures)))
 
 pub write-spec : {M : Type 1} → statement M
 write-spec =
@@ -121,7 +128,7 @@ write-spec =
     record-block-requires
     load-requires
     wrote-requires
-    store-requires
+    store-entry-requires
     cast-result
     same-length-4
     same-length-5

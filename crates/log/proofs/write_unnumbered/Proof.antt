@@ -6,7 +6,9 @@ use mathlib.Core.Path.{_≡_, sym, ap, ap₂, _∙_}
 use mathlib.Core.List.{List}
 use mathlib.Core.Option.{none}
 use Rattle.disc.specs.Disc.{Disc, lent}
-use Rattle.volume.specs.Volume.{pack, wrote}
+use Rattle.volume.specs.declared.Volume.{Volume}
+use Rattle.volume.specs.Volume.{unpack, pack, wrote}
+use Rattle.volume.proofs.Standing.{entries-unnumbered}
 use Rattle.recorder.specs.Calls.{write}
 use Rattle.recorder.specs.Refusals.{outcome}
 use Rattle.recorder.specs.Effects.{left}
@@ -76,8 +78,12 @@ wrote-unnumbered-requires c κs =
     let r = after-block (c .before) in let e = admitted r in
     omega (arith, r .record-block .ensures .0, asked e .2, asked e .3)
 
-store-requires : tie.Need-store-requires
-store-requires c κs = asked (admitted (after-block (c .before .before .before))) .0
+store-fields-requires : tie.Need-store-fields-requires
+store-fields-requires c κs =
+    let w = c .before in let l = w .before in let r = after-block (l .before) in let e = admitted r in let s = start-of e in (
+      asked e .0,
+      ap (λ (v : Volume). v .entries) (w .wrote-unnumbered .ensures ∙ ap (wrote none (r .record-block .result)) (l .load .ensures)) ∙ entries-unnumbered (unpack (L s)) (r .record-block .result),
+    )
 
 cast-result : tie.Need-cast-result
 cast-result c = search needs
@@ -97,7 +103,7 @@ returns-2 c =
     let e = admitted r in let s = start-of e in
     let at = r .record-block .ensures .0 in
     write-left (D s) (L s) none (K s) (done e) at (r .record-block .ensures .1)
-    (t .store .ensures ∙ ap pack (w .wrote-unnumbered .ensures ∙ ap₂ (wrote none) at (w .before .load .ensures)))
+    (t .store-fields .ensures ∙ ap pack (w .wrote-unnumbered .ensures ∙ ap₂ (wrote none) at (w .before .load .ensures)))
 
 pub write-unnumbered-spec : {M : Type 1} → statement M
 write-unnumbered-spec =
@@ -112,7 +118,7 @@ write-unnumbered-spec =
     record-block-requires
     load-requires
     wrote-unnumbered-requires
-    store-requires
+    store-fields-requires
     cast-result
     same-length-4
     same-length-5

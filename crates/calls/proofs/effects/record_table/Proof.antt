@@ -1,36 +1,41 @@
--- `calls::effects::record_table` meets its contract: the sector is made in its place, and the kind set.
+-- `calls::effects::record_table` meets its contract: the sector is made in its place from the ledger's bytes, and the kind set.
 -- Assumes nothing.
 use Prim.Native.Nat.{ℕ, _+_, _-_, _*_, _≤_, _<_}
 use native.Mathlib.Omega.{arith}
-use mathlib.Core.Path.{_≡_, refl, ap, ap₂, _∙_}
+use mathlib.Core.Path.{_≡_, refl, sym, ap, ap₂, _∙_}
 use mathlib.Core.List.{List, _++_}
 use lib.ListN.{length, take, drop}
-use lib.Seq.{length-take-le}
+use Rattle.le.specs.Field.{words}
 use Rattle.vat.specs.Table.{sectorLength, limit}
 use Rattle.vat.specs.Sector.{sector}
 use Rattle.vat.proofs.Theorems.{length-sector}
 use Rattle.disc.proofs.Recording.{stored-part}
 use Rattle.volume.specs.declared.Volume.{Volume}
-use Rattle.volume.specs.Volume.{mapOf}
+use Rattle.volume.specs.Volume.{unpack, mapOf}
+use Rattle.volume.proofs.State.{long-unpack, length-map}
+use Rattle.volume.proofs.Fit.{entries-below}
 use borrow.Author.Needs.{needs}
 use Rattle.calls.proofs.effects.record_table.Statement.{statement}
 use Rattle.calls.proofs.effects.record_table.Tie as tie
 
--- the entry of the function
-abbrev start-of : tie.After-entries2 → tie.Start
-start-of c = c .before .before .before .before .before .before .before
+-- the places of the function, each found from a later one
+abbrev start-of : tie.After-size → tie.Start
+start-of c = c .before .before .before .before .before
 
-entries-long : (c : tie.After-entries2) → length (start-of c .args .state .entries) ≡ 458
-entries-long c = search needs
+abbrev after-size : tie.After-last → tie.After-size
+after-size c = c .before
+
+size-requires : tie.Need-size-requires
+size-requires c κs = search needs
+
+last-requires : tie.Need-last-requires
+last-requires c κs = search needs
 
 mul-at : tie.Need-mul-at
 mul-at c = search needs
 
 add-end : tie.Need-add-end
 add-end c = search needs
-
-cast-size : tie.Need-cast-size
-cast-size c = search needs
 
 sub-record : tie.Need-sub-record
 sub-record c = search needs
@@ -40,17 +45,6 @@ part-record-start c = search needs
 
 part-record-end : tie.Need-part-record-end
 part-record-end c = search needs
-
-sub-record-2 : tie.Need-sub-record-2
-sub-record-2 c = search needs
-
-part-record-start-2 : tie.Need-part-record-start-2
-part-record-start-2 c = search needs
-
-part-record-end-2 : tie.Need-part-record-end-2
-part-record-end-2 c =
-    let s = start-of c in
-    omega (arith, entries-long c, s .pre .2)
 
 record-requires : tie.Need-record-requires
 record-requires c κs = search needs
@@ -66,18 +60,21 @@ same-length-2 c = search needs
 
 returns : tie.Need-returns
 returns c =
-    let r = c .before .before in let e = r .before .before in let s = start-of e in let a = s .args in
+    let r = c .before .before in let m = r .before .before in let z = after-size m in let s = start-of z in let a = s .args in
     let image : List ℕ = a .image .now in
+    let l : List ℕ = a .ledger .now in
+    let stamp : List ℕ = a .stamp .now in
     let at : ℕ = sectorLength * a .b in
-    let v : Volume = a .state in
-    let size : v .size - 0 ≡ v .size = omega arith in
-    let made : r .«record» .last .0 ≡ sector (mapOf v) (v .last) (a .stamp .now) (a .b) =
-    r .«record» .ensures ∙ ap (λ (k : ℕ). sector (take k (v .entries)) (v .last) (a .stamp .now) (a .b)) size in
-    let few : length (mapOf v) ≤ limit = rw (length-take-le (v .size) (v .entries) (omega (arith, entries-long e, s .pre .2))) (s .pre .2) in
-    let small : a .b < 4294967296 = omega (arith, s .pre .1) in
+    let v : Volume = unpack l in
+    let made : r .«record» .last .0 ≡ sector (mapOf v) (v .last) stamp (a .b) =
+    r .«record» .ensures
+    ∙ ap₂ (λ (n previous : ℕ). sector (words n l 0) previous stamp (a .b)) (z .size .ensures) (m .last .ensures)
+    ∙ ap (λ (map : List ℕ). sector map (v .last) stamp (a .b)) (sym (entries-below l (v .size) (s .pre .3))) in
+    let few : length (mapOf v) ≤ limit = rw (length-map v (omega (arith, long-unpack l, s .pre .3))) (s .pre .3) in
+    let small : a .b < 4294967296 = omega (arith, s .pre .2) in
     let long : (at + sectorLength) - at ≡ sectorLength = omega arith in (
-      ap₂ (λ (k : ℕ) (l : List ℕ). take at image ++ (l ++ drop k (drop at image))) long made
-          ∙ stored-part image (sector (mapOf v) (v .last) (a .stamp .now) (a .b)) at sectorLength (length-sector (mapOf v) (v .last) (a .stamp .now) (a .b) few small (s .pre .3)),
+      ap₂ (λ (k : ℕ) (x : List ℕ). take at image ++ (x ++ drop k (drop at image))) long made
+          ∙ stored-part image (sector (mapOf v) (v .last) stamp (a .b)) at sectorLength (length-sector (mapOf v) (v .last) stamp (a .b) few small (s .pre .4)),
       refl,
     )
 
@@ -85,15 +82,13 @@ pub record-table-spec : {M : Type 1} → statement M
 record-table-spec =
     tie.close
     (tie.spec
+    size-requires
+    last-requires
     mul-at
     add-end
-    cast-size
     sub-record
     part-record-start
     part-record-end
-    sub-record-2
-    part-record-start-2
-    part-record-end-2
     record-requires
     slice-write-kinds
     same-length

@@ -1,11 +1,11 @@
 -- `vat::sector::put_table` meets its contract: the table, put part by part.
 -- Assumes nothing.
 use Prim.Native.Nat.{ℕ, _+_}
-use mathlib.Core.Path.{refl, ap, _∙_}
+use mathlib.Core.Path.{sym, ap, _∙_}
 use mathlib.Core.List.{List}
-use lib.ListN.{length}
 use lib.Seq.{sets}
-use Rattle.le.specs.Field.{le}
+use Rattle.le.specs.Field.{le, words}
+use Rattle.le.proofs.Runs.{length-words}
 use Rattle.vat.specs.Table.{regidAt, tableName}
 use Rattle.vat.proofs.Record.{table-put}
 use borrow.Author.Needs.{needs}
@@ -22,7 +22,7 @@ after-name c = after-suffix c .before .before .before .before
 abbrev after-flags : tie.After-slice-known6 → tie.After-put8
 after-flags c = after-name c .before .before .before .before .before
 
-abbrev after-words : tie.After-slice-known6 → tie.After-put-words
+abbrev after-words : tie.After-slice-known6 → tie.After-copy-words
 after-words c = after-flags c .before .before .before .before
 
 abbrev start-of : tie.After-slice-known6 → tie.Start
@@ -34,8 +34,8 @@ mul-regid c = search needs
 add-regid : tie.Need-add-regid
 add-regid c = search needs
 
-put-words-requires : tie.Need-put-words-requires
-put-words-requires c κs = search needs
+copy-words-requires : tie.Need-copy-words-requires
+copy-words-requires c κs = search needs
 
 put8-requires : tie.Need-put8-requires
 put8-requires c κs = search needs
@@ -69,13 +69,13 @@ unfolding tableName
 returns c =
     let a = start-of c .args in
     let s : List ℕ = a .s .now in
-    let map : List ℕ = a .map .now in
-    let r : ℕ = regidAt 0 (length map) in
-    let words = after-words c .put-words .ensures in
-    let flags = after-flags c .put8 .ensures ∙ ap (λ (t : List ℕ). sets t r (le 1 0)) words in
+    let map : List ℕ = words (a .n) (a .map .now) 0 in
+    let r : ℕ = regidAt 0 (a .n) in
+    let entries = after-words c .copy-words .ensures in
+    let flags = after-flags c .put8 .ensures ∙ ap (λ (t : List ℕ). sets t r (le 1 0)) entries in
     let name = after-name c .put-text .ensures ∙ ap (λ (t : List ℕ). sets t (r + 1) tableName) flags in
     let suffix = after-suffix c .put64 .ensures ∙ ap (λ (t : List ℕ). sets t (r + 24) (le 8 0x0150)) name in
-    c .before .before .put32 .ensures ∙ ap (λ (t : List ℕ). sets t (r + 32) (le 4 (a .previous))) suffix ∙ table-put s map (a .previous) r refl
+    c .before .before .put32 .ensures ∙ ap (λ (t : List ℕ). sets t (r + 32) (le 4 (a .previous))) suffix ∙ table-put s map (a .previous) r (ap (regidAt 0) (sym (length-words (a .n) (a .map .now) 0)))
 
 pub put-table-spec : {M : Type 1} → statement M
 put-table-spec =
@@ -83,7 +83,7 @@ put-table-spec =
     (tie.spec
     mul-regid
     add-regid
-    put-words-requires
+    copy-words-requires
     put8-requires
     add-put-text
     slice-aggregate-put-text

@@ -2,12 +2,13 @@
 -- Assumes nothing.
 use Prim.Native.Nat.{ℕ}
 use native.Mathlib.Omega.{arith}
-use mathlib.Core.Path.{_≡_, ap, _∙_}
+use mathlib.Core.Path.{_≡_, sym, ap, _∙_}
 use mathlib.Core.List.{List}
-use lib.ListN.{length, replicate}
+use lib.ListN.{replicate}
 use lib.Seq.{sets}
-use Rattle.le.specs.Field.{lay}
+use Rattle.le.specs.Field.{words, lay}
 use Rattle.le.proofs.Rows.{length-lay}
+use Rattle.le.proofs.Runs.{length-words}
 use Rattle.tag.specs.Tag.{seal}
 use Rattle.vat.specs.Table.{tableStart, tableLength, plainRows, tableRows}
 use Rattle.vat.specs.Sector.{ownRows, tableBytes, stationAt, stationName, timed, body, sector}
@@ -42,28 +43,29 @@ after-clear c = after-table c .before .before .before .before
 abbrev start-of : tie.After-seal-arg → tie.Start
 start-of c = after-clear c .before .before .before .before .before
 
+-- the entries that are taken from bytes
+abbrev map-of : tie.Start → List ℕ
+map-of s = words (s .args .n) (s .args .map .now) 0
+
 -- zeros, the table, the station's name and the times make the body
-filled : (c : tie.After-seal-arg) → let s = start-of c in after-times c .put-times .last .0 ≡ body (s .args .map .now) (s .args .previous) (s .args .stamp .now)
+filled : (c : tie.After-seal-arg) → let s = start-of c in after-times c .put-times .last .0 ≡ body (map-of s) (s .args .previous) (s .args .stamp .now)
 unfolding body
 filled c =
     let s = start-of c in let a = s .args in
     let zeros = after-clear c .clear .ensures ∙ ap (λ (n : ℕ). replicate n 0) (s .pre .0) in
-    let table = after-table c .put-table .ensures ∙ ap (λ (l : List ℕ). sets l (tableStart 0) (tableBytes (a .map .now) (a .previous))) zeros in
+    let table = after-table c .put-table .ensures ∙ ap (λ (l : List ℕ). sets l (tableStart 0) (tableBytes (map-of s) (a .previous))) zeros in
     let named = after-station c .put-name .ensures ∙ ap (λ (l : List ℕ). sets l stationAt stationName) table in
     after-times c .put-times .ensures ∙ ap (timed (a .stamp .now)) named
 
 -- what is sealed: the header laid over the body
 laid : (c : tie.After-seal-arg)
-    → let s = start-of c in after-own c .put-own .last .0 ≡ lay (body (s .args .map .now) (s .args .previous) (s .args .stamp .now)) (header (s .args .b) (length (s .args .map .now)))
+    → let s = start-of c in after-own c .put-own .last .0 ≡ lay (body (map-of s) (s .args .previous) (s .args .stamp .now)) (header (s .args .b) (s .args .n))
 laid c =
-    let a = start-of c .args in
-    let n : ℕ = length (a .map .now) in
+    let s = start-of c in let a = s .args in
+    let n : ℕ = a .n in
     let plain = after-plain c .put-plain .ensures ∙ ap (λ (l : List ℕ). lay l (plainRows (a .b))) (filled c) in
     let lengths = after-lengths c .put-lengths .ensures ∙ ap (λ (l : List ℕ). lay l (tableRows 0 n)) plain in
-    after-own c .put-own .ensures ∙ ap (λ (l : List ℕ). lay l (ownRows 3)) lengths ∙ header-laid (a .b) n (body (a .map .now) (a .previous) (a .stamp .now))
-
-cast-length : tie.Need-cast-length
-cast-length c = search needs
+    after-own c .put-own .ensures ∙ ap (λ (l : List ℕ). lay l (ownRows 3)) lengths ∙ header-laid (a .b) n (body (map-of s) (a .previous) (a .stamp .now))
 
 mul-length : tie.Need-mul-length
 mul-length c = search needs
@@ -98,23 +100,25 @@ put-own-requires c κs = search needs
 seal-requires : tie.Need-seal-requires
 seal-requires c κs =
     let p = start-of c in let a = p .args in
-    let n : ℕ = length (a .map .now) in
-    let s : List ℕ = body (a .map .now) (a .previous) (a .stamp .now) in
-    let told : Lengths (lay s (header (a .b) n)) 0 (tableLength n) (tableLength n) = header-lengths (a .b) n s (p .fits .b .fits) (p .pre .1) (length-body (a .map .now) (a .previous) (a .stamp .now)) in
-    rw (laid c) (omega (arith, told .summed, p .pre .1, length-lay (header (a .b) n) s, length-body (a .map .now) (a .previous) (a .stamp .now)))
+    let n : ℕ = a .n in
+    let s : List ℕ = body (map-of p) (a .previous) (a .stamp .now) in
+    let told : Lengths (lay s (header (a .b) n)) 0 (tableLength n) (tableLength n) = header-lengths (a .b) n s (p .fits .b .fits) (p .pre .1) (length-body (map-of p) (a .previous) (a .stamp .now)) in
+    rw (laid c) (omega (arith, told .summed, p .pre .1, length-lay (header (a .b) n) s, length-body (map-of p) (a .previous) (a .stamp .now)))
 
 same-length : tie.Need-same-length
 same-length c = search needs
 
 returns : tie.Need-returns
 unfolding sector
-returns c = c .before .before .seal .ensures ∙ ap seal (laid (c .before .before .before))
+returns c =
+    let e = c .before .before .before in let s = start-of e in let a = s .args in
+    c .before .before .seal .ensures
+    ∙ ap seal (laid e ∙ ap (λ (n : ℕ). lay (body (map-of s) (a .previous) (a .stamp .now)) (header (a .b) n)) (sym (length-words (a .n) (a .map .now) 0)))
 
 pub record-spec : {M : Type 1} → statement M
 record-spec =
     tie.close
     (tie.spec
-    cast-length
     mul-length
     add-length
     clear-requires

@@ -14,18 +14,9 @@ use borrow.Author.Needs.{needs}
 use Rattle.volume.proofs.Volume.store.Statement.{statement}
 use Rattle.volume.proofs.Volume.store.Tie as tie
 
--- the places of the function, from the last back
-abbrev after-last : tie.After-slice-known6 → tie.After-put323
-after-last c = c .before .before .before .before .before .before
-
-abbrev after-recorded : tie.After-slice-known6 → tie.After-put322
-after-recorded c = after-last c .before .before .before .before
-
-abbrev after-size : tie.After-slice-known6 → tie.After-put32
-after-size c = after-recorded c .before .before .before .before
-
-abbrev after-entries : tie.After-slice-known6 → tie.After-put-words
-after-entries c = after-size c .before .before .before .before
+-- the places of the function, each found from a later one
+abbrev after-entries : tie.After-put-fields → tie.After-put-words
+after-entries c = c .before .before .before .before
 
 abbrev start-of : tie.After-entries2 → tie.Start
 start-of c = c .before .before .before .before
@@ -39,41 +30,19 @@ put-words-requires c κs =
     let counted : 458 ≡ length (s .args .self .entries) = slice-aggregate-put-words c in
     omega (arith, s .pre)
 
-put32-requires : tie.Need-put32-requires
-put32-requires c κs = search needs
-
-add-put32 : tie.Need-add-put32
-add-put32 c = search needs
-
-put32-requires-2 : tie.Need-put32-requires-2
-put32-requires-2 c κs = search needs
-
-add-put32-2 : tie.Need-add-put32-2
-add-put32-2 c = search needs
-
-put32-requires-3 : tie.Need-put32-requires-3
-put32-requires-3 c κs = search needs
-
-add-put32-3 : tie.Need-add-put32-3
-add-put32-3 c = search needs
-
-put32-requires-4 : tie.Need-put32-requires-4
-put32-requires-4 c κs = search needs
+put-fields-requires : tie.Need-put-fields-requires
+put-fields-requires c κs = search needs
 
 same-length : tie.Need-same-length
 same-length c = search needs
 
 returns : tie.Need-returns
 returns c =
-    let e = after-entries c .before in let s = start-of e in let a = s .args in
+    let p = c .before .before in let w = after-entries p in let e = w .before in let s = start-of e in let a = s .args in
     let v : Volume = a .self in
-    let l : List ℕ = a .l .now in
     let counted : 458 ≡ length (v .entries) = slice-aggregate-put-words e in
-    let entries = after-entries c .put-words .ensures in
-    let size = after-size c .put32 .ensures ∙ ap (λ (t : List ℕ). sets t entriesLength (le 4 (v .size))) entries in
-    let recorded = after-recorded c .put322 .ensures ∙ ap (λ (t : List ℕ). sets t (entriesLength + 4) (le 4 (v .recorded))) size in
-    let last = after-last c .put323 .ensures ∙ ap (λ (t : List ℕ). sets t (entriesLength + 8) (le 4 (v .last))) recorded in
-    c .before .before .put324 .ensures ∙ ap (λ (t : List ℕ). sets t (entriesLength + 12) (le 4 (v .mode))) last ∙ pack-put v l (sym counted) (s .pre)
+    let behind : List ℕ → List ℕ = λ t. sets (sets (sets (sets t entriesLength (le 4 (v .size))) (entriesLength + 4) (le 4 (v .recorded))) (entriesLength + 8) (le 4 (v .last))) (entriesLength + 12) (le 4 (v .mode)) in
+    p .put-fields .ensures ∙ ap behind (w .put-words .ensures) ∙ pack-put v (a .l .now) (sym counted) (s .pre)
 
 pub store-spec : {M : Type 1} → statement M
 store-spec =
@@ -81,12 +50,6 @@ store-spec =
     (tie.spec
     slice-aggregate-put-words
     put-words-requires
-    put32-requires
-    add-put32
-    put32-requires-2
-    add-put32-2
-    put32-requires-3
-    add-put32-3
-    put32-requires-4
+    put-fields-requires
     same-length
     returns)

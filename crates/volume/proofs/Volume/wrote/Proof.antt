@@ -16,11 +16,11 @@ use Rattle.volume.proofs.Volume.wrote.Tie as tie
 
 -- the state after the branch, with the other fields set
 met : (v s : Volume) (n b : ℕ) (t : Bool) → eqb n (v .size) ≡ t
-    → s ≡ record { entries = set (v .entries) n b; size = grown t (v .size); recorded = v .recorded; last = v .last; mode = v .mode }
-    → record { entries = s .entries; size = s .size; recorded = b + 1; last = s .last; mode = 1 } ≡ wrote (some n) b v
+    → s ≡ record { entries = v .entries; size = grown t (v .size); recorded = v .recorded; last = v .last; mode = v .mode }
+    → record { entries = set (s .entries) n b; size = s .size; recorded = b + 1; last = s .last; mode = 1 } ≡ wrote (some n) b v
 unfolding wrote
 met v s n b t z e =
-    ap (λ (u : Volume). record { entries = u .entries; size = u .size; recorded = b + 1; last = u .last; mode = 1 }) e
+    ap (λ (u : Volume). record { entries = set (u .entries) n b; size = u .size; recorded = b + 1; last = u .last; mode = 1 }) e
     ∙ ap (λ (k : Bool). record { entries = set (v .entries) n b; size = grown k (v .size); recorded = b + 1; last = v .last; mode = 1 }) (sym z)
 
 mul-self : tie.Need-mul-self
@@ -44,4 +44,4 @@ returns c =
     (λ w. met v (c .if1 .self) n b false (ne-eqb n (v .size) (w .0 .left)) (w .1)) (c .if1 .came)
 
 pub wrote-spec : {M : Type 1} → statement M
-wrote-spec = tie.close (tie.spec mul-self element-write-self add-self add-self-2 returns)
+wrote-spec = tie.close (tie.spec add-self add-self-2 mul-self element-write-self returns)
