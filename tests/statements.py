@@ -47,11 +47,11 @@ def check_client(sources):
 
 
 def check_floors(sources):
-    """The viewer knows the log's promises and nothing that lies below them, and above the exporting crate there is none."""
+    """The viewer imports none of the code behind the log's promises, only what lies below both; and nothing imports the exporting crate."""
     lines = [line.split(":") for line in sources.text(FLOORS).splitlines() if line and not line.startswith("#")]
     imports = {name: words.split() for name, words in lines}
     if "calls" in imports.get("viewer", ["calls"]):
-        sources.fail(FLOORS, "viewer imports calls: it is to know only the log's promises")
+        sources.fail(FLOORS, "viewer imports calls: of the calls it is to know only the log's promises")
     for name, words in imports.items():
         if "station" in words:
             sources.fail(FLOORS, f"{name} imports station, which only exports")
