@@ -10,29 +10,6 @@ use station::{Refusal, Role};
 /// The folder of the archive that this package links.
 const ARCHIVE: &str = env!("STATION_ARCHIVE_FOLDER");
 
-const REFUSALS: [Refusal; 20] = [
-    Refusal::DiscSize,
-    Refusal::LentLength,
-    Refusal::DiscUnsound,
-    Refusal::LedgerUnfit,
-    Refusal::ReadOnly,
-    Refusal::VatExists,
-    Refusal::NoVat,
-    Refusal::ChainBroken,
-    Refusal::ChainEnded,
-    Refusal::NotInUse,
-    Refusal::Unreadable,
-    Refusal::AboveSize,
-    Refusal::AboveLimit,
-    Refusal::NoRoom,
-    Refusal::WouldBeVat,
-    Refusal::BadTimestamp,
-    Refusal::SessionClosed,
-    Refusal::PartitionStart,
-    Refusal::NotARun,
-    Refusal::BeyondTheRun,
-];
-
 fn package() -> &'static Path {
     Path::new(env!("CARGO_MANIFEST_DIR"))
 }
@@ -107,7 +84,7 @@ fn the_header_has_the_crates_numbers() {
         let line = format!("#define STATION_{name} {value} ");
         assert!(header.contains(&line), "{line}");
     }
-    let refusals = REFUSALS.map(|refusal| (c_name(refusal), refusal.number()));
+    let refusals = Refusal::ALL.map(|refusal| (c_name(refusal), refusal.number()));
     let roles = Role::ALL.map(|role| (format!("ROLE_{}", c_name(role)), role.number().into()));
     for (name, number) in refusals.into_iter().chain(roles) {
         let line = format!("    STATION_{name} = {number}");

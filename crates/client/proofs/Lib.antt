@@ -2,6 +2,7 @@ pub mod Days
 pub mod Claimed
 pub mod Shown
 pub mod Saves
+pub mod Whatever
 pub mod Since
 pub mod Times
 pub mod Written

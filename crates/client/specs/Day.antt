@@ -15,7 +15,8 @@ use Rattle.recorder.specs.Effects.{after, sectorsOf}
 use Rattle.roles.specs.Keeping.{AfterRoles, afterRoles}
 use Rattle.run.specs.Entry.{entry}
 use Rattle.run.specs.View.{filledWith, view}
-use Rattle.history.specs.Events.{Event, runs}
+use Rattle.history.specs.History.{History}
+use Rattle.history.specs.Events.{World, Event, runs, remembers}
 use Rattle.history.specs.Closed.{TurnedAway}
 use Rattle.archive.specs.Earlier.{Seen, showing}
 
@@ -138,6 +139,14 @@ pub record StoppedMarking (x : Day) (cs : List Call) (c : Call) (j : ℕ) (left 
 -- What any events leave of a disc, whatever ledger was there: calls that are done, refused or cut.
 abbrev pub leftBy : Disc → Option (List ℕ) → List Event → Disc
 leftBy d held tried = runs (record { disc = d; ledger = held }) tried .disc
+
+-- The disc and the ledger that a day leaves.
+abbrev pub leftAs : Day → World
+leftAs x = record { disc = x .disc; ledger = some (x .ledger) }
+
+-- Events that make no save: whatever the history was, its pages stay.
+abbrev pub NoSave : World → List Event → Type 0
+NoSave w es = (h : History) → remembers w h es .pages ≡ h .pages
 
 -- An answer that turns away a call on a closed disc.
 abbrev pub ClosedAnswer : ℕ → Type 0

@@ -16,11 +16,11 @@ ghost use Rattle.disc.specs.Disc.{Disc, lent};
 ghost use Rattle.volume.specs.Volume.{ledgerLength};
 ghost use Rattle.recorder.specs.Calls.{Call, write, commit, closeSession, saves};
 ghost use Rattle.run.specs.View.{mostViewed};
-ghost use Rattle.history.specs.Events.{Event};
+ghost use Rattle.history.specs.Events.{Event, AllAllowed, runs};
 ghost use Rattle.history.specs.Times.{savedStamp};
 ghost use Rattle.archive.specs.Earlier.{seenBack, showing};
 ghost use Rattle.alike.specs.Alike.{Alike};
-ghost use Rattle.client.specs.Day.{Day, ended, day, AllDone, opening, savesAmong, sectorsBehind, CutBehind, tableKept, readsOf, StoppedStoring, StoppedMarking, leftBy, ClosedAnswer, filling, storing, joinedBlocks};
+ghost use Rattle.client.specs.Day.{Day, ended, day, AllDone, opening, savesAmong, sectorsBehind, CutBehind, tableKept, readsOf, StoppedStoring, StoppedMarking, leftBy, leftAs, NoSave, ClosedAnswer, filling, storing, joinedBlocks};
 
 // Whatever was done since a save of x, with k saves among it: k saves back, v reads x. Any 1,848 bytes will do as ledger, and
 // any bytes as roles, one a sector.
@@ -117,6 +117,21 @@ pub fn write_on_closed(
     ensures { λ r. ⌜ ((start : Day) (fresh : Bool) (before : List Call) (main reserve : Extent) (n : ℕ) → start .answer < 4294967296 → AllDone start (opening fresh ∷ (before ++ (closeSession main reserve n ∷ []))) → (lent (now (image .entry)) (now (kinds .entry))) ≡ day start (opening fresh ∷ (before ++ (closeSession main reserve n ∷ []))) .disc → ClosedAnswer r × (ended r (now (image .exit)) (now (kinds .exit)) (now (roles .exit)) (now (ledger .exit)) ≡ ended r (now (image .entry)) (now (kinds .entry)) (now (roles .entry)) (now (ledger .entry)))) ⌝ }
 {
     keeper::write(image, kinds, roles, ledger, v, block)
+}
+
+// Whatever happened since a save of x, calls done, refused or cut of which none made a save: v reads x. Any 1,848 bytes will do as ledger, any bytes as
+// roles, one a sector, and any bytes in the sectors that are not data.
+pub fn after_events(
+    image: &[u8],
+    kinds: &[u8],
+    roles: &mut [u8],
+    ledger: &mut [u8],
+    v: u32,
+    out: &mut [u8],
+) -> u64
+    ensures { λ r. ⌜ ((start : Day) (fresh : Bool) (stamp : Option (List ℕ)) (x : List ℕ) (since : List Event) → start .answer < 4294967296 → AllDone start (opening fresh ∷ write (some v) x ∷ commit stamp ∷ []) → AllAllowed (leftAs (day start (opening fresh ∷ write (some v) x ∷ commit stamp ∷ []))) since → NoSave (leftAs (day start (opening fresh ∷ write (some v) x ∷ commit stamp ∷ []))) since → Alike (runs (leftAs (day start (opening fresh ∷ write (some v) x ∷ commit stamp ∷ []))) since .disc) (lent (now (image .entry)) (now (kinds .entry))) → length (now (roles .entry)) ≡ length (now (kinds .entry)) → length (now (ledger .entry)) ≡ ledgerLength → length (now (out .entry)) ≡ sectorLength → (r ≡ 0) × (now (out .exit) ≡ x)) ⌝ }
+{
+    crate::show(image, kinds, roles, ledger, v, out)
 }
 
 // The morning after a power cut. After a save of x and a write of y, whatever call was cut, and after however many of its sectors: v reads y if that
