@@ -134,6 +134,7 @@ pub use recorded::{recorded, recorded_since, Sector};
 pub use refusal::Refusal;
 pub use role::{space, NoRole, Role, Space};
 pub use run::{file_entry, view, write_unnumbered};
+pub use tag::tag_checksum;
 pub use timestamp::{SaveTime, Timestamp};
 
 /// The thirteen calls with the two numbers as the core answers them: outcome ×

@@ -16,11 +16,12 @@ pub(crate) fn put_tag(sector: &mut [u8; SECTOR], identifier: u16, crc_length: u1
     sector[8..10].copy_from_slice(&sum.to_le_bytes());
     sector[10..12].copy_from_slice(&crc_length.to_le_bytes());
     sector[12..16].copy_from_slice(&location.to_le_bytes());
-    sector[4] = checksum(sector);
+    sector[4] = tag_checksum(sector);
 }
 
-/// Of bytes 0 to 3 and 5 to 15, modulo 256.
-fn checksum(sector: &[u8; SECTOR]) -> u8 {
+/// The tag checksum that a descriptor's byte 4 should have: the sum of bytes 0 to 3 and
+/// 5 to 15, modulo 256 (ECMA-167 3/7.2.3).
+pub fn tag_checksum(sector: &[u8; SECTOR]) -> u8 {
     let summed = sector[..4].iter().chain(&sector[5..BODY]);
     summed.fold(0, |sum, byte| sum.wrapping_add(*byte))
 }

@@ -40,11 +40,11 @@ pub fn of(refusal: Refusal) -> &'static str {
             "Mount the disc, or begin it if it has no save yet; but if a wrong file was put in the place of the disc, put the right one back first."
         }
         Refusal::ReadOnly => {
-            "Mount the disc to record again; to look at an earlier save without this, give read, view, contents, space or map the option --back."
+            "Mount the disc to record again, if it is not closed; to look at an earlier save without this, give read, view, contents, space or map the option --back."
         }
         Refusal::VatExists => "Mount the disc: it has a save already.",
         Refusal::NoVat => {
-            "Begin the disc, with --anyway if something was recorded on it before the first save; leave another deck's disc as it is."
+            "Commit what is written here and not saved yet; if there is nothing, begin the disc, with --anyway if something was recorded on it before the first save; leave another deck's disc as it is."
         }
         Refusal::ChainBroken => {
             "Look back fewer steps: the saves before the broken one cannot be reached."
@@ -61,7 +61,7 @@ pub fn of(refusal: Refusal) -> &'static str {
             "Write the size itself as the next new number, or one below it, 457 at most; where all are taken, take another disc."
         }
         Refusal::NoRoom => {
-            "Commit what is written, or close the disc if there is room for that, and take another one; the last finished save stays."
+            "Commit what is not saved yet, or close the disc if there is room for that, and take another one; the last finished save stays."
         }
         Refusal::WouldBeVat => {
             "Change the block, or pack the run, for example with gzip: as it is, it would pass for a save or for a closing."

@@ -5,7 +5,7 @@ use std::ops::RangeInclusive;
 use std::os::unix::ffi::OsStrExt;
 use std::path::Path;
 
-use station::{Extent, Timestamp, MOST_SECTORS};
+use station::{Extent, Timestamp, LIMIT, MOST_SECTORS};
 
 use crate::failure::Failure;
 use crate::names::shown;
@@ -14,6 +14,9 @@ use crate::syntax::{is_number, Syntax};
 
 /// "The numbers v and k have 32 bits", and so have those of a closing.
 const NUMBERS: RangeInclusive<u64> = 0..=u32::MAX as u64;
+
+/// Those of them that a disc can have in use.
+const ON_A_DISC: RangeInclusive<u64> = 0..=LIMIT as u64 - 1;
 
 /// "It has 1 to 360,000 sectors."
 const SECTORS: RangeInclusive<u64> = 1..=MOST_SECTORS as u64;
@@ -155,7 +158,15 @@ impl Arguments {
         Ok(number as u32)
     }
 
-    fn operand_in(&self, place: usize, range: RangeInclusive<u64>) -> Result<u64, Failure> {
+    /// The number of a block or a run. Every one of 32 bits is left to the core, which
+    /// refuses those that no disc has.
+    pub fn number_on_disc(&self, place: usize) -> Result<u32, Failure> {
+        let (name, word) = (self.command.operands[place], &self.operands[place]);
+        let number = self.number_told(name, word, NUMBERS, ON_A_DISC)?;
+        Ok(number as u32)
+    }
+
+    pub fn operand_in(&self, place: usize, range: RangeInclusive<u64>) -> Result<u64, Failure> {
         self.number_in(self.command.operands[place], &self.operands[place], range)
     }
 
@@ -202,10 +213,20 @@ impl Arguments {
         word: &OsStr,
         range: RangeInclusive<u64>,
     ) -> Result<u64, Failure> {
+        self.number_told(name, word, range.clone(), range)
+    }
+
+    fn number_told(
+        &self,
+        name: &str,
+        word: &OsStr,
+        range: RangeInclusive<u64>,
+        told: RangeInclusive<u64>,
+    ) -> Result<u64, Failure> {
         let text = shown(Path::new(word));
         let found = number(&text).filter(|number| range.contains(number));
         found.ok_or_else(|| {
-            let (least, most) = (range.start(), range.end());
+            let (least, most) = (told.start(), told.end());
             let missed = missed(&text, *least);
             self.wrong(format!("{name} is a number from {least} to {most}{missed}"))
         })

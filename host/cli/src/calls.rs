@@ -34,7 +34,7 @@ pub fn begin(given: &Arguments, around: &mut Surroundings) -> Done {
     let mut session = Session::open(given.path(0), Lent::New, around)?;
     let (image, kinds, roles, ledger) = session.lent();
     let begun = station::begin(image, kinds, roles, ledger);
-    begun.map_err(|refusal| refused(refusal, &Asked::Begin, &session))?;
+    begun.map_err(|refusal| refused(refusal, &Asked::WholeDisc, &session))?;
     beginning::check(given, &session)?;
     let left_out = left_out(&session, None);
     session.keep_ledger()?;
@@ -45,7 +45,7 @@ pub fn mount(given: &Arguments, around: &mut Surroundings) -> Done {
     let mut session = Session::open(given.path(0), Lent::New, around)?;
     let (image, kinds, roles, ledger) = session.lent();
     let mounted = station::mount(image, kinds, roles, ledger);
-    let clean = mounted.map_err(|refusal| refused(refusal, &Asked::Mount, &session))?;
+    let clean = mounted.map_err(|refusal| refused(refusal, &Asked::WholeDisc, &session))?;
     let map = Map::of(&session.ledger);
     let left_out = left_out(&session, Some(&map));
     let closed = closing::told(&session.disc);
@@ -94,7 +94,7 @@ pub fn store(given: &Arguments, around: &mut Surroundings) -> Done {
 }
 
 pub fn release(given: &Arguments, around: &mut Surroundings) -> Done {
-    let v = given.number(1)?;
+    let v = given.number_on_disc(1)?;
     let mut session = Session::open(given.path(0), Lent::Kept, around)?;
     let (image, kinds, roles, ledger) = session.lent();
     let released = station::release(image, kinds, roles, ledger, v);
@@ -107,7 +107,7 @@ pub fn close(given: &Arguments, around: &mut Surroundings) -> Done {
     let mut session = Session::open(given.path(0), Lent::Kept, around)?;
     let (image, kinds, roles, ledger) = session.lent();
     let closed = station::close_packet(image, kinds, roles, ledger);
-    closed.map_err(|refusal| refused(refusal, &Asked::Close, &session))?;
+    closed.map_err(|refusal| refused(refusal, &Asked::WholeDisc, &session))?;
     session.keep_ledger()?;
     say_done(around, "packet closed\n".into())
 }
@@ -159,7 +159,7 @@ pub fn look_back(given: &Arguments, around: &mut Surroundings) -> Done {
     let mut session = Session::open(given.path(0), Lent::New, around)?;
     let (image, kinds, roles, ledger) = session.lent();
     let found = station::look_back(image, kinds, roles, ledger, k);
-    let table = found.map_err(|refusal| refused(refusal, &Asked::LookBack, &session))?;
+    let table = found.map_err(|refusal| refused(refusal, &Asked::WholeDisc, &session))?;
     let map = Map::of(&session.ledger);
     let left_out = match left_out(&session, None).as_str() {
         "" => String::new(),

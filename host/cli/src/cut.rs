@@ -7,6 +7,8 @@ use station::SECTOR;
 use crate::arguments::{parse, Arguments, Asked};
 use crate::closing::{announce, Closing};
 use crate::failure::{Done, Failure};
+use crate::form::{counted, number};
+use crate::kinds::UNREADABLE;
 use crate::session::{Lent, Session};
 use crate::storing::Storing;
 use crate::surroundings::{say, Surroundings};
@@ -14,7 +16,7 @@ use crate::syntax::{Syntax, CLOSE_SESSION, COMMIT, STORE, WRITE};
 use crate::writing::{Saving, Writing};
 
 /// An unreadable sector, and how many of its bytes were recorded.
-const TORN: (u8, usize) = (3, SECTOR / 2);
+const TORN: (u8, usize) = (UNREADABLE, SECTOR / 2);
 
 /// The call that is cut; of a store, one of its calls.
 enum Call {
@@ -68,7 +70,8 @@ pub fn cut(given: &Arguments, around: &mut Surroundings) -> Done {
     }
     session.keep_cut(kept, torn.then_some(TORN))?;
     let next = if torn { ", the next one torn" } else { "" };
-    let text = format!("cut after {kept} of {sectors} sectors{next}, ledger lost\n");
+    let (kept, sectors) = (number(kept), counted(sectors, "sector"));
+    let text = format!("cut after {kept} of {sectors}{next}, ledger lost\n");
     say(around, text)
 }
 
@@ -82,11 +85,11 @@ fn cut_command(given: &Arguments) -> Result<&'static Syntax, Failure> {
 }
 
 fn check(command: &Syntax, kept: usize, torn: bool, sectors: usize) -> Done {
-    let name = command.name;
+    let (name, records) = (command.name, counted(sectors, "sector"));
     let fault = if kept > sectors {
-        format!("J is at most {sectors}, the sectors that this {name} records")
+        format!("J is at most {sectors}: this {name} records {records}")
     } else if torn && kept == sectors {
-        format!("with --torn J is below {sectors}, the sectors that this {name} records")
+        format!("with --torn J is below {sectors}: this {name} records {records}")
     } else {
         return Ok(());
     };

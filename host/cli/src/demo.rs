@@ -134,6 +134,7 @@ impl Step {
         }
         let mut inner = Surroundings {
             input: &mut input.as_bytes(),
+            input_length: None,
             typed: false,
             output: &mut shown,
             screen: around.screen,

@@ -8,15 +8,9 @@ use crate::failure::Done;
 use crate::surroundings::{say, Surroundings};
 
 pub fn explain(given: &Arguments, around: &mut Surroundings) -> Done {
-    let number = given.number(0)?;
-    let known = Refusal::ALL.into_iter();
-    let found = known.into_iter().find(|known| known.number() == number);
-    let Some(refusal) = found else {
-        let most = Refusal::ALL.len();
-        return Err(given.wrong(format!(
-            "refusals have numbers from 1 to {most}, not {number}"
-        )));
-    };
+    let number = given.operand_in(0, 1..=Refusal::ALL.len() as u64)?;
+    // By their numbers, from 1 on.
+    let refusal = Refusal::ALL[number as usize - 1];
     let (whose, todo) = (advice::whose(refusal), advice::of(refusal));
     say(
         around,

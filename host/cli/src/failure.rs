@@ -6,7 +6,10 @@ use std::path::{Path, PathBuf};
 
 use station::Refusal;
 
-use crate::names::shown;
+use crate::names::{folder_of, shown};
+
+/// Why no file is made.
+pub const THERE_ALREADY: &str = "it is there already";
 
 /// What a command comes to, or a part of one that answers nothing.
 pub type Done = Result<(), Failure>;
@@ -34,8 +37,8 @@ pub enum Failure {
     Output(io::Error),
     /// The command is done, and this, its answer, cannot be written to standard output.
     Untold(String, io::Error),
-    /// The disc's roles are not known.
-    RolesUnknown(PathBuf),
+    /// The disc's roles are not known; what is to be done, where it has no save either.
+    RolesUnknown(PathBuf, Option<String>),
     /// The core refused; why, and what to do, in a sentence or two.
     Refused(Refusal, String),
 }
@@ -45,8 +48,8 @@ impl Failure {
         Failure::Unreadable(file.to_path_buf(), error)
     }
 
-    pub fn unwritable(file: &Path, reason: impl ToString) -> Failure {
-        Failure::Unwritable(file.to_path_buf(), reason.to_string())
+    pub fn unwritable(file: &Path, reason: impl Reason) -> Failure {
+        Failure::Unwritable(file.to_path_buf(), reason.of(file))
     }
 
     pub fn status(&self) -> u8 {
@@ -54,7 +57,7 @@ impl Failure {
             Failure::Usage(..) | Failure::Unsure(_) => 64,
             Failure::NoDisc(..) | Failure::NoImage(..) | Failure::NoRun(..) => 65,
             Failure::Unreadable(..) => 66,
-            Failure::RolesUnknown(_) => 69,
+            Failure::RolesUnknown(..) => 69,
             Failure::Unwritable(..) => 73,
             Failure::Output(_) | Failure::Untold(..) => 74,
             Failure::Refused(refusal, _) => refusal.number() as u8,
@@ -99,7 +102,7 @@ impl fmt::Display for Failure {
             Failure::Unwritable(file, reason) => {
                 writeln!(out, "station: {} cannot be written: {reason}", shown(file))
             }
-            Failure::RolesUnknown(disc) => {
+            Failure::RolesUnknown(disc, None) => {
                 let disc = shown(disc);
                 writeln!(
                     out,
@@ -107,8 +110,19 @@ impl fmt::Display for Failure {
                      known; --back 0 tells it of the newest save, and changes nothing"
                 )
             }
-            Failure::Output(error) => writeln!(out, "station: no answer can be told: {error}"),
+            Failure::RolesUnknown(disc, Some(todo)) => {
+                let disc = shown(disc);
+                writeln!(
+                    out,
+                    "station: where the space of {disc} went is not known. {todo}"
+                )
+            }
+            Failure::Output(error) => {
+                let error = system_words(error);
+                writeln!(out, "station: no answer can be told: {error}")
+            }
             Failure::Untold(done, error) => {
+                let error = system_words(error);
                 let done_all_the_same =
                     "this is done, but standard output does not take the answer";
                 writeln!(out, "station: {done_all_the_same}: {error}")?;
@@ -123,8 +137,59 @@ impl fmt::Display for Failure {
 
 fn unreadable(file: &dyn fmt::Display, error: &io::Error) -> String {
     match error.kind() {
-        ErrorKind::NotFound => format!("there is no file or folder {file}"),
+        ErrorKind::NotFound | ErrorKind::NotADirectory => no_file(file),
         ErrorKind::PermissionDenied => format!("{file} may not be read"),
-        _ => format!("{file} cannot be read: {error}"),
+        _ => format!("{file} cannot be read: {}", system_words(error)),
+    }
+}
+
+fn no_file(file: &dyn fmt::Display) -> String {
+    format!("there is no file or folder {file}")
+}
+
+/// What the system says, without the number that it has for it; in the words of the other
+/// messages where they have some.
+pub fn system_words(error: &io::Error) -> String {
+    match error.kind() {
+        ErrorKind::IsADirectory => "it is a folder".into(),
+        ErrorKind::StorageFull => "its disk is full".into(),
+        _ => {
+            let text = error.to_string();
+            let words = text.split(" (os error ").next();
+            words.unwrap_or_default().into()
+        }
+    }
+}
+
+/// Why a file cannot be written.
+pub trait Reason {
+    fn of(self, file: &Path) -> String;
+}
+
+impl Reason for &str {
+    fn of(self, _: &Path) -> String {
+        self.into()
+    }
+}
+
+impl Reason for String {
+    fn of(self, _: &Path) -> String {
+        self
+    }
+}
+
+/// Where a file is made, it is the folder that is missing, or none, or protected.
+impl Reason for io::Error {
+    fn of(self, file: &Path) -> String {
+        let folder = folder_of(file);
+        match self.kind() {
+            ErrorKind::AlreadyExists => THERE_ALREADY.into(),
+            ErrorKind::NotFound if !folder.exists() => no_file(&shown(folder)),
+            ErrorKind::NotFound => "it is not there, and cannot be made".into(),
+            ErrorKind::NotADirectory => format!("{} is no folder", shown(folder)),
+            ErrorKind::PermissionDenied => "it or its folder is write-protected".into(),
+            ErrorKind::ReadOnlyFilesystem => "its disk is write-protected".into(),
+            _ => system_words(&self),
+        }
     }
 }

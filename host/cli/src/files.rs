@@ -3,11 +3,13 @@
 
 use std::ffi::OsString;
 use std::fs::{self, File};
-use std::io::{self, ErrorKind, Read};
+use std::io::{self, ErrorKind, Read, Seek};
+use std::os::fd::BorrowedFd;
 use std::path::{Path, PathBuf};
 
-use crate::failure::{Done, Failure};
+use crate::failure::{system_words, Done, Failure};
 use crate::lock;
+use crate::names::folder_of;
 
 /// A disc file, its ledger and its roles, by their real names: a link to a disc file
 /// stays a link, and the others are the same whichever name the operator types.
@@ -53,14 +55,6 @@ pub fn with_suffix(path: &Path, suffix: &str) -> PathBuf {
     name.into()
 }
 
-/// The folder that a file is in; it need not exist yet.
-pub fn folder_of(path: &Path) -> &Path {
-    match path.parent() {
-        Some(folder) if folder != Path::new("") => folder,
-        _ => Path::new("."),
-    }
-}
-
 /// Waits until no other command works in the folder, and keeps others out until
 /// the answer is dropped. Without this, two commands at once could leave the
 /// disc of one with the ledger of the other, and the two might even fit. The
@@ -75,13 +69,14 @@ pub fn lock_folder(folder: &Path, tell: &mut dyn FnMut()) -> Result<File, Failur
 /// The same of an open file, which may have names in several folders.
 pub fn lock(file: &File, name: &Path, tell: &mut dyn FnMut()) -> Done {
     let locked = lock::exclusive(file, tell);
-    locked.map_err(|error| Failure::unwritable(name, format!("no lock: {error}")))
+    locked.map_err(|error| Failure::unwritable(name, format!("no lock: {}", system_words(&error))))
 }
 
 /// Gives the lock back, while the file is open or in memory.
 pub fn unlock(file: &File, name: &Path) -> Done {
     let unlocked = lock::release(file);
-    unlocked.map_err(|error| Failure::unwritable(name, format!("no lock: {error}")))
+    unlocked
+        .map_err(|error| Failure::unwritable(name, format!("no lock: {}", system_words(&error))))
 }
 
 /// Opens a file to be read; the name is for the message, and so is `no_file`, if it
@@ -97,6 +92,14 @@ pub fn open(
         return Err(no_file(name.to_path_buf(), "it is not a file".into()));
     }
     File::open(path).map_err(unreadable)
+}
+
+/// How many bytes are left to read, if this is a file that tells its length.
+pub fn left_in(input: BorrowedFd) -> Option<usize> {
+    let mut input = File::from(input.try_clone_to_owned().ok()?);
+    let about = input.metadata().ok()?;
+    let left = about.len().checked_sub(input.stream_position().ok()?)?;
+    (about.is_file() && left > 0).then_some(left as usize)
 }
 
 /// Why a file cannot be read to the length that it had.

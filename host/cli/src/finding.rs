@@ -3,13 +3,12 @@
 
 use std::path::Path;
 
-use station::{LEDGER, SECTOR};
+use station::{tag_checksum, LEDGER, SECTOR};
 
 use crate::form::counted;
+use crate::kinds::DATA;
 use crate::ledger::Map;
 use crate::names::shown;
-
-const DATA: u8 = 1;
 
 /// The volume recognition sequence starts in this sector, and has few.
 const RECOGNITION: usize = 16;
@@ -130,11 +129,9 @@ struct Tag {
 }
 
 impl Tag {
-    /// If the sector starts with one, by its sum: "bytes 0 to 3 and 5 to 15, modulo
-    /// 256".
+    /// If the sector starts with one, by its checksum.
     fn of(sector: &[u8]) -> Option<Tag> {
-        let summed = sector[..4].iter().chain(&sector[5..16]);
-        let sum = summed.fold(0u8, |sum, byte| sum.wrapping_add(*byte));
+        let sector: &[u8; SECTOR] = sector.try_into().ok()?;
         let word = |place: usize| u16::from_le_bytes([sector[place], sector[place + 1]]);
         let tag = Tag {
             identifier: word(0),
@@ -142,7 +139,7 @@ impl Tag {
             location: u32::from(word(12)) | u32::from(word(14)) << 16,
         };
         let known = (1..=9).contains(&tag.identifier) || (256..=266).contains(&tag.identifier);
-        (known && sector[4] == sum && sector[5] == 0).then_some(tag)
+        (known && sector[4] == tag_checksum(sector) && sector[5] == 0).then_some(tag)
     }
 
     fn is_later(&self) -> bool {

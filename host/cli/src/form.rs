@@ -11,10 +11,8 @@ use memmap2::MmapMut;
 use station::{Sector, MOST_SECTORS, SECTOR};
 
 use crate::failure::Failure;
+use crate::kinds::BLANK;
 use crate::mapping;
-
-/// The kind of a sector that is not recorded.
-const BLANK: u8 = 0;
 
 /// The sector count's columns and its newline.
 const HEAD: usize = 9;
@@ -107,12 +105,31 @@ pub fn digit(kind: u8) -> u8 {
     kind + b'0'
 }
 
-/// How many of a thing, in words.
+/// How many of a thing, in words, for example `1 sector`, `360,000 sectors`.
 pub fn counted(count: usize, thing: &str) -> String {
     match count {
         1 => format!("1 {thing}"),
-        _ => format!("{count} {thing}s"),
+        _ => format!("{} {thing}s", number(count)),
     }
+}
+
+/// A count, for example `360,000`. What is typed, and what names a place, has no commas.
+pub fn number(count: usize) -> String {
+    let digits = count.to_string();
+    let mut text = String::new();
+    for (place, digit) in digits.chars().enumerate() {
+        if place > 0 && (digits.len() - place) % 3 == 0 {
+            text.push(',');
+        }
+        text.push(digit);
+    }
+    text
+}
+
+/// So many bytes, as `--offset` and other programs have them: without commas.
+pub fn bytes(count: usize) -> String {
+    let plural = if count == 1 { "" } else { "s" };
+    format!("{count} byte{plural}")
 }
 
 /// Whether a file starts as a disc file does.
@@ -138,7 +155,8 @@ fn read_form(file: &File, name: &Path) -> io::Result<Result<Disc, String>> {
     };
     let whole = whole_length(sectors);
     if length != whole {
-        let reason = format!("it has {length} bytes, and with {sectors} sectors it has {whole}");
+        let sectors = counted(sectors, "sector");
+        let reason = format!("it has {length} bytes, and with {sectors} it has {whole}");
         return Ok(Err(reason));
     }
     let file = mapping::copy_on_write(file, whole as usize, name)?;
@@ -172,4 +190,18 @@ fn sector_count(head: &[u8]) -> Option<usize> {
     }
     let count = digits.parse().ok()?;
     (1..=MOST_SECTORS).contains(&count).then_some(count)
+}
+
+#[cfg(test)]
+mod tests {
+    use super::{bytes, counted, number};
+
+    #[test]
+    fn counts_in_words() {
+        let told = [0, 999, 1000, 360_000, 1_234_567].map(number);
+        assert_eq!(told, ["0", "999", "1,000", "360,000", "1,234,567"]);
+        let told = [0, 1, 1500].map(|count| counted(count, "sector"));
+        assert_eq!(told, ["0 sectors", "1 sector", "1,500 sectors"]);
+        assert_eq!([1, 1500].map(bytes), ["1 byte", "1500 bytes"]);
+    }
 }

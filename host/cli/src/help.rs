@@ -45,7 +45,7 @@ roles are not known; 73 a file cannot be written; 74 the answer cannot be told.
 pub const NEW: &str = "\
 Usage: station new DISC SECTORS
 
-Makes a blank disc file with 1 to 360000 sectors. Overwrites nothing. Begin the
+Makes a blank disc file with 1 to 360,000 sectors. Overwrites nothing. Begin the
 disc before the first write.
 ";
 
@@ -290,7 +290,7 @@ has no ledger: mount it. Tells the newest save that a mount will find, or if
 there is none what the image seems to be, and what to do.
 
   --start N     the partition's first block, as udfinfo tells it
-  --sectors M   the disc's size in sectors, 360000 at most: those behind the
+  --sectors M   the disc's size in sectors, 360,000 at most: those behind the
                 image's are blank. Without it there is no room to record
 ";
 

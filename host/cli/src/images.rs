@@ -11,13 +11,12 @@ use crate::arguments::Arguments;
 use crate::failure::{Done, Failure};
 use crate::files::{not_whole, open};
 use crate::finding;
-use crate::form::{counted, sector_place, Disc};
+use crate::form::{counted, number, sector_place, Disc};
+use crate::kinds::DATA;
 use crate::making::{make, make_disc};
 use crate::mapping;
 use crate::session::{Lent, Session};
 use crate::surroundings::{say, say_aside, say_done, waiting, Surroundings};
-
-const DATA: u8 = 1;
 
 /// Sectors that are copied at a time: a full disc is 737 MB, and is not held in
 /// memory.
@@ -45,7 +44,7 @@ pub fn import(given: &Arguments, around: &mut Surroundings) -> Done {
             part.write_at(first + place, bytes)
         })
     })?;
-    let blank = sectors - data;
+    let blank = number(sectors - data);
     let found = image.found(disc)?;
     let data = counted(data, "sector");
     say_done(around, format!("{data} imported, {blank} blank\n{found}"))
@@ -78,8 +77,9 @@ impl Image<'_> {
         let start = given.needed_below("--start", all)?;
         let sectors = all - start;
         if sectors > MOST_SECTORS {
+            let (has, most) = (counted(sectors, "sector"), number(MOST_SECTORS));
             return no_image(format!(
-                "it has {sectors} sectors from block {start} on, and a disc has {MOST_SECTORS} at most"
+                "it has {has} from block {start} on, and a disc has {most} at most"
             ));
         }
         Ok(Image {
@@ -147,7 +147,7 @@ fn exported(disc: &Disc) -> String {
     let without = kinds[..sectors].iter().filter(|kind| **kind != DATA);
     let zeros = match without.count() {
         0 => String::new(),
-        without => format!(", {without} without data, as zeros"),
+        without => format!(", {} without data, as zeros", number(without)),
     };
     format!("{} exported{zeros}\n", counted(sectors, "sector"))
 }

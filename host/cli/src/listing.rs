@@ -35,7 +35,7 @@ pub fn list(given: &Arguments, around: &mut Surroundings) -> Done {
         opened => opened?,
     };
     let (text, refusal) = listing(&session.disc, given.has("--times"));
-    let failure = refusal.map(|refusal| reasons::refused(refusal, &Asked::Mount, &session));
+    let failure = refusal.map(|refusal| reasons::refused(refusal, &Asked::WholeDisc, &session));
     let closed = closing::told(&session.disc);
     drop(session);
     match say(around, text) {

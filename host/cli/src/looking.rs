@@ -20,6 +20,6 @@ fn looking_back(given: &Arguments, k: u32, around: &mut Surroundings) -> Result<
     let (image, kinds, roles, ledger) = session.lent();
     match station::look_back(image, kinds, roles, ledger, k) {
         Ok(_) => Ok(session),
-        Err(refusal) => Err(refused(refusal, &Asked::LookBack, &session)),
+        Err(refusal) => Err(refused(refusal, &Asked::WholeDisc, &session)),
     }
 }

@@ -12,7 +12,7 @@
 //! - `storing`, `writing`, `closing`: the calls that record, whole or to be cut;
 //! - `streaming`: a run that comes as a stream, before it is stored;
 //! - `reasons`: why the core refused, in an operator's words;
-//! - `room`: the room on a disc;
+//! - `first_save`: what leads to one on a disc that has none; `room`: the room on a disc;
 //! - `session`: disc, roles and ledger of one command;
 //! - `keeping`: the order in which they are kept;
 //! - `surroundings`: the streams and the disk that a command is given;
@@ -27,14 +27,14 @@
 //! - `drawing`: a disc drawn, by the roles of its sectors;
 //! - `runs`: the entries of runs, the numbers in use, and the parts of their runs;
 //! - `roles`: the role file's form; `mark`: the ledger file's; `form`: the disc file's;
-//! - `ledger`: what the ledger says;
+//! - `ledger`: what the ledger says; `kinds`: what a sector is;
 //! - `arguments`, `syntax`, `help`, `nearly`: the words of a command line;
 //! - `stamps`: the time that a save is to carry; `calendar`: dates;
 //! - `mapping`, `lock`, `clock`, `screen`, `zone`: what is asked of the system;
 //! - `progress`: how far a long command is;
 //! - `failure`: what can go wrong, in words and as an exit status; `advice`: each refusal
 //!   explained;
-//! - `names`: a file's name as it is shown.
+//! - `names`: a file's name as it is shown, and its folder.
 
 #![deny(unsafe_code)]
 
@@ -58,10 +58,12 @@ mod explain;
 mod failure;
 mod files;
 mod finding;
+mod first_save;
 mod form;
 mod help;
 mod images;
 mod keeping;
+mod kinds;
 mod ledger;
 mod listing;
 #[allow(unsafe_code)]
@@ -99,6 +101,7 @@ mod zone;
 use std::env;
 use std::ffi::OsString;
 use std::io::{self, IsTerminal, Write};
+use std::os::fd::AsFd;
 use std::process::ExitCode;
 
 use failure::Failure;
@@ -109,6 +112,7 @@ fn main() -> ExitCode {
     let words: Vec<OsString> = env::args_os().skip(1).collect();
     let mut around = Surroundings {
         input: &mut io::stdin(),
+        input_length: files::left_in(io::stdin().as_fd()),
         typed: io::stdin().is_terminal(),
         output: &mut io::stdout(),
         screen: Screen::of_output(),

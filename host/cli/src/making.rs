@@ -6,11 +6,11 @@ use std::io::{self, ErrorKind, Write};
 use std::os::unix::ffi::OsStrExt;
 use std::path::{Path, PathBuf};
 
-use crate::failure::{Done, Failure};
-use crate::files::{flush_folder, folder_of, lock_folder, remove, Place};
+use crate::failure::{Done, Failure, THERE_ALREADY};
+use crate::files::{flush_folder, lock_folder, remove, Place};
 use crate::form;
-use crate::names::shown;
-use crate::parts::{is_part, replace, was_left, Part, THERE_ALREADY};
+use crate::names::{folder_of, shown};
+use crate::parts::{is_part, replace, was_left, Part};
 
 /// Makes a disc file whose first sectors are data, for `fill` to write, and the
 /// others blank. `tell` is called if another command has to end first.
@@ -22,6 +22,7 @@ pub fn make_disc(
     fill: impl FnOnce(&Part) -> Done,
 ) -> Done {
     let _lock = lock_folder(folder_of(path), tell)?;
+    is_free(path)?;
     // It would be lent to the new disc, and belongs to another. Roles without their
     // ledger are believed by no command.
     if Place::named(path.to_path_buf()).ledger.exists() {

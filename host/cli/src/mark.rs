@@ -10,6 +10,7 @@
 use station::{LEDGER, SECTOR};
 
 use crate::form::Disc;
+use crate::kinds::DATA;
 use crate::ledger::{recorded, Map};
 
 /// Bytes of a mark.
@@ -17,9 +18,6 @@ const MARK: usize = 8;
 
 /// Bytes of a whole ledger file.
 pub const MARKED: usize = LEDGER + MARK;
-
-/// The kind of data.
-const DATA: u8 = 1;
 
 /// The ledger file of this disc and this ledger.
 pub fn marked(disc: &Disc, ledger: &[u8]) -> Vec<u8> {

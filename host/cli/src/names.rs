@@ -1,5 +1,5 @@
 //! A name as it is shown: no letter of it commands a terminal, ends a line or is
-//! unfit for XML.
+//! unfit for XML. And the folder in it.
 
 use std::fmt::Write;
 use std::os::unix::ffi::OsStrExt;
@@ -45,6 +45,14 @@ fn is_readable(letter: char) -> bool {
     let breaks = matches!(letter, '\u{2028}' | '\u{2029}');
     let forbidden = matches!(letter, '\u{FFFE}' | '\u{FFFF}');
     !(letter.is_control() || turns || breaks || forbidden)
+}
+
+/// The folder that a file is in; it need not exist yet.
+pub fn folder_of(path: &Path) -> &Path {
+    match path.parent() {
+        Some(folder) if folder != Path::new("") => folder,
+        _ => Path::new("."),
+    }
 }
 
 #[cfg(test)]

@@ -12,15 +12,13 @@ use std::os::unix::ffi::OsStrExt;
 use std::os::unix::fs::{FileExt, MetadataExt, OpenOptionsExt, PermissionsExt};
 use std::path::{Path, PathBuf};
 
-use crate::failure::{Done, Failure};
+use crate::failure::{system_words, Done, Failure, THERE_ALREADY};
 use crate::files::{flush_folder, with_suffix, Place};
 use crate::lock;
 use crate::names::shown;
 
 /// What the name of a file in the making ends in.
 pub const SUFFIX: &str = ".station-part";
-
-pub const THERE_ALREADY: &str = "it is there already";
 
 /// A file in the making, without its name yet.
 pub struct Part {
@@ -170,7 +168,7 @@ fn new_part(path: &Path, kept: Option<&Permissions>) -> Result<(PathBuf, File), 
         let file = match options.open(&part) {
             Ok(file) => file,
             Err(error) if error.kind() != ErrorKind::AlreadyExists => {
-                return refused(error.to_string());
+                return Err(Failure::unwritable(path, error));
             }
             Err(_) if remove_left(&part) => continue,
             Err(_) => {
@@ -184,7 +182,7 @@ fn new_part(path: &Path, kept: Option<&Permissions>) -> Result<(PathBuf, File), 
             Ok(false) => continue,
             Err(error) => {
                 gone(&part);
-                return refused(format!("no lock: {error}"));
+                return refused(format!("no lock: {}", system_words(&error)));
             }
         }
     }

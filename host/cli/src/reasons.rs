@@ -4,30 +4,32 @@
 use station::{Refusal, LIMIT, SECTOR};
 
 use crate::failure::Failure;
-use crate::form::counted;
+use crate::first_save::no_save;
+use crate::form::{bytes, counted, number};
+use crate::kinds::BLANK;
 use crate::ledger::{in_words, recorded, Map};
 use crate::names::shown;
 use crate::room::Room;
 use crate::runs;
 use crate::saves::{each_save, newest};
 use crate::session::{LedgerFile, Session};
+use crate::unsaved::Unsaved;
 
 /// What was asked of the core.
 pub enum Asked<'a> {
-    Begin,
-    Mount,
+    /// Of the disc as a whole: to begin it, to mount it, to close its packet, to look back.
+    WholeDisc,
     /// As number `v`, a block of so many bytes.
     Write {
         v: u32,
         bytes: usize,
     },
-    /// As number `v`, a run of so many blocks.
+    /// As number `v`, a run of this length.
     Store {
         v: u32,
-        blocks: usize,
+        blocks: Blocks,
     },
     Release(u32),
-    Close,
     /// With the time that was typed, or with none.
     Commit(Option<&'a str>),
     /// With this partition start.
@@ -37,8 +39,23 @@ pub enum Asked<'a> {
         v: u32,
         offset: u64,
     },
-    LookBack,
     Time(u32),
+}
+
+/// How many blocks a run has.
+#[derive(Clone, Copy)]
+pub enum Blocks {
+    Exactly(usize),
+    /// Of a run that comes as a stream, nobody has seen the end yet.
+    AtLeast(usize),
+}
+
+impl Blocks {
+    pub fn count(self) -> usize {
+        match self {
+            Blocks::Exactly(count) | Blocks::AtLeast(count) => count,
+        }
+    }
 }
 
 /// Sectors of a save, and of a closing: "an Anchor Volume Descriptor Pointer, 255 zero
@@ -74,13 +91,9 @@ impl Why<'_> {
             Refusal::LentLength => self.block_length(),
             Refusal::DiscUnsound => self.unsound(),
             Refusal::LedgerUnfit => self.unfit(),
-            Refusal::ReadOnly => format!(
-                "{disc} shows the save at block {} since a look-back, and is only looked at. \
-                 Mount it to record again.",
-                self.map.table
-            ),
+            Refusal::ReadOnly => self.only_looked_at(),
             Refusal::VatExists => self.has_a_save(),
-            Refusal::NoVat => self.no_save(),
+            Refusal::NoVat => no_save(self.session),
             Refusal::ChainBroken | Refusal::ChainEnded => self.too_far_back(),
             Refusal::NotInUse => self.not_in_use(),
             Refusal::Unreadable => self.unreadable(),
@@ -113,13 +126,13 @@ impl Why<'_> {
 
     fn block_length(&self) -> String {
         match self.asked {
-            Asked::Write { bytes, .. } if *bytes > SECTOR => format!(
+            Asked::Write { bytes: length, .. } if *length > SECTOR => format!(
                 "This block has more than {SECTOR} bytes, and a block has {SECTOR}; store takes a \
                  run of any length."
             ),
-            Asked::Write { bytes, .. } => format!(
+            Asked::Write { bytes: length, .. } => format!(
                 "This block has {}; a block has {SECTOR} (--pad fills up a shorter one).",
-                counted(*bytes, "byte")
+                bytes(*length)
             ),
             _ => "What was given has another length than the core takes.".into(),
         }
@@ -129,7 +142,7 @@ impl Why<'_> {
     fn unsound(&self) -> String {
         let (_, kinds) = self.session.disc.lent();
         let blank = station::recorded(kinds);
-        let behind = kinds[blank..].iter().position(|kind| *kind != 0);
+        let behind = kinds[blank..].iter().position(|kind| *kind != BLANK);
         let behind = blank + behind.unwrap_or_default();
         let disc = &self.disc;
         format!(
@@ -141,7 +154,8 @@ impl Why<'_> {
     fn unfit(&self) -> String {
         let disc = &self.disc;
         let (_, kinds) = self.session.disc.lent();
-        let (on_disc, known) = (station::recorded(kinds), recorded(&self.session.ledger));
+        let on_disc = station::recorded(kinds);
+        let known = number(recorded(&self.session.ledger));
         match self.session.ledger_file {
             LedgerFile::Missing => {
                 format!("{disc} has no ledger: mount it, or begin it if it has no save yet.")
@@ -159,6 +173,20 @@ impl Why<'_> {
         }
     }
 
+    /// A mount ends the look back, and opens no closed disc.
+    fn only_looked_at(&self) -> String {
+        let (disc, table) = (&self.disc, self.map.table);
+        let (image, kinds) = self.session.disc.lent();
+        let shows = format!("{disc} shows the save at block {table} since a look-back, and is");
+        match station::is_closed(image, kinds) {
+            Ok(true) => format!(
+                "{shows} closed: it can only be read. Mount it to see its newest save; take \
+                 another disc to record on."
+            ),
+            _ => format!("{shows} only looked at. Mount it to record again."),
+        }
+    }
+
     fn has_a_save(&self) -> String {
         let disc = &self.disc;
         match newest(&self.session.disc) {
@@ -167,18 +195,6 @@ impl Why<'_> {
                 save.table
             ),
             None => format!("{disc} has a save already: mount it."),
-        }
-    }
-
-    fn no_save(&self) -> String {
-        let disc = &self.disc;
-        match self.session.disc.used() {
-            0 => format!("{disc} is blank: begin it."),
-            used => format!(
-                "No finished save is found among the {} of {disc}. If the power failed before the \
-                 first save, begin it with --anyway; leave another deck's disc as it is.",
-                counted(used, "recorded sector")
-            ),
         }
     }
 
@@ -196,8 +212,8 @@ impl Why<'_> {
             ),
             _ if saves.len() == 1 => "There is 1 save: it is 0 back.".into(),
             _ => format!(
-                "There are {} saves: the oldest is {oldest} back.",
-                saves.len()
+                "There are {}: the oldest is {oldest} back.",
+                counted(saves.len(), "save")
             ),
         }
     }
@@ -246,14 +262,21 @@ impl Why<'_> {
         let (_, kinds) = self.session.disc.lent();
         let room = Room::of(kinds, self.map.packet_open);
         let (call, own, left) = match self.asked {
-            Asked::Store { blocks, .. } => ("store", blocks + 1, room.left),
+            Asked::Store { blocks, .. } => ("store", blocks.count() + 1, room.left),
             Asked::Commit(_) => ("commit", TABLE, 0),
             Asked::CloseSession(_) => ("closing", CLOSING, 0),
             _ => ("write", 1, room.left),
         };
         let blank = counted(room.blank, "sector");
         let verb = if room.blank == 1 { "is" } else { "are" };
-        let takes = room.links + own;
+        let least = match self.asked {
+            Asked::Store {
+                blocks: Blocks::AtLeast(_),
+                ..
+            } => "at least ",
+            _ => "",
+        };
+        let takes = number(room.links + own);
         let links = if room.links == 0 {
             ""
         } else {
@@ -264,8 +287,22 @@ impl Why<'_> {
             left if room.links == 0 => format!(" and must leave {left}"),
             left => format!(", and must leave {left}"),
         };
-        let todo = what_is_left(&room);
-        format!("{blank} {verb} blank; this {call} takes {takes}{links}{must}. {todo}")
+        let todo = self.what_is_left(&room);
+        format!("{blank} {verb} blank; this {call} takes {least}{takes}{links}{must}. {todo}")
+    }
+
+    /// What is left to do where a call has no room.
+    fn what_is_left(&self, room: &Room) -> &'static str {
+        let has_room = |sectors| room.blank >= room.links + sectors;
+        let waits = !Unsaved::of(&self.session.disc, &self.map).is_empty();
+        match (waits, has_room(CLOSING), has_room(TABLE)) {
+            (true, true, _) => "Commit what is written, or close the disc, and take another one.",
+            (true, _, true) => "Commit what is written, and take another disc.",
+            (false, true, _) => "Nothing waits to be saved: close the disc, or take another one.",
+            (false, _, true) => "Nothing waits to be saved: take another disc.",
+            (_, _, false) if self.map.last_table().is_none() => "Take another disc.",
+            (_, _, false) => "Take another disc: the last finished save stays on this one.",
+        }
     }
 
     fn would_be_a_save(&self) -> String {
@@ -304,7 +341,7 @@ impl Why<'_> {
             Asked::CloseSession(start) => *start,
             _ => 0,
         };
-        format!("No partition starts above block 400000, and --start says {start}.")
+        format!("No partition starts above block 400,000, and --start says {start}.")
     }
 
     fn no_run(&self) -> String {
@@ -328,19 +365,7 @@ impl Why<'_> {
         };
         format!(
             "The run has {}, and --offset {offset} is behind its end.",
-            counted(length.unwrap_or_default() as usize, "byte")
+            bytes(length.unwrap_or_default() as usize)
         )
-    }
-}
-
-/// What is left to do where a call has no room.
-fn what_is_left(room: &Room) -> &'static str {
-    let has_room = |sectors| room.blank >= room.links + sectors;
-    if has_room(CLOSING) {
-        "Commit what is written, or close the disc, and take another one."
-    } else if has_room(TABLE) {
-        "Commit what is written, and take another disc."
-    } else {
-        "Take another disc: the last finished save stays on this one."
     }
 }

@@ -9,11 +9,9 @@
 
 use station::Role;
 
+use crate::kinds::{BLANK, DATA, LINK, UNREADABLE};
 use crate::ledger::recorded;
 use crate::mark::MARKED;
-
-/// The kind of data.
-const DATA: u8 = 1;
 
 /// The roles in a file, if they are those of this ledger file and these kinds.
 pub fn known<'a>(file: &'a [u8], ledger: &[u8], kinds: &[u8]) -> Option<&'a [u8]> {
@@ -31,9 +29,9 @@ pub fn known<'a>(file: &'a [u8], ledger: &[u8], kinds: &[u8]) -> Option<&'a [u8]
 /// "The kind decides the last three."
 fn agree(role: u8, kind: u8) -> bool {
     Role::try_from(role).is_ok_and(|role| match role {
-        Role::Blank => kind == 0,
-        Role::Link => kind == 2,
-        Role::Unreadable => kind == 3,
+        Role::Blank => kind == BLANK,
+        Role::Link => kind == LINK,
+        Role::Unreadable => kind == UNREADABLE,
         _ => kind == DATA,
     })
 }

@@ -3,10 +3,8 @@
 use station::{Refusal, Role, LEDGER, SECTOR};
 
 use crate::form::Disc;
+use crate::kinds::{DATA, LINK};
 use crate::ledger::Map;
-
-const DATA: u8 = 1;
-const LINK: u8 = 2;
 
 /// Where counting back came to.
 pub struct Counted {

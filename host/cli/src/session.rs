@@ -8,11 +8,12 @@ use station::LEDGER;
 
 use crate::disk::{Disk, Files, Loaded};
 use crate::failure::{Done, Failure};
-use crate::files::{folder_of, lock, lock_folder, open, read_at_most, unlock, Place};
+use crate::files::{lock, lock_folder, open, read_at_most, unlock, Place};
 use crate::form::Disc;
 use crate::keeping::{self, Recording, Roles};
 use crate::ledger::{recorded, Map};
 use crate::mark::{belonging, marked, MARKED};
+use crate::names::folder_of;
 use crate::parts::clear_left;
 use crate::progress::Progress;
 use crate::roles;
@@ -151,6 +152,18 @@ impl Session {
     /// left, whatever this command has done since.
     pub fn kept_map(&self) -> Option<Map> {
         self.kept.as_ref().map(|kept| Map::of(kept))
+    }
+
+    /// What is known of the ledger file, and what it holds if it belongs to this disc: also
+    /// for what is said by a command that only looks, and has not read it.
+    pub fn ledger_beside(&self) -> (LedgerFile, Option<Vec<u8>>) {
+        match self.role_file {
+            RoleFile::Own => {
+                let read = kept_ledger(&self.place.ledger, &self.disc);
+                read.unwrap_or((LedgerFile::Missing, None))
+            }
+            _ => (self.ledger_file, self.kept.clone()),
+        }
     }
 
     /// Whether the ledger file belongs to the disc as it is: a commit is then not

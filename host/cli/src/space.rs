@@ -7,7 +7,8 @@ use station::{Refusal, Role};
 use crate::arguments::Arguments;
 use crate::drawing::{self, Count, Plan, Save};
 use crate::failure::{Done, Failure};
-use crate::form::counted;
+use crate::first_save::no_save;
+use crate::form::{counted, number};
 use crate::ledger::Map;
 use crate::looking;
 use crate::making::make;
@@ -76,10 +77,12 @@ fn draw_into(file: &Path, plan: &Plan, around: &mut Surroundings) -> Done {
 /// The disc with its roles, if these are known.
 fn open(given: &Arguments, around: &mut Surroundings) -> Result<Session, Failure> {
     let session = looking::open(given, around)?;
-    match session.knows_roles() {
-        true => Ok(session),
-        false => Err(Failure::RolesUnknown(given.path(0).to_path_buf())),
+    if session.knows_roles() {
+        return Ok(session);
     }
+    let saves = saves(&session)?;
+    let todo = saves.is_empty().then(|| no_save(&session));
+    Err(Failure::RolesUnknown(given.path(0).to_path_buf(), todo))
 }
 
 /// What the numbers of the ledger's map lead to.
@@ -95,6 +98,7 @@ fn in_words(roles: &[u8], in_use: &InUse) -> String {
     let line = |role: Role| {
         let count = space.count(role);
         let share = drawing::share(count, space.sectors());
+        let count = number(count);
         format!("{role:16} {count:>8} {share:>9}\n")
     };
     let lines: String = Role::ALL.map(line).concat();
@@ -124,6 +128,6 @@ fn saves(session: &Session) -> Result<Vec<Save>, Failure> {
     });
     match told {
         Ok(_) | Err(Refusal::NoVat) => Ok(saves),
-        Err(refusal) => Err(refused(refusal, &Asked::Mount, session)),
+        Err(refusal) => Err(refused(refusal, &Asked::WholeDisc, session)),
     }
 }

@@ -6,7 +6,7 @@ use station::{Refusal, SECTOR};
 use crate::arguments::Arguments;
 use crate::closing;
 use crate::failure::{Done, Failure};
-use crate::form::counted;
+use crate::form::{bytes, counted, number};
 use crate::ledger::{in_words, recorded, Map};
 use crate::reasons::{refused, Asked};
 use crate::room::Room;
@@ -47,7 +47,7 @@ fn fits(session: &Session) -> Result<bool, Failure> {
     match station::read(image, kinds, &session.ledger, u32::MAX, &mut [0; SECTOR]) {
         Err(Refusal::LedgerUnfit) => Ok(false),
         Ok(()) | Err(Refusal::NotInUse) => Ok(true),
-        Err(refusal) => Err(refused(refusal, &Asked::Mount, session)),
+        Err(refusal) => Err(refused(refusal, &Asked::WholeDisc, session)),
     }
 }
 
@@ -111,9 +111,9 @@ fn room(session: &Session, shown: Option<&Map>) -> String {
     }
     let packet_open = shown.is_some_and(|map| map.packet_open);
     let writes = Room::of(kinds, packet_open).writes();
-    let bytes = writes.saturating_sub(1) * SECTOR;
+    let run = bytes(writes.saturating_sub(1) * SECTOR);
     let all = counted(kinds.len(), "sector");
-    let recorded = station::recorded(kinds);
+    let recorded = number(station::recorded(kinds));
     let writes = counted(writes, "more block");
-    format!("{recorded} of {all} recorded; room for {writes}, or for a run of {bytes} bytes\n")
+    format!("{recorded} of {all} recorded; room for {writes}, or for a run of {run}\n")
 }

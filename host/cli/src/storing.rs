@@ -10,10 +10,10 @@ use station::{Extent, Refusal, SECTOR};
 use crate::arguments::Arguments;
 use crate::failure::{Done, Failure};
 use crate::files::not_whole;
-use crate::form::counted;
+use crate::form::{bytes, counted};
 use crate::names::shown;
 use crate::progress::Progress;
-use crate::reasons::{refused, Asked};
+use crate::reasons::{refused, Asked, Blocks};
 use crate::session::{Lent, Session};
 use crate::streaming::{buffered, put_aside, Run};
 use crate::surroundings::{ask_for, say_aside, Surroundings};
@@ -27,17 +27,20 @@ pub struct Storing {
     name: PathBuf,
     bytes: Box<dyn Read>,
     length: usize,
+    /// Whether the run ends there. Of a stream that the disc has no room for, the end is
+    /// not read.
+    ends: bool,
 }
 
 impl Storing {
     /// A file is read while the disc is locked, piece by piece. A stream is read
     /// before: it may come slowly, and other commands may use the disc meanwhile.
     pub fn of(given: &Arguments, around: &mut Surroundings) -> Result<Storing, Failure> {
-        let v = given.number(1)?;
+        let v = given.number_on_disc(1)?;
         let from = given.file("--from");
         let name = from.unwrap_or(Path::new("standard input"));
-        let (bytes, length) = match from.map(file_of_known_length) {
-            Some(Ok(Some(run))) => run,
+        let ((bytes, length), ends) = match from.map(file_of_known_length) {
+            Some(Ok(Some(run))) => (run, true),
             Some(Err(error)) => return Err(Failure::unreadable(name, error)),
             _ => streamed(given, v, around)?,
         };
@@ -49,6 +52,7 @@ impl Storing {
                 name,
                 bytes,
                 length,
+                ends,
             }),
         }
     }
@@ -58,9 +62,17 @@ impl Storing {
         self.length.div_ceil(SECTOR)
     }
 
+    /// The same, as far as it is known.
+    fn known_blocks(&self) -> Blocks {
+        match self.ends {
+            true => Blocks::Exactly(self.blocks()),
+            false => Blocks::AtLeast(self.blocks()),
+        }
+    }
+
     /// Whether the run can be recorded, before any of a long file is read.
     pub fn admit(&self, session: &mut Session) -> Done {
-        admit(session, self.v, self.blocks())
+        admit(session, self.v, self.known_blocks())
     }
 
     /// The word before a long run, for somebody who waits.
@@ -98,7 +110,7 @@ impl Storing {
     }
 
     fn refused(&self, refusal: Refusal, session: &mut Session) -> Failure {
-        store_refused(refusal, self.v, self.blocks(), session)
+        store_refused(refusal, self.v, self.known_blocks(), session)
     }
 
     /// The next block of the run, whose number this is; behind its end zeros.
@@ -118,13 +130,13 @@ impl Storing {
 
     /// How long the run is, in words.
     pub fn told(&self) -> String {
-        let bytes = counted(self.length, "byte");
+        let bytes = bytes(self.length);
         format!("{bytes} in {}", counted(self.blocks(), "block"))
     }
 }
 
 /// Told of the disc as it was before the store.
-fn store_refused(refusal: Refusal, v: u32, blocks: usize, session: &mut Session) -> Failure {
+fn store_refused(refusal: Refusal, v: u32, blocks: Blocks, session: &mut Session) -> Failure {
     session.take_back();
     refused(refusal, &Asked::Store { v, blocks }, session)
 }
@@ -133,10 +145,11 @@ fn store_refused(refusal: Refusal, v: u32, blocks: usize, session: &mut Session)
 /// a block of zeros on a disc that is shorter by the run: where that one has room, so
 /// has the entry behind the run. The block is then taken back. The calls themselves have
 /// the last word: a disc that has 1,000 sectors only with the run keeps more room free.
-fn admit(session: &mut Session, v: u32, blocks: usize) -> Done {
+fn admit(session: &mut Session, v: u32, blocks: Blocks) -> Done {
     let used = session.disc.used();
     let (image, kinds) = session.disc.lent_to_record();
-    let sectors = kinds.len().saturating_sub(blocks).max(used).max(1);
+    let sectors = kinds.len().saturating_sub(blocks.count());
+    let sectors = sectors.max(used).max(1);
     let (image, kinds) = (&mut image[..sectors * SECTOR], &mut kinds[..sectors]);
     let (roles, ledger) = (&mut vec![0; sectors], &mut session.ledger.clone());
     let written = station::write(image, kinds, roles, ledger, v, &[0; SECTOR]);
@@ -154,28 +167,36 @@ fn file_of_known_length(name: &Path) -> io::Result<Option<Run>> {
     }
 }
 
-/// The run of a stream, of which one byte more than the file of the disc has says that
-/// it does not fit. Nobody is to type a run, nor wait for one, whose number the disc
-/// refuses.
-fn streamed(given: &Arguments, v: u32, around: &mut Surroundings) -> Result<Run, Failure> {
+/// The run of a stream, and whether it ends there: one byte more than the file of the
+/// disc has says that it does not fit. Nobody is to type a run, nor wait for one, that
+/// the disc refuses by what is known before.
+fn streamed(given: &Arguments, v: u32, around: &mut Surroundings) -> Result<(Run, bool), Failure> {
+    let from = given.file("--from");
+    let known = around.input_length.filter(|_| from.is_none());
+    let blocks = match known {
+        Some(length) => Blocks::Exactly(length.div_ceil(SECTOR)),
+        None => Blocks::AtLeast(1),
+    };
     let mut session = Session::open(given.path(0), Lent::Kept, around)?;
-    admit(&mut session, v, 1)?;
+    admit(&mut session, v, blocks)?;
     let most = session.disc.length() as usize + 1;
     let place = session.place.clone();
     drop(session);
     let mut progress = Progress::of(None, around.watched);
-    match given.file("--from") {
+    let run = match from {
         Some(name) => {
             let opened = File::open(name);
             let mut file = opened.map_err(|error| Failure::unreadable(name, error))?;
-            put_aside(&mut file, name, most, &place, &mut progress)
+            put_aside(&mut file, name, most, &place, &mut progress)?
         }
         None => {
             ask_for("the run", around)?;
             let name = Path::new("standard input");
-            put_aside(around.input, name, most, &place, &mut progress)
+            put_aside(around.input, name, most, &place, &mut progress)?
         }
-    }
+    };
+    let ends = run.1 < most;
+    Ok((run, ends))
 }
 
 #[cfg(test)]
@@ -194,10 +215,12 @@ mod tests {
             name: "lap.bin".into(),
             bytes: Box::new(io::empty()),
             length,
+            ends: true,
         };
         let mut aside = Vec::new();
         let mut around = Surroundings {
             input: &mut io::empty(),
+            input_length: None,
             typed: false,
             output: &mut io::sink(),
             screen: Screen::PLAIN,
@@ -212,7 +235,7 @@ mod tests {
     #[test]
     fn the_word_before_a_long_run() {
         let long = LONG * SECTOR;
-        let told = "station: storing lap.bin, 33554432 bytes in 16384 blocks\n";
+        let told = "station: storing lap.bin, 33554432 bytes in 16,384 blocks\n";
         assert_eq!(announced(long, true), told);
         assert_eq!(announced(long, false), "");
         assert_eq!(announced(long - SECTOR, true), "");

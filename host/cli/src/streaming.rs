@@ -6,7 +6,8 @@ use std::io::{self, BufReader, Cursor, Read, Seek, Write};
 use std::path::Path;
 
 use crate::failure::Failure;
-use crate::files::{folder_of, read_at_most, Place};
+use crate::files::{read_at_most, Place};
+use crate::names::folder_of;
 use crate::parts::Part;
 use crate::progress::Progress;
 

@@ -12,6 +12,8 @@ use crate::screen::Screen;
 /// Of the terminal and the computer; the demo has its own input and output.
 pub struct Surroundings<'a> {
     pub input: &'a mut dyn Read,
+    /// How many bytes it has, where it is a file that tells so.
+    pub input_length: Option<usize>,
     /// Whether the input is typed on a keyboard.
     pub typed: bool,
     pub output: &'a mut dyn Write,

@@ -14,7 +14,7 @@ pub struct Syntax {
 
 /// Whether an operand of this name is a number.
 pub fn is_number(operand: &str) -> bool {
-    ["SECTORS", "V", "K", "J"].contains(&operand)
+    ["SECTORS", "V", "K", "J", "N"].contains(&operand)
 }
 
 /// What may follow an option.

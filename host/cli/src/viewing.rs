@@ -14,7 +14,7 @@ use crate::session::Session;
 use crate::surroundings::{say, Surroundings};
 
 pub fn read(given: &Arguments, around: &mut Surroundings) -> Done {
-    let v = given.number(1)?;
+    let v = given.number_on_disc(1)?;
     let session = looking::open(given, around)?;
     let to = destination(given, &session)?;
     let mut block = [0; SECTOR];
@@ -32,7 +32,7 @@ pub fn read(given: &Arguments, around: &mut Surroundings) -> Done {
 /// The files are free for the next command before the bytes go out: their reader may
 /// take its time. What is recorded stays as it is meanwhile.
 pub fn view(given: &Arguments, around: &mut Surroundings) -> Done {
-    let v = given.number(1)?;
+    let v = given.number_on_disc(1)?;
     let offset = given.option_long("--offset")?.unwrap_or(0);
     let length = given.option_long("--length")?.unwrap_or(u64::MAX);
     let session = looking::open(given, around)?;

@@ -24,7 +24,7 @@ impl Writing {
     /// Reads the block. One byte too many says that it is longer, and the core
     /// then answers 2 as it does for one that is shorter.
     pub fn of(given: &Arguments, around: &mut Surroundings) -> Result<Writing, Failure> {
-        let v = given.number(1)?;
+        let v = given.number_on_disc(1)?;
         // Nobody is to type a block for a disc that is not there.
         let disc = given.path(0);
         fs::metadata(disc).map_err(|error| Failure::unreadable(disc, error))?;

@@ -248,7 +248,7 @@ fn a_closing_cut_after_its_last_sector() {
 fn too_many_sectors_for_a_cut() {
     let folder = Folder::to_be_closed(300);
     let fault = folder.fails(&format!("cut 258 {CLOSE_SESSION}"), 64);
-    let most = "J is at most 257, the sectors that this close-session records";
+    let most = "J is at most 257: this close-session records 257 sectors";
     assert!(fault.contains(most), "{fault}");
     let fault = folder.fails(&format!("cut 257 --torn {CLOSE_SESSION}"), 64);
     assert!(fault.contains("with --torn J is below 257"), "{fault}");

@@ -27,6 +27,13 @@ fn new_overwrites_nothing() {
         told,
         "station: run.disc cannot be written: it is there already\n"
     );
+    folder.done("new begun.disc 31");
+    folder.done("begin begun.disc");
+    let told = folder.fails("new begun.disc 31", 73);
+    assert_eq!(
+        told,
+        "station: begun.disc cannot be written: it is there already\n"
+    );
     folder.put("other.disc.ledger", b"another disc's");
     let told = folder.fails("new other.disc 31", 73);
     assert!(told.contains("its ledger is there already"), "{told}");

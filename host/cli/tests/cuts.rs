@@ -97,6 +97,24 @@ fn before_the_first_save() {
     assert_eq!(folder.write(0, "run A"), "block 8\n");
 }
 
+/// Of a write in an open packet, and of a store.
+#[test]
+fn how_many_sectors_are_told() {
+    for (line, told) in [
+        ("cut 0 write run.disc 0 --pad", "cut after 0 of 1 sector"),
+        ("cut 1 write run.disc 0 --pad", "cut after 1 of 1 sector"),
+        ("cut 1 store run.disc 0", "cut after 1 of 2 sectors"),
+    ] {
+        let folder = Folder::begun(31);
+        let answer = folder.done_with(line, b"run A");
+        assert_eq!(answer, format!("{told}, ledger lost\n").as_bytes());
+    }
+    let folder = Folder::begun(3000);
+    folder.put("long", &[7; 1499 * SECTOR]);
+    let told = folder.done("cut 1200 store run.disc 0 --from long");
+    assert_eq!(told, "cut after 1,200 of 1,500 sectors, ledger lost\n");
+}
+
 /// A command that would be refused is refused, and too many sectors are wrong.
 #[test]
 fn what_cannot_be_cut() {
@@ -105,11 +123,12 @@ fn what_cannot_be_cut() {
     folder.fails_with("cut 0 write run.disc 0", b"run", 2);
     let told = folder.fails("cut 2 commit run.disc", 64);
     assert!(
-        told.contains("J is at most 1, the sectors that this commit records"),
+        told.contains("J is at most 1: this commit records 1 sector\n"),
         "{told}"
     );
     let told = folder.fails("cut 1 --torn commit run.disc", 64);
-    assert!(told.contains("with --torn J is below 1"), "{told}");
+    let below = "with --torn J is below 1: this commit records 1 sector\n";
+    assert!(told.contains(below), "{told}");
     let told = folder.fails("cut 0 mount run.disc", 64);
     assert!(
         told.contains("only write, store, commit and close-session can be cut, not mount"),

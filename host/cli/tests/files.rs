@@ -94,13 +94,49 @@ fn files_that_are_missing_or_no_files() {
         let told = folder.fails(&format!("{line} --from nothing"), 66);
         assert_eq!(told, "station: there is no file or folder nothing\n");
     }
-    let told = folder.fails("store run.disc 0 --from .", 66);
-    assert!(told.starts_with("station: . cannot be read: "), "{told}");
     folder.fails("read run.disc 0 --to nowhere/shown", 10);
+}
+
+/// In the program's own words, and without the system's number for it.
+#[test]
+fn why_a_file_cannot_be_read_or_written() {
+    let folder = Folder::begun(31);
     folder.write(0, "run A");
-    assert!(folder
-        .fails("read run.disc 0 --to nowhere/shown", 73)
-        .contains("nowhere/shown"));
+    fs::create_dir(folder.path("desk")).expect("a folder");
+    for line in ["write run.disc 0", "store run.disc 0"] {
+        let told = folder.fails(&format!("{line} --from desk"), 66);
+        assert_eq!(told, "station: desk cannot be read: it is a folder\n");
+        let told = folder.fails(&format!("{line} --from run.disc/lap"), 66);
+        assert_eq!(told, "station: there is no file or folder run.disc/lap\n");
+    }
+    for (to, fault) in [
+        ("desk", "it is a folder"),
+        ("nowhere/shown", "there is no file or folder nowhere"),
+        ("run.disc/shown", "run.disc is no folder"),
+    ] {
+        let told = folder.fails(&format!("read run.disc 0 --to {to}"), 73);
+        assert_eq!(told, format!("station: {to} cannot be written: {fault}\n"));
+    }
+    for (line, to, fault) in [
+        (
+            "export run.disc",
+            "/proc/run.img",
+            "it is not there, and cannot be made",
+        ),
+        ("demo --keep", "run.disc", "it is there already"),
+    ] {
+        let told = folder.fails(&format!("{line} {to}"), 73);
+        assert_eq!(told, format!("station: {to} cannot be written: {fault}\n"));
+    }
+    let told = folder.run_without_privileges("export run.disc run.img");
+    let fault = "it or its folder is write-protected";
+    assert_eq!(told.status, 73);
+    assert_eq!(
+        told.err,
+        format!("station: run.img cannot be written: {fault}\n")
+    );
+    let told = folder.shell("station space run.disc > /dev/full");
+    assert_eq!(told, "station: no answer can be told: its disk is full\n");
 }
 
 #[test]

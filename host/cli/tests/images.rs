@@ -147,7 +147,7 @@ import deck.img deck.img --start 0 | 73 | deck.img cannot be written: it is ther
 import deck.img lost.disc --start 0 | 73 | lost.disc cannot be written: its ledger is there already
 export run.disc deck.img | 73 | deck.img cannot be written: it is there already
 export run.disc desk | 73 | desk cannot be written: it is there already
-export run.disc nowhere/run.img | 73 | nowhere/run.img cannot be written: No such file or directory (os error 2)
+export run.disc nowhere/run.img | 73 | nowhere/run.img cannot be written: there is no file or folder nowhere
 export run.disc ./run.disc | 64 | IMAGE names the disc, its ledger or its roles
 export odd.disc desk/../odd.disc.ledger | 64 | IMAGE names the disc, its ledger or its roles
 export odd.disc odd.disc.roles | 64 | IMAGE names the disc, its ledger or its roles";
@@ -183,11 +183,11 @@ fn the_largest_image() {
         "{small}; station import deck.img deck.disc --start 257"
     ));
     assert!(
-        told.starts_with("360000 sectors imported, 0 blank\n"),
+        told.starts_with("360,000 sectors imported, 0 blank\n"),
         "{told}"
     );
     let told = folder.done("export deck.disc back.img");
-    assert_eq!(told, "360000 sectors exported\n");
+    assert_eq!(told, "360,000 sectors exported\n");
     for (name, head) in [("deck.disc", 9 + 360_000 + 1), ("back.img", 0)] {
         let about = fs::metadata(folder.path(name)).expect(name);
         assert_eq!(about.len(), (head + 360_000 * SECTOR) as u64);
@@ -195,7 +195,7 @@ fn the_largest_image() {
     }
     let told = folder.run("import deck.img x.disc --start 256");
     let fault = "station: deck.img is no raw image of a disc: \
-                 it has 360001 sectors from block 256 on, and a disc has 360000 at most\n";
+                 it has 360,001 sectors from block 256 on, and a disc has 360,000 at most\n";
     assert_eq!((told.status, told.err.as_str()), (65, fault));
 }
 

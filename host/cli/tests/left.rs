@@ -85,7 +85,10 @@ fn a_stream_that_waits() {
     }
     for when in 1..4 {
         let told = stopped("write", &format!("error=ENOSPC:when={when}"));
-        assert!(told.contains(" cannot be written: No space left"), "{told}");
+        assert!(
+            told.contains(" cannot be written: its disk is full\n"),
+            "{told}"
+        );
         assert!(told.ends_with("\n73\n"), "{told}");
         assert_eq!(folder.names(), names);
     }

@@ -1,31 +1,11 @@
-//! Every refusal that the program can meet: its number as the exit status, on standard
-//! error one line with the values at hand and what to do, and no file changed.
-//!
-//! 1 cannot be met: a disc file with no sectors, too many, or another length is
-//! no disc (exit status 65), and only the listing tells it as 1.
+//! Each refusal of what is asked for: a block, a number, a run or a place in one, a time,
+//! room for a call. And every refusal explained.
 
 mod common;
 
+use common::refusals::{refused, refused_with};
 use common::{disc_file, Folder, CLOSE_SESSION};
 use station::{Refusal, LEDGER, SECTOR};
-
-/// Runs the line, and checks all of the above; gives what is told behind the number.
-fn refused_with(folder: &Folder, line: &str, input: &[u8], number: i32) -> String {
-    let told = folder.fails_with(line, input, number);
-    let start = format!("station: refusal {number}: ");
-    let told = told.strip_prefix(&start);
-    let told = told.unwrap_or_else(|| panic!("{line}: {told:?}"));
-    assert!(told.ends_with(".\n"), "{line}: {told}");
-    assert_eq!(told.lines().count(), 1, "{line}: {told}");
-    for word in ["mode", "FFFFFFFF", " v ", "lent ", "vat"] {
-        assert!(!told.contains(word), "{line}: {told}");
-    }
-    told.trim_end().into()
-}
-
-fn refused(folder: &Folder, line: &str, number: i32) -> String {
-    refused_with(folder, line, b"", number)
-}
 
 const BLOCK: [u8; SECTOR] = [7; SECTOR];
 
@@ -50,176 +30,6 @@ fn number_2_a_block_of_another_length() {
     }
 }
 
-/// A ledger file of another length, or with one byte changed, is no ledger of this disc.
-#[test]
-fn a_damaged_ledger_counts_as_missing() {
-    let folder = Folder::begun(31);
-    folder.done_with("write run.disc 0", &BLOCK);
-    let ledger = folder.bytes("run.disc.ledger");
-    let changed = |place: usize| {
-        let mut changed = ledger.clone();
-        changed[place] ^= 1;
-        changed
-    };
-    let damaged = [
-        Vec::new(),
-        ledger[..ledger.len() - 1].to_vec(),
-        ledger[..LEDGER].to_vec(),
-        [&ledger[..], &[0; 9]].concat(),
-        changed(0),
-        changed(LEDGER - 1),
-        changed(LEDGER),
-    ];
-    for ledger in damaged {
-        folder.put("run.disc.ledger", &ledger);
-        for line in [
-            "release run.disc 0",
-            "commit run.disc",
-            "read run.disc 0",
-            "view run.disc 0",
-            "contents run.disc",
-        ] {
-            let why = refused(&folder, line, 4);
-            assert!(why.starts_with("The ledger beside run.disc was kept for another"));
-        }
-        refused_with(&folder, "store run.disc 0", b"run", 4);
-        refused_with(&folder, "write run.disc 0", &BLOCK, 4);
-    }
-    folder.put("run.disc.ledger", &ledger);
-    folder.done("read run.disc 0");
-}
-
-/// Mount, begin and look back do not read the ledger: a damaged one does not
-/// keep the operator from going on.
-#[test]
-fn a_damaged_ledger_is_made_anew() {
-    let folder = Folder::example();
-    for line in ["mount run.disc", "look-back run.disc 1"] {
-        folder.put("run.disc.ledger", b"half a led");
-        folder.done(line);
-        folder.done("read run.disc 1");
-    }
-}
-
-#[test]
-fn number_3_a_recorded_sector_after_a_blank_one() {
-    let folder = Folder::example();
-    folder.set_kind(20, b'1');
-    for line in ["begin", "mount", "close", "commit", "contents", "status"] {
-        let why = refused(&folder, &format!("{line} run.disc"), 3);
-        let start = "Block 20 is recorded and block 12 before it is blank";
-        assert!(why.starts_with(start), "{why}");
-    }
-    refused(&folder, CLOSE_SESSION, 3);
-    for line in ["release", "read", "view", "look-back", "time"] {
-        refused(&folder, &format!("{line} run.disc 0"), 3);
-    }
-    refused_with(&folder, "write run.disc 0", &BLOCK, 3);
-    refused_with(&folder, "store run.disc 0", b"run", 3);
-}
-
-#[test]
-fn number_4_a_ledger_that_is_missing_or_of_another_disc() {
-    let folder = Folder::example();
-    folder.done("new other.disc 31");
-    folder.put("other.disc.ledger", &folder.bytes("run.disc.ledger"));
-    folder.done("new third.disc 31");
-    for (disc, why) in [
-        (
-            "other.disc",
-            "The ledger beside other.disc was kept for another disc file",
-        ),
-        (
-            "third.disc",
-            "third.disc has no ledger: mount it, or begin it",
-        ),
-    ] {
-        let told = refused(&folder, &format!("commit {disc}"), 4);
-        assert!(told.starts_with(why), "{told}");
-        refused(&folder, &format!("close {disc}"), 4);
-        let closing = CLOSE_SESSION.replace("run.disc", disc);
-        refused(&folder, &closing, 4);
-        refused(&folder, &format!("release {disc} 1"), 4);
-        refused(&folder, &format!("read {disc} 1"), 4);
-        refused(&folder, &format!("view {disc} 1"), 4);
-        refused(&folder, &format!("contents {disc}"), 4);
-        refused_with(&folder, &format!("write {disc} 0"), &BLOCK, 4);
-        refused_with(&folder, &format!("store {disc} 0"), b"run", 4);
-    }
-}
-
-/// What a stopped program leaves: the ledger is this disc's, and behind it.
-#[test]
-fn number_4_a_ledger_that_is_behind_its_disc() {
-    let folder = Folder::example();
-    let ledger = folder.bytes("run.disc.ledger");
-    folder.write(0, "run C");
-    folder.put("run.disc.ledger", &ledger);
-    let why = refused(&folder, "commit run.disc", 4);
-    let start = "run.disc has 13 sectors recorded, and its ledger knows 12, as after a power cut";
-    assert!(why.starts_with(start), "{why}");
-}
-
-#[test]
-fn number_5_recording_while_looking_only() {
-    let folder = Folder::example();
-    folder.done("look-back run.disc 0");
-    for line in [
-        "close run.disc",
-        "commit run.disc",
-        "commit run.disc --now",
-        CLOSE_SESSION,
-        "release run.disc 1",
-    ] {
-        let why = refused(&folder, line, 5);
-        let start = "run.disc shows the save at block 11 since a look-back";
-        assert!(why.starts_with(start) && why.ends_with("Mount it to record again."));
-    }
-    refused_with(&folder, "write run.disc 0", &BLOCK, 5);
-    refused_with(&folder, "store run.disc 500", b"run", 5);
-}
-
-#[test]
-fn numbers_6_and_7_begin_and_mount_at_the_wrong_time() {
-    let folder = Folder::example();
-    let why = refused(&folder, "begin run.disc", 6);
-    assert_eq!(why, "run.disc has a save already, at block 11: mount it.");
-    let folder = Folder::begun(31);
-    for line in ["mount run.disc", "look-back run.disc 0", "time run.disc 0"] {
-        assert_eq!(refused(&folder, line, 7), "run.disc is blank: begin it.");
-    }
-    folder.write(0, "run A");
-    for line in ["mount run.disc", "read run.disc 0 --back 0"] {
-        let why = refused(&folder, line, 7);
-        let start = "No finished save is found among the 1 recorded sector of run.disc.";
-        assert!(why.starts_with(start), "{why}");
-    }
-}
-
-#[test]
-fn numbers_8_and_9_looking_too_far_back() {
-    let folder = Folder::example();
-    for line in ["look-back run.disc", "time run.disc"] {
-        for k in ["3", "4294967295"] {
-            let why = refused(&folder, &format!("{line} {k}"), 9);
-            assert_eq!(why, "There are 3 saves: the oldest is 2 back.");
-        }
-    }
-    folder.set_kind(3, b'3');
-    for line in [
-        "look-back run.disc",
-        "time run.disc",
-        "read run.disc 1 --back",
-    ] {
-        for k in ["1", "7"] {
-            let why = refused(&folder, &format!("{line} {k}"), 8);
-            let start = "Only 1 save can be reached: the oldest is 0 back, at block 11,";
-            assert!(why.starts_with(start), "{why}");
-        }
-    }
-    folder.done("look-back run.disc 0");
-}
-
 #[test]
 fn number_10_a_number_not_in_use() {
     let folder = Folder::example();
@@ -240,21 +50,6 @@ fn number_10_a_number_not_in_use() {
     folder.done("release run.disc 1");
     let why = refused(&folder, "read run.disc 1", 10);
     assert_eq!(why, "Number 1 was released. No number is in use.");
-}
-
-#[test]
-fn number_11_an_unreadable_block() {
-    let folder = Folder::example();
-    for digit in [b'3', b'2'] {
-        folder.set_kind(2, digit);
-        folder.run("mount run.disc");
-        for line in ["read run.disc 1", "view run.disc 1"] {
-            let why = refused(&folder, line, 11);
-            let start = "Block 2, which number 1 names, cannot be read.";
-            assert!(why.starts_with(start), "{why}");
-            assert!(why.contains("an older one with --back"), "{why}");
-        }
-    }
 }
 
 #[test]
@@ -310,7 +105,7 @@ fn number_14_no_room() {
                 Commit what is written, and take another disc.";
     assert_eq!(why, told);
     let why = refused_with(&folder, "store run.disc 1", &BLOCK, 14);
-    let start = "8 sectors are blank; this store takes 2 and must leave 8.";
+    let start = "8 sectors are blank; this store takes at least 2 and must leave 8.";
     assert!(why.starts_with(start), "{why}");
     folder.done("close run.disc");
     let why = refused_with(&folder, "write run.disc 1", &BLOCK, 14);
@@ -353,6 +148,43 @@ fn number_14_what_a_write_leaves() {
     }
 }
 
+/// What is left to do: to save what waits, to close the disc where there is room for it,
+/// and to take another one.
+#[test]
+fn number_14_and_what_waits_to_be_saved() {
+    let folder = Folder::begun(31);
+    let write = || refused_with(&folder, "store run.disc 0", &[7; 31 * SECTOR], 14);
+    let commit = "Commit what is written, and take another disc.";
+    let nothing = "Nothing waits to be saved: take another disc.";
+    assert!(write().ends_with(nothing));
+    folder.write(0, "run A");
+    assert!(write().ends_with(commit));
+    folder.done("commit run.disc");
+    assert!(write().ends_with(nothing));
+    folder.done("release run.disc 0");
+    assert!(write().ends_with(commit));
+    folder.done("mount run.disc");
+    assert!(write().ends_with(nothing));
+
+    let folder = Folder::to_be_closed(300);
+    let write = || refused_with(&folder, "store run.disc 2", &[7; 300 * SECTOR], 14);
+    let commit = "Commit what is written, or close the disc, and take another one.";
+    assert!(write().ends_with(commit));
+    folder.done("commit run.disc");
+    let close = "Nothing waits to be saved: close the disc, or take another one.";
+    assert!(write().ends_with(close));
+
+    // Without a save there is none that stays.
+    let folder = Folder::new();
+    folder.put("run.disc", &disc_file(&[1], &BLOCK));
+    folder.done("begin run.disc --anyway");
+    let why = refused(&folder, "commit run.disc", 14);
+    assert!(
+        why.ends_with("seven of them links. Take another disc."),
+        "{why}"
+    );
+}
+
 /// "Closing needs links + 257 blank sectors, else 14."
 #[test]
 fn number_14_no_room_for_a_closing() {
@@ -365,7 +197,8 @@ fn number_14_no_room_for_a_closing() {
             why.contains("sectors are blank; this closing takes 2"),
             "{why}"
         );
-        assert!(why.ends_with("Commit what is written, and take another disc."));
+        let saved = "Nothing waits to be saved: take another disc.";
+        assert!(why.ends_with(saved), "{why}");
         folder.done("commit run.disc");
         let folder = Folder::to_be_closed(3 + blank);
         folder.done(line);
@@ -415,34 +248,6 @@ fn number_16_a_time_that_there_is_not() {
     assert!(why.starts_with(start), "{why}");
     let why = refused(&folder, "time run.disc 1", 16);
     assert!(why.starts_with("The save 1 back carries no time"), "{why}");
-}
-
-/// "17, write, release, commit, close packet or closing on a closed disc, tested
-/// directly after 5."
-#[test]
-fn number_17_a_closed_disc() {
-    let folder = Folder::closed();
-    for line in [
-        "release run.disc 0",
-        "release run.disc 9",
-        "close run.disc",
-        "commit run.disc",
-        "commit run.disc --at 2026-11-15T14:05+01:00",
-        "commit run.disc --at 2099-02-29T14:05Z",
-        CLOSE_SESSION,
-        "close-session run.disc --main 1,2 --reserve 3,4 --start 400001",
-        "cut 0 commit run.disc",
-        "cut 0 close-session run.disc --main 1,2 --reserve 3,4 --start 5",
-    ] {
-        let why = refused(&folder, line, 17);
-        assert!(why.starts_with("run.disc is closed"), "{why}");
-    }
-    refused_with(&folder, "write run.disc 0", &BLOCK, 17);
-    refused_with(&folder, "write run.disc 500", &BLOCK, 17);
-    refused_with(&folder, "store run.disc 500", b"run", 17);
-    folder.done("look-back run.disc 1");
-    refused(&folder, "commit run.disc", 5);
-    refused(&folder, "begin run.disc", 6);
 }
 
 /// "18, the partition start exceeds 400,000, tested directly after 17."
@@ -518,6 +323,6 @@ fn each_number_is_explained() {
     }
     for number in ["0", "21", "4294967295"] {
         let told = folder.fails(&format!("explain {number}"), 64);
-        assert!(told.contains("numbers from 1 to 20"), "{told}");
+        assert!(told.contains("N is a number from 1 to 20: "), "{told}");
     }
 }

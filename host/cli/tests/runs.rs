@@ -35,7 +35,7 @@ fn runs_of_each_length() {
         (65_536, "65536 bytes in 32 blocks, entry at block 32"),
         (
             3_000_001,
-            "3000001 bytes in 1465 blocks, entry at block 1465",
+            "3000001 bytes in 1,465 blocks, entry at block 1465",
         ),
     ] {
         let folder = Folder::begun(1800);
@@ -198,10 +198,7 @@ fn the_room_for_a_run() {
             let (blank, takes) = (sectors - 1, links + (most / SECTOR + 1) + 1);
             let start = format!("refusal 14: {blank} sectors are blank; this store takes {takes}");
             assert!(told.contains(&start), "{told}");
-            assert!(
-                told.contains(&format!("must leave {left}. Commit")),
-                "{told}"
-            );
+            assert!(told.contains(&format!("must leave {left}. ")), "{told}");
             store(&folder, 0, &run(most));
             assert!(view(&folder, "0") == run(most));
             folder.fails_with("store run.disc 1", b"run B", 14);
@@ -209,6 +206,50 @@ fn the_room_for_a_run() {
             folder.done("commit run.disc");
         }
     }
+}
+
+/// What a store says that it takes: as many as a file has, and at least as many as are known
+/// of a stream, of which no more is read than the disc has room for.
+#[test]
+fn the_room_that_a_stream_needs() {
+    let folder = Folder::begun(60);
+    let takes = |line: &str, count: &str| {
+        let told = folder.shell(line);
+        let blank = "station: refusal 14: 60 sectors are blank; this store takes";
+        let start = format!("{blank} {count} and must leave 8. ");
+        assert!(told.starts_with(&start), "{line}: {told}");
+    };
+    folder.put("long", &run(288 * SECTOR));
+    takes("station store run.disc 0 --from long", "289");
+    takes("station store run.disc 0 < long", "289");
+    takes("station cut 0 store run.disc 0 < long", "289");
+    let rest = "(dd bs=2048 count=1 of=read 2> told; station store run.disc 0) < long";
+    takes(rest, "288");
+    // The disc's file has 60 blocks and 70 bytes.
+    for line in [
+        "cat long | station store run.disc 0",
+        "cat long | station store run.disc 0 --from /dev/stdin",
+        "station store run.disc 0 < /dev/zero",
+        "head -c 122951 long | station store run.disc 0",
+    ] {
+        takes(line, "at least 62");
+    }
+    takes("head -c 122950 long | station store run.disc 0", "62");
+    takes("head -c 106497 long | station store run.disc 0", "54");
+    folder.done_with("store run.disc 0", &run(51 * SECTOR));
+    for (line, count) in [
+        ("station store run.disc 1 < long", "289"),
+        ("head -c 9 long | station store run.disc 1", "at least 2"),
+        ("cat long | station store run.disc 1", "at least 2"),
+    ] {
+        let told = folder.shell(line);
+        let start = format!("station: refusal 14: 8 sectors are blank; this store takes {count} ");
+        assert!(told.starts_with(&start), "{line}: {told}");
+    }
+    folder.done("close run.disc");
+    let told = folder.shell("cat long | station store run.disc 1");
+    let links = "this store takes at least 9, seven of them links, and must leave 8.";
+    assert!(told.contains(links), "{told}");
 }
 
 /// A stream without an end.
@@ -231,7 +272,7 @@ fn a_long_stream_in_little_memory() {
     let told = folder.shell(
         "ulimit -v 120000; head -c 65000001 /dev/zero | tr '\\0' x | station store run.disc 0",
     );
-    let blocks = "31739 blocks, entry at block 31739";
+    let blocks = "31,739 blocks, entry at block 31739";
     assert_eq!(told, format!("run of 65000001 bytes in {blocks}\n"));
     assert_eq!(folder.names(), names);
     let told =

@@ -47,6 +47,32 @@ fn unknown(folder: &Folder) {
     }
 }
 
+/// Nor is there a save to look back at: what is told is what helps.
+fn unknown_without_a_save(folder: &Folder, todo: &str) {
+    for line in ["space run.disc", "map run.disc"] {
+        let told = folder.fails(line, 69);
+        let start = "station: where the space of run.disc went is not known. ";
+        assert!(told.starts_with(start) && told.contains(todo), "{told}");
+        assert!(!told.contains("--back"), "{told}");
+    }
+}
+
+#[test]
+fn not_known_and_no_save() {
+    let folder = Folder::new();
+    folder.done("new run.disc 31");
+    unknown_without_a_save(&folder, "run.disc is blank: begin it.");
+    folder.done("begin run.disc");
+    has(&folder, "");
+    folder.write(0, "run A");
+    fs::remove_file(folder.path("run.disc.roles")).expect("roles");
+    unknown_without_a_save(&folder, "commit saves what is written here: 0.");
+    fs::remove_file(folder.path("run.disc.ledger")).expect("a ledger");
+    unknown_without_a_save(&folder, "begin it with --anyway");
+    folder.done("begin run.disc --anyway");
+    has(&folder, "1");
+}
+
 #[test]
 fn a_line_for_each_role_and_the_answer() {
     let folder = Folder::example();
@@ -239,7 +265,7 @@ fn after_a_power_cut() {
     }
     let folder = Folder::begun(31);
     folder.done_with("cut 0 --torn write run.disc 0 --pad", b"run A");
-    unknown(&folder);
+    unknown_without_a_save(&folder, "begin it with --anyway");
     folder.done("begin run.disc --anyway");
     has(&folder, "5");
 }

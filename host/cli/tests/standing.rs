@@ -62,6 +62,35 @@ fn from_a_blank_disc_to_a_closed_one() {
     assert_eq!(status(&folder), closed);
 }
 
+/// Counts of a thousand and more are told with commas by every command; bytes are not, as
+/// no other program does, nor what can be typed.
+#[test]
+fn large_counts() {
+    let folder = Folder::new();
+    let told = folder.done("new run.disc 1500");
+    assert_eq!(told, "blank disc, 1,500 sectors\n");
+    folder.done("begin run.disc");
+    let blank = "0 of 1,500 sectors recorded; room for 1,236 more blocks, \
+                 or for a run of 2529280 bytes";
+    assert_eq!(status(&folder).last().map(String::as_str), Some(blank));
+    let space = folder.done("space run.disc");
+    let end = "blank               1,500   100.0 %\n\
+               Nothing is recorded: the disc is blank, 1,500 sectors.\n";
+    assert!(space.ends_with(end), "{space}");
+    folder.put("long", &[7; 1235 * SECTOR + 1]);
+    let told = folder.fails("store run.disc 0 --from long", 14);
+    let room = "1,500 sectors are blank; this store takes 1,237 and must leave 264.";
+    assert!(told.contains(room), "{told}");
+    folder.put("long", &[7; 1200 * SECTOR]);
+    let told = folder.done("store run.disc 0 --from long");
+    let stored = "run of 2457600 bytes in 1,200 blocks, entry at block 1200\n";
+    assert_eq!(told, stored);
+    let told = folder.done("export run.disc run.img");
+    assert_eq!(told, "1,201 sectors exported\n");
+    let told = folder.done("import run.img x.disc --start 0 --sectors 3000");
+    assert!(told.starts_with("1,201 sectors imported, 1,799 blank\n"));
+}
+
 /// The room that is told is the room that there is: so many blocks can be written, and no
 /// more; a run of so many bytes can be stored, and no longer one.
 #[test]
@@ -78,7 +107,7 @@ fn the_room_that_is_left() {
         if !packet_open {
             folder.done("close run.disc");
         }
-        let told = status(&folder).pop().expect("a line");
+        let told = status(&folder).pop().expect("a line").replace(',', "");
         let numbers = told.split(|letter: char| !letter.is_ascii_digit());
         let numbers: Vec<usize> = numbers.filter_map(|word| word.parse().ok()).collect();
         let [1, all, blocks, bytes] = numbers[..] else {

@@ -88,8 +88,8 @@ map run.disc --svg | --svg needs a name behind it | map
 --quiet mount run.disc | there is no option --quiet |
 mount --quick run.disc | mount has no option --quick | mount
 commit run.disc -f | commit has no option -f | commit
-read run.disc -1 | V is a number from 0 to 4294967295: -1 is too small | read
-write run.disc -5 --pad | V is a number from 0 to 4294967295: -5 is too small | write
+read run.disc -1 | V is a number from 0 to 457: -1 is too small | read
+write run.disc -5 --pad | V is a number from 0 to 457: -5 is too small | write
 look-back run.disc -99999999999999999999 | K is a number from 0 to 4294967295: -99999999999999999999 is too small | look-back
 new other.disc -5 | SECTORS is a number from 1 to 360000: -5 is too small | new
 cut -1 commit run.disc | J is a number from 0 to 4294967295: -1 is too small | cut
@@ -123,7 +123,7 @@ view run.disc 0 --offset x | --offset is a number from 0 to 18446744073709551615
 view run.disc 0 --offset +1 | --offset is a number from 0 to 18446744073709551615, not '+1' | view
 view run.disc 0 --length 18446744073709551616 | --length is a number from 0 to 18446744073709551615: 18446744073709551616 is too large | view
 view run.disc 0 --from x | view has no option --from | view
-view run.disc 4294967296 | V is a number from 0 to 4294967295: 4294967296 is too large | view
+view run.disc 4294967296 | V is a number from 0 to 457: 4294967296 is too large | view
 look-back run.disc | look-back needs K | look-back
 time run.disc | time needs K | time
 time run.disc 0 --utc | time has no option --utc | time
@@ -196,10 +196,13 @@ const NO_NUMBERS: [(&str, &str); 9] = [
 ];
 
 /// What stands before a number, its name, and its true range.
-const RANGES: [(&str, &str); 11] = [
-    ("write run.disc", "V is a number from 0 to 4294967295"),
-    ("release run.disc", "V is a number from 0 to 4294967295"),
-    ("read run.disc", "V is a number from 0 to 4294967295"),
+const RANGES: [(&str, &str); 14] = [
+    ("write run.disc", "V is a number from 0 to 457"),
+    ("store run.disc", "V is a number from 0 to 457"),
+    ("view run.disc", "V is a number from 0 to 457"),
+    ("explain", "N is a number from 1 to 20"),
+    ("release run.disc", "V is a number from 0 to 457"),
+    ("read run.disc", "V is a number from 0 to 457"),
     ("look-back run.disc", "K is a number from 0 to 4294967295"),
     ("time run.disc", "K is a number from 0 to 4294967295"),
     ("cut", "J is a number from 0 to 4294967295"),
@@ -265,6 +268,8 @@ fn numbers_are_checked() {
             "import deck.img x.disc --start 5",
             "--start is a number from 0 to 4: 5 is too large",
         ),
+        ("explain 0", "N is a number from 1 to 20: 0 is too small"),
+        ("explain 21", "N is a number from 1 to 20: 21 is too large"),
     ] {
         let told = folder.fails(line, 64);
         assert!(told.starts_with(&format!("station: {fault}\n")), "{told}");

@@ -70,6 +70,6 @@ fn for_a_long_run() {
         "{slow} script -qec 'station store run.disc 0 --from pipe' /dev/null; rm pipe"
     ));
     assert!(shown.contains("\r3 MB read\r"), "{shown:?}");
-    let last = "\rrun of 5500000 bytes in 2686 blocks, entry at block 2686\r\n";
+    let last = "\rrun of 5500000 bytes in 2,686 blocks, entry at block 2686\r\n";
     assert!(shown.ends_with(last), "{shown:?}");
 }

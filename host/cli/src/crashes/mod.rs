@@ -143,6 +143,7 @@ impl Desk {
         let input = if stores(line) { &RUN[..] } else { &BLOCK };
         let mut around = Surroundings {
             input: &mut &*input,
+            input_length: None,
             typed: false,
             output: &mut Vec::new(),
             screen: Screen::PLAIN,

@@ -10,8 +10,9 @@ use super::lettering::{escaped, Lettering, INK, QUIET};
 use super::shown::{Count, Shown};
 use super::signs::{strong, swatch, WHITE};
 use super::squares::Squares;
-use super::words::{answer, balanced, name, number, number_of, share, title};
+use super::words::{answer, balanced, name, share, title};
 use super::Plan;
+use crate::form::{counted, number};
 
 const LEFT: f64 = 84.0;
 const RIGHT: f64 = 1596.0;
@@ -62,7 +63,7 @@ pub fn svg(plan: &Plan) -> String {
 
 fn head(out: &mut String, plan: &Plan, answer: &str) {
     TITLE.write(out, LEFT, 130.0, "Where the space went");
-    let disc = format!("{}, {}", name(plan), number_of(plan.roles.len()));
+    let disc = format!("{}, {}", name(plan), counted(plan.roles.len(), "sector"));
     DISC.write(out, RIGHT, 130.0, &disc);
     lines(out, ANSWER, (LEFT, 184.0), 34.0, &balanced(answer, 120));
 }
@@ -133,7 +134,7 @@ fn foot(out: &mut String, group: usize, note: &str) {
         1 => "One cell is one sector.".into(),
         _ => format!(
             "One cell is {}, in the colour of what most of the recorded ones are.",
-            number_of(group)
+            counted(group, "sector")
         ),
     };
     let words = format!(

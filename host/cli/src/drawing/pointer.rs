@@ -6,8 +6,8 @@ use std::ops::Range;
 use station::Role;
 
 use super::shown::{Count, Shown};
-use super::words::number;
 use super::Plan;
+use crate::form::number;
 use crate::ledger::in_words;
 
 /// Neighbours that are told of together.

@@ -5,8 +5,9 @@ use station::Role;
 
 use super::cells::{cells, group, Cell};
 use super::shown::{Count, Shown};
-use super::words::{answer, number, number_of, share, title, wrapped};
+use super::words::{answer, share, title, wrapped};
 use super::{Plan, Save};
+use crate::form::{counted, number};
 
 /// Below this the lines are no shorter.
 const NARROWEST: usize = 40;
@@ -137,7 +138,7 @@ fn cell_in_words(group: usize) -> String {
         _ => format!(
             "One cell is {}: its letter is the commonest of those recorded, a capital \
              if a table is among them, and x if an unreadable sector is.",
-            number_of(group)
+            counted(group, "sector")
         ),
     }
 }

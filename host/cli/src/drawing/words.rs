@@ -5,6 +5,7 @@ use station::Role;
 
 use super::shown::{Count, Shown};
 use super::Plan;
+use crate::form::{counted, number};
 use crate::names::shown;
 
 /// Where the space went, in one sentence: how full the disc is, how much of that is
@@ -15,14 +16,14 @@ pub fn answer(count: &Count) -> String {
     if recorded == 0 {
         return format!(
             "Nothing is recorded: the disc is blank, {}.",
-            number_of(sectors)
+            counted(sectors, "sector")
         );
     }
     let verb = if recorded == 1 { "is" } else { "are" };
     let full = format!(
         "{} of {} {verb} recorded",
         number(recorded),
-        number_of(sectors)
+        counted(sectors, "sector")
     );
     let in_use = in_use(count);
     match (rest(count), count.drawn(Shown::Part)) {
@@ -106,25 +107,6 @@ pub fn name(plan: &Plan) -> String {
     let (head, tail) = letters.split_at(MOST / 2);
     let tail = &tail[tail.len() - (MOST / 2 - 1)..];
     head.iter().chain(&['…']).chain(tail).collect()
-}
-
-/// For example `360,000`.
-pub fn number(count: usize) -> String {
-    let digits = count.to_string();
-    let mut text = String::new();
-    for (place, digit) in digits.chars().enumerate() {
-        if place > 0 && (digits.len() - place) % 3 == 0 {
-            text.push(',');
-        }
-        text.push(digit);
-    }
-    text
-}
-
-/// For example `1 sector`, `360,000 sectors`.
-pub fn number_of(sectors: usize) -> String {
-    let plural = if sectors == 1 { "" } else { "s" };
-    format!("{} sector{plural}", number(sectors))
 }
 
 /// For example `10.3 %`. Some is never told as none, nor a part as the whole.

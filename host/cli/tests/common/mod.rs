@@ -3,6 +3,8 @@
 // Each test file uses its own part of these.
 #![allow(dead_code)]
 
+pub mod refusals;
+
 use std::collections::{BTreeMap, BTreeSet};
 use std::env;
 use std::fs;

@@ -1,6 +1,6 @@
-//! What is said in words: the answer, shares and numbers.
+//! What is said in words: the answer, and shares.
 
-use super::super::words::{number, share};
+use super::super::words::share;
 use super::super::{answer, Count};
 use super::{in_use, none, BENCH, LARGE};
 
@@ -61,7 +61,7 @@ fn the_answer_where_runs_are_in_use() {
 }
 
 #[test]
-fn shares_and_numbers() {
+fn shares() {
     for (part, whole, told) in [
         (0, 0, "0.0 %"),
         (0, 5, "0.0 %"),
@@ -73,6 +73,4 @@ fn shares_and_numbers() {
     ] {
         assert_eq!(share(part, whole), told);
     }
-    let told = [0, 999, 1000, 360_000, 1_234_567].map(number);
-    assert_eq!(told, ["0", "999", "1,000", "360,000", "1,234,567"]);
 }
