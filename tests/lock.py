@@ -25,6 +25,8 @@ THEOREMS = {
     "alike/proofs/Views": ["mean-nothing"],
     "anchor/proofs/Theorems": ["tagged-anchor", "anchor-no-table", "zeros-no-table"],
     "archive/proofs/Theorem": ["earlier-entries"],
+    "disc/proofs/Again": ["fresh-neither"],
+    "disc/proofs/Told": ["other-kind"],
     "history/proofs/Closed": ["closed-discs"],
     "history/proofs/Theorem": ["power-cuts", "remounts", "save-then-mount"],
     "history/proofs/Times": ["retells", "save-then-time", "save-times"],
@@ -34,7 +36,7 @@ THEOREMS = {
     "space/proofs/Theorem": ["space"],
     "timestamp/proofs/Stamps": ["told-minutes", "told-mark"],
     "timestamp/proofs/Theorems": ["starts", "rises", "utc-rises"],
-    "vat/proofs/Theorems": ["reads-back", "not-elsewhere", "of-kind-1", "at-one-block", "tells", "all-unused-at-zero"],
+    "vat/proofs/Theorems": ["reads-back", "not-elsewhere", "at-one-block", "tells", "all-unused-at-zero"],
     "volume/proofs/State": ["unpack-pack", "pack-unpack"],
 }
 

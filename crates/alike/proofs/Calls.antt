@@ -2,31 +2,36 @@
 -- leaves the same ledger and buffer, and leaves discs that are alike.
 -- Assumes nothing.
 use Prim.Native.Nat.{ℕ, zero, suc, _+_}
-use mathlib.Core.Path.{_≡_, refl, ap, _∙_, subst, subst₂}
-use mathlib.Core.Bool.{Bool, true, not}
+use mathlib.Core.Path.{_≡_, refl, sym, ap, _∙_, subst, subst₂}
+use mathlib.Core.Bool.{Bool, true, not, _||_}
 use mathlib.Core.List.{List, [], _∷_, _++_}
 use mathlib.Core.Option.{Option, some}
 use lib.Dec.{eqb, ltb}
-use lib.ListN.{length}
+use lib.ListN.{length, replicate}
 use Rattle.timestamp.specs.Timestamp.{valid, told}
-use Rattle.anchor.specs.Anchor.{farthestStart}
-use Rattle.disc.specs.Disc.{Disc, recorded, puts}
+use Rattle.vat.specs.Table.{Lower, isTable}
+use Rattle.vat.specs.Sector.{noStamp, tableBytes}
+use Rattle.anchor.specs.Anchor.{farthestStart, anchorTagged}
+use Rattle.disc.specs.Disc.{Disc, recorded, Sector, link, puts}
 use Rattle.disc.specs.declared.Walk.{Walk}
 use Rattle.disc.specs.declared.Walk.the-variants.{Reached}
 use Rattle.disc.specs.Tables.{tableAt, mapAt, newest, blockFound}
-use Rattle.disc.specs.Session.{closingLength}
+use Rattle.disc.specs.Session.{closing, closingLength}
+use Rattle.disc.specs.Save.{saveSectors, lastBlock}
+use Rattle.disc.proofs.Told.{below-same}
 use Rattle.disc.proofs.Found.{newest-table}
+use Rattle.disc.proofs.Save.{same-save}
+use Rattle.disc.proofs.Recording.{AllWhole}
 use Rattle.volume.specs.declared.Volume.{Volume}
-use Rattle.volume.specs.Volume.{idle, readOnly, unpack, pack, begun, filled}
-use Rattle.recorder.specs.Calls.{Call, begin, mount, write, release, closePacket, commit, closeSession, read, lookBack, timeOf, bufferOf}
+use Rattle.volume.specs.Volume.{idle, readOnly, unpack, pack, mapOf, begun, filled, committed}
+use Rattle.recorder.specs.Calls.{Call, begin, mount, write, release, closePacket, commit, closeSession, read, lookBack, timeOf, stampOf, stampBuffer, bufferOf}
 use Rattle.recorder.specs.Refusals.{test, first, links, target, reserve, basic, ledgerLent, blockLent, stampLent, answerLent, unfit, gate, forbiddenAt, numberTests, stampWrong, noRoom, blockOf, notInUse, isSome, walked, isBroken, isEnded, walkTests, tests, outcome}
-use Rattle.recorder.specs.Effects.{Effect, settles, blockReached, cleanNumber, effect, settled, after, ifDone, sectorsIf, secondNumber, sectorsOf}
+use Rattle.recorder.specs.Effects.{Effect, settles, saved, blockReached, cleanNumber, effect, settled, after, ifDone, sectorsIf, secondNumber, sectorsOf}
 use Rattle.alike.specs.Alike.{Alike, SameCall}
 use Rattle.recorder.proofs.Done.{mount-done, look-back-done, read-done}
 use Rattle.recorder.proofs.Answers.{walked-table}
-use Rattle.recorder.proofs.Sectors.{AllWhole}
 use Rattle.history.proofs.Recorded.{effect-whole}
-use Rattle.alike.proofs.Discs.{alike-puts, same-recorded, same-sized, same-order, same-blanks, same-kind, same-newest, same-map, same-walked, same-time, same-fits, same-closed}
+use Rattle.alike.proofs.Discs.{alike-puts, same-recorded, same-sized, same-order, same-blanks, same-kind, same-content, same-newest, same-map, same-walked, same-time, same-fits, same-closed}
 
 pub sectors-whole : (d : Disc) (l : List ℕ) (c : Call) → AllWhole (sectorsOf d l c)
 unfolding sectorsOf
@@ -49,8 +54,28 @@ module _ {d e : Disc} (a : Alike d e) where
   same-gate : (l : List ℕ) → gate d l ≡ gate e l
   same-gate l = λ i. same-unfit l i ∷ test 5 (eqb (unpack l .mode) readOnly) ∷ test 17 (same-closed a i) ∷ []
 
-  same-room : (v : Volume) (between : ℕ) → noRoom d v between ≡ noRoom e v between
-  same-room v between = λ i. test 14 (ltb (same-blanks a i) (links v + between + 1))
+  same-room : (v : Volume) {m n : ℕ} → m ≡ n → noRoom d v m ≡ noRoom e v n
+  same-room v p = λ i. test 14 (ltb (same-blanks a i) (links v + p i))
+
+  -- the sectors of a save, behind what it puts first
+  same-sectors : (l : List ℕ) (stamp : List ℕ) (b : ℕ) → let v : Volume = unpack l in
+      let t : List ℕ = tableBytes (mapOf v) (v .last) in saveSectors d t (v .last) stamp b ≡ saveSectors e t (v .last) stamp b
+  same-sectors l stamp b = let v : Volume = unpack l in same-save d e (tableBytes (mapOf v) (v .last)) (v .last) stamp b
+
+  same-saved : (l : List ℕ) (first : List Sector) (stamp buffer : List ℕ) → let v : Volume = unpack l in saved d v (mapOf v) (v .last) first stamp buffer ≡ saved e v (mapOf v) (v .last) first stamp buffer
+  same-saved l first stamp buffer = λ i.
+      let v : Volume = unpack l in
+      let at : ℕ = target v + length first in
+      let save : List Sector = same-sectors l stamp at i in
+      record {
+        second = lastBlock at save;
+        sectors = replicate (links v) link ++ (first ++ save);
+        ledger = pack (committed (lastBlock at save) v);
+        buffer = buffer;
+      }
+
+  same-forbidden : (b : ℕ) (block : List ℕ) → forbiddenAt d b block ≡ forbiddenAt e b block
+  same-forbidden b block = ap (λ (lower : Lower). isTable lower block b || anchorTagged block b) (sym (below-same d e b (λ c h. same-content a c)))
 
   same-tests : (l : List ℕ) (c : Call) → tests d l c ≡ tests e l c
   unfolding tests
@@ -61,14 +86,14 @@ module _ {d e : Disc} (a : Alike d e) where
       ++ (same-gate l i
       ++ (numberTests (unpack l) n
       ++ (test 14 (ltb (same-blanks a i) (links (unpack l) + 1 + reserve (length (a .same-kinds i))))
-      ∷ test 15 (forbiddenAt (target (unpack l)) block)
+      ∷ test 15 (same-forbidden (target (unpack l)) block i)
       ∷ [])))
   same-tests l (release n) = λ i. same-basic (ledgerLent l) i ++ (same-gate l i ++ (test 10 (notInUse (unpack l) n) ∷ []))
   same-tests l closePacket = λ i. same-basic (ledgerLent l) i ++ same-gate l i
   same-tests l (commit stamp) = λ i.
-      same-basic (stampLent l stamp) i ++ (same-gate l i ++ (test 16 (stampWrong stamp) ∷ same-room (unpack l) 0 i ∷ []))
+      same-basic (stampLent l stamp) i ++ (same-gate l i ++ (test 16 (stampWrong stamp) ∷ same-room (unpack l) (ap length (same-sectors l (stampOf stamp) (target (unpack l)))) i ∷ []))
   same-tests l (closeSession main reserve start) = λ i.
-      same-basic (ledgerLent l) i ++ (same-gate l i ++ (test 18 (ltb farthestStart start) ∷ same-room (unpack l) closingLength i ∷ []))
+      same-basic (ledgerLent l) i ++ (same-gate l i ++ (test 18 (ltb farthestStart start) ∷ same-room (unpack l) {m = closingLength + 1} refl i ∷ []))
   same-tests l (read n block) = λ i.
       same-basic (blockLent l block) i
       ++ (same-unfit l i
@@ -106,8 +131,8 @@ module _ {d e : Disc} (a : Alike d e) where
   same-effect l (write n block) h = refl
   same-effect l (release n) h = refl
   same-effect l closePacket h = refl
-  same-effect l (commit stamp) h = refl
-  same-effect l (closeSession main reserve start) h = refl
+  same-effect l (commit stamp) h = same-saved l [] (stampOf stamp) (stampBuffer stamp)
+  same-effect l (closeSession main reserve start) h = same-saved l (closing main reserve start (target (unpack l))) noStamp []
   same-effect l (read n block) h = λ i.
       record {
         second = 0;

@@ -14,23 +14,22 @@ use borrow.Author.Tests.{eqb-true, eqb-false, leb-true}
 use Rattle.le.specs.Bytes.{every}
 use Rattle.le.proofs.Bytes.{part-take}
 use Rattle.le.proofs.Rows.{and-left}
-use Rattle.vat.specs.Table.{sectorLength, unused, entriesOf, previousOf, modifiedOf, isTable}
-use Rattle.vat.proofs.Theorems.{recognised, of-kind-1}
+use Rattle.vat.specs.Table.{sectorLength, unused}
 use Rattle.anchor.specs.Anchor.{anchorTagged}
-use Rattle.disc.specs.Disc.{Disc, lent, mostSectors, sized, leading, recorded, inOrder, blanks, kindAt, sectorAt, Sector, link, plain, torn, stored, put, puts}
+use Rattle.disc.specs.Disc.{Disc, lent, mostSectors, sized, leading, recorded, inOrder, blanks, kindAt, sectorAt, readable, content, Sector, link, plain, torn, stored, put, puts}
 use Rattle.disc.specs.declared.Walk.{Walk}
 use Rattle.disc.specs.declared.Walk.the-variants.{Reached, Broken, Ended}
 use Rattle.disc.specs.Tables.{tableAt, mapAt, previousAt, newestBelow, newest, stepped, walk}
 use Rattle.disc.specs.Session.{closingLength, sessionClosed}
-use Rattle.disc.proofs.Recording.{Sound, Whole, leading-le, kind-recorded}
+use Rattle.disc.proofs.Recording.{Sound, Whole, leading-le, kind-recorded, AllWhole}
 use Rattle.disc.proofs.Order.{and-false}
+use Rattle.disc.proofs.Told.{table-same, Same, told}
 use Rattle.disc.proofs.Found.{newest-table}
 use Rattle.volume.specs.declared.Volume.{Volume}
 use Rattle.volume.specs.Volume.{fits}
 use Rattle.recorder.specs.Refusals.{walkFrom, walked, timeReached, timeBack}
 use Rattle.recorder.proofs.Answers.{walked-table}
 use Rattle.alike.specs.Alike.{Alike}
-use Rattle.recorder.proofs.Sectors.{AllWhole}
 
 pub alike-refl : (d : Disc) → Alike d d
 alike-refl d = record { same-kinds = refl; same-length = refl; same-data = λ b h. refl }
@@ -195,27 +194,30 @@ module _ {d e : Disc} (a : Alike d e) where
   pub same-blanks : blanks d ≡ blanks e
   same-blanks = ap (λ (ks : List ℕ). length ks - leading ks) (a .same-kinds)
 
-  pub same-table : (b : ℕ) → tableAt d b ≡ tableAt e b
-  same-table b = go (eqb (kindAt d b) 1) refl
+  -- every block reads the same
+  pub same-content : (b : ℕ) → content e b ≡ content d b
+  unfolding content
+  same-content b = ap (λ (k : ℕ). readable (eqb k 1) (sectorAt e b)) (sym (same-kind b)) ∙ go (eqb (kindAt d b) 1) refl
     where
-      go : (t : Bool) → eqb (kindAt d b) 1 ≡ t → tableAt d b ≡ tableAt e b
-      go true z = ap₂ (λ (k : ℕ) (s : List ℕ). isTable k s b) (same-kind b) (a .same-data b (eqb-true (kindAt d b) 1 z))
-      go false z =
-          let other : kindAt d b ≡ 1 → ⊥ = eqb-false (kindAt d b) 1 z in
-          of-kind-1 (kindAt d b) (sectorAt d b) b other ∙ sym (of-kind-1 (kindAt e b) (sectorAt e b) b (λ one. other (same-kind b ∙ one)))
+      go : (t : Bool) → eqb (kindAt d b) 1 ≡ t → readable t (sectorAt e b) ≡ readable t (sectorAt d b)
+      go true z = ap (readable true) (sym (a .same-data b (eqb-true (kindAt d b) 1 z)))
+      go false z = refl
+
+  pub same-table : (b : ℕ) → tableAt d b ≡ tableAt e b
+  same-table b = sym (table-same d e b (λ c h. same-content c) (same-content b))
 
   pub same-newest : newest d ≡ newest e
   same-newest = ap₂ (λ (t : ℕ → Bool) (r : ℕ). newestBelow t r) (fun-ext same-table) same-recorded
 
-  -- of a table, the whole sector
-  table-data : (b : ℕ) → tableAt d b ≡ true → sectorAt d b ≡ sectorAt e b
-  table-data b t = a .same-data b (recognised (kindAt d b) (sectorAt d b) b t .data-kind)
+  -- of a table, all that it holds
+  same-held : (b : ℕ) → tableAt d b ≡ true → Same d e b
+  same-held b t = told d e b (λ c h. same-content c) (same-content b) t
 
   pub same-map : (b : ℕ) → tableAt d b ≡ true → mapAt d b ≡ mapAt e b
-  same-map b t = ap entriesOf (table-data b t)
+  same-map b t = sym (same-held b t .its-map)
 
   pub same-previous : (b : ℕ) → tableAt d b ≡ true → previousAt d b ≡ previousAt e b
-  same-previous b t = ap previousOf (table-data b t)
+  same-previous b t = sym (same-held b t .its-previous)
 
   pub same-walked : (k : ℕ) → walked d k ≡ walked e k
   unfolding walked
@@ -232,7 +234,7 @@ module _ {d e : Disc} (a : Alike d e) where
   same-time k = go (walked d k) refl ∙ ap (timeReached e) (same-walked k)
     where
       go : (w : Walk) → walked d k ≡ w → timeReached d w ≡ timeReached e w
-      go (Reached b) z = ap modifiedOf (table-data b (walked-table d k b z))
+      go (Reached b) z = sym (same-held b (walked-table d k b z) .its-time)
       go Broken z = refl
       go Ended z = refl
 

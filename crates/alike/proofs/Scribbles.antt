@@ -10,11 +10,11 @@ use mathlib.Core.Option.{Option, none, some}
 use lib.Dec.{eqb, ltb}
 use lib.ListN.{length, getD, take}
 use Rattle.disc.specs.Disc.{Disc, Sector, recorded, puts}
+use Rattle.disc.proofs.Recording.{AllWhole, whole-take}
 use Rattle.recorder.specs.Calls.{Call, begin, mount, read, lookBack, saves, onlyTells}
 use Rattle.recorder.specs.Refusals.{outcome}
 use Rattle.recorder.specs.Effects.{effect, After, settled, after, sectorsOf}
 use Rattle.alike.specs.Alike.{Alike, SameCall}
-use Rattle.recorder.proofs.Sectors.{AllWhole, whole-take}
 use Rattle.alike.proofs.Discs.{alike-refl, alike-sym, alike-trans, same-recorded, alike-torn, alike-puts}
 use Rattle.alike.proofs.Calls.{sectors-whole}
 use Rattle.alike.proofs.Views.{mean-nothing}

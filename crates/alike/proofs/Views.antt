@@ -21,24 +21,16 @@ use Rattle.history.proofs.Growth.{data-within}
 use Rattle.archive.specs.Earlier.{seen}
 use Rattle.archive.proofs.Runs.{SameBelow, extents-same, entry-same, run-same}
 use Rattle.alike.specs.Alike.{Alike, MeanNothing}
-use Rattle.alike.proofs.Discs.{same-kind}
+use Rattle.alike.proofs.Discs.{same-kind, same-content}
 use Rattle.alike.proofs.Calls.{same-basic, same-unfit, same-call}
 
 module _ {d e : Disc} (a : Alike d e) where
-  same-content : (b : ℕ) → content e b ≡ content d b
-  unfolding content
-  same-content b = ap (λ (k : ℕ). readable (eqb k 1) (sectorAt e b)) (sym (same-kind a b)) ∙ go (eqb (kindAt d b) 1) refl
-    where
-      go : (t : Bool) → eqb (kindAt d b) 1 ≡ t → readable t (sectorAt e b) ≡ readable t (sectorAt d b)
-      go true z = ap (readable true) (sym (a .same-data b (eqb-true (kindAt d b) 1 z)))
-      go false z = refl
-
   all-same : SameBelow (length (d .kinds)) d e
   all-same =
       record {
         sectors = le-refl (length (d .kinds));
         sectors′ = subst (λ (ks : List ℕ). length (d .kinds) ≤ length ks) (a .same-kinds) (le-refl (length (d .kinds)));
-        contents = λ b h. same-content b;
+        contents = λ b h. same-content a b;
       }
 
   module _ (l : List ℕ) (n offset : ℕ) (buffer : List ℕ) where

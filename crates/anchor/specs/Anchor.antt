@@ -14,12 +14,12 @@ use Rattle.extent.specs.declared.Extent.{Extent}
 abbrev pub anchorIdentifier : ℕ
 anchorIdentifier = 2
 
--- The rows of the pointer with a tag location: "tag identifier 2, version 2, .. CRC length 496, the extents at bytes 16 and 24 (length, location,
+-- The rows of the pointer with a version and a tag location: "tag identifier 2, version 2, .. CRC length 496, the extents at bytes 16 and 24 (length, location,
 -- 32 bits each)".
-unfoldable pub anchorRows : Extent → Extent → ℕ → List Row
-anchorRows main reserve location =
+unfoldable pub anchorRows : ℕ → Extent → Extent → ℕ → List Row
+anchorRows version main reserve location =
     row 0 2 anchorIdentifier
-    ∷ row 2 2 2  -- descriptor version
+    ∷ row 2 2 version  -- descriptor version
     ∷ row 10 2 496  -- CRC length
     ∷ row 12 4 location  -- tag location
     ∷ row 16 4 (main .length)
@@ -29,8 +29,8 @@ anchorRows main reserve location =
     ∷ []
 
 -- The sector: "right sums, .. and zeros elsewhere".
-unfoldable pub anchor : Extent → Extent → ℕ → List ℕ
-anchor main reserve location = seal (lay (replicate sectorLength 0) (anchorRows main reserve location))
+unfoldable pub anchor : ℕ → Extent → Extent → ℕ → List ℕ
+anchor version main reserve location = seal (lay (replicate sectorLength 0) (anchorRows version main reserve location))
 
 -- No partition starts above block 400,000 (18), and so a pointer's tag location is at most "its block + 400,000".
 abbrev pub farthestStart : ℕ

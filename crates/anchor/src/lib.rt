@@ -8,12 +8,12 @@ ghost use Rattle.anchor.specs.Anchor.{anchorRows, anchor, anchorTagged};
 
 pub const FARTHEST_START: u32 = 400000;
 
-fn put_rows(s: &mut [u8], main: Extent, reserve: Extent, location: u32)
+fn put_rows(s: &mut [u8], version: u16, main: Extent, reserve: Extent, location: u32)
     requires { ⌜ length (now s) ≡ sectorLength ⌝ }
-    ensures { λ _. ⌜ now (s .exit) ≡ lay (now (s .entry)) (anchorRows main reserve location) ⌝ }
+    ensures { λ _. ⌜ now (s .exit) ≡ lay (now (s .entry)) (anchorRows version main reserve location) ⌝ }
 {
     le::put16(s, 0, 2);
-    le::put16(s, 2, 2);
+    le::put16(s, 2, version);
     le::put16(s, 10, 496);
     le::put32(s, 12, location);
     le::put32(s, 16, main.length);
@@ -22,13 +22,13 @@ fn put_rows(s: &mut [u8], main: Extent, reserve: Extent, location: u32)
     le::put32(s, 28, reserve.location);
 }
 
-// The pointer with a tag location, into a lent sector.
-pub fn record(s: &mut [u8], main: Extent, reserve: Extent, location: u32)
+// The pointer with a version and a tag location, into a lent sector.
+pub fn record(s: &mut [u8], version: u16, main: Extent, reserve: Extent, location: u32)
     requires { ⌜ length (now s) ≡ sectorLength ⌝ }
-    ensures { λ _. ⌜ now (s .exit) ≡ anchor main reserve location ⌝ }
+    ensures { λ _. ⌜ now (s .exit) ≡ anchor version main reserve location ⌝ }
 {
     le::run::clear(s);
-    put_rows(s, main, reserve, location);
+    put_rows(s, version, main, reserve, location);
     tag::seal(s);
 }
 

@@ -16,10 +16,10 @@ use Rattle.disc.specs.declared.Walk.the-variants.{Reached}
 use Rattle.disc.specs.Tables.{tableAt, mapAt, newest}
 use Rattle.disc.proofs.Recording.{Sound, leading-le}
 use Rattle.disc.proofs.Found.{table-recorded, newest-table}
-use Rattle.volume.specs.Volume.{ledgerLength, readOnly, unpack, pack, filled}
+use Rattle.volume.specs.Volume.{ledgerLength, readOnly, unpack, pack}
 use Rattle.recorder.specs.Calls.{begin, mount, lookBack}
 use Rattle.recorder.specs.Refusals.{blockOf, walkFrom, walked}
-use Rattle.recorder.specs.Effects.{after}
+use Rattle.recorder.specs.Effects.{after, shownAt}
 use Rattle.recorder.proofs.Done.{ledger-accepted, look-back-done}
 use Rattle.recorder.proofs.Answers.{walked-table}
 use Rattle.history.specs.History.{History}
@@ -77,14 +77,14 @@ reached-behind d ok k t e = go (newest d) refl e
 
 -- what it leaves fits the disc, and names the blocks of that table
 module _ (d : Disc) (ok : Sound d) (l : List ℕ) (long : length l ≡ ledgerLength) (k t : ℕ) (r : Behind F d k t) (table : tableAt d t ≡ true) where
-  left-behind : after d l (lookBack k) .ledger ≡ pack (filled (mapAt d t) t (recorded d) readOnly)
+  left-behind : after d l (lookBack k) .ledger ≡ pack (shownAt d t readOnly)
   left-behind = look-back-leaves d l ok long k (r .newest) t (r .is-newest) (walked-behind d k t r)
 
-  held : HoldsMap d (pack (filled (mapAt d t) t (recorded d) readOnly)) (mapAt d t)
+  held : HoldsMap d (pack (shownAt d t readOnly)) (mapAt d t)
   held = holds-table d ok t readOnly (lit< tt) (refl, refl) table
 
   fits-behind : Fitting d (after d l (lookBack k) .ledger)
-  fits-behind = subst (Fitting d) (sym left-behind) (fitting-of d (pack (filled (mapAt d t) t (recorded d) readOnly)) ok (held .long) (held .fit))
+  fits-behind = subst (Fitting d) (sym left-behind) (fitting-of d (pack (shownAt d t readOnly)) ok (held .long) (held .fit))
 
   block-behind : (n : ℕ) → blockOf (unpack (after d l (lookBack k) .ledger)) n ≡ getD (mapAt d t) n unused
   block-behind n = ap (λ (m : List ℕ). blockOf (unpack m) n) left-behind ∙ held .entry n

@@ -15,13 +15,14 @@ use Rattle.crc.specs.Crc.{crcOf, crcFrom, byteStep}
 use Rattle.tag.specs.Tag.{crcLength, checksum, bodyCrc, summed, sealed, seal}
 use Rattle.timestamp.specs.Calendar.{months, real, daysOfYears, daysBefore, minutesBefore}
 use Rattle.timestamp.specs.Timestamp.{zoneOf, momentOf, valid, minutesOf, told}
-use Rattle.vat.specs.Table.{unused, plainRows, lengthRows, tableRows, tableName, attributeLength, entryCount, entriesOf, previousOf, modifiedOf, framed, isTable}
+use Rattle.vat.specs.Table.{unused, Lower, plainRows, lengthRows, attributeLength, describedLength, framed, modifiedOf, tableOf, tableLength, tableName, entryCount, entriesOf, previousOf, enclosed, listed, isTable, tagVersion}
 use Rattle.vat.specs.Sector.{tableRegid, tableBytes, ownRows, stationName, timed, noStamp, body, sector}
 use Rattle.extent.specs.Extents.{extent}
 use Rattle.anchor.specs.Anchor.{anchorRows, anchor, anchorTagged}
 use Rattle.disc.specs.Disc.{Disc, sized, leading, inOrder, sectorAt, content, stored, puts}
-use Rattle.disc.specs.Tables.{newestBelow, walk}
+use Rattle.disc.specs.Tables.{tableAt, bytesAt, mapAt, previousAt, timeAt, newestBelow, walk}
 use Rattle.disc.specs.Session.{closing, sessionClosed}
+use Rattle.disc.specs.Save.{saveSectors}
 use Rattle.volume.specs.Volume.{unpack, pack, fits, begun, filled, wrote, released, closed, committed}
 use Rattle.recorder.specs.Calls.{Call, begin, mount, write, closePacket, commit, closeSession, lookBack, timeOf}
 use Rattle.recorder.specs.Refusals.{first, links, reserve, walked, tests, outcome}
@@ -29,7 +30,7 @@ use Rattle.recorder.specs.Effects.{effect, After, after, secondNumber, sectorsO
 
 -- To open this is to open every definition that the rows and lists are worked out from.
 unfoldable pub opened : Unit {0}
-unfolding le readLe leadingWords words leWords lay holds every total holdsText crcFrom byteStep checksum bodyCrc summed sealed seal months real daysOfYears daysBefore minutesBefore zoneOf momentOf valid minutesOf told plainRows lengthRows tableName attributeLength entryCount entriesOf previousOf modifiedOf framed isTable tableRegid tableBytes ownRows stationName timed body sector anchorRows anchor anchorTagged sized leading inOrder sectorAt content stored puts newestBelow walk closing sessionClosed unpack pack fits begun filled wrote released closed committed first links reserve walked tests outcome effect after secondNumber sectorsOf
+unfolding le readLe leadingWords words leWords lay holds every total holdsText crcFrom byteStep checksum bodyCrc summed sealed seal months real daysOfYears daysBefore minutesBefore zoneOf momentOf valid minutesOf told plainRows lengthRows attributeLength describedLength framed modifiedOf tableOf tableName entryCount entriesOf previousOf enclosed listed isTable tableRegid tableBytes ownRows stationName timed body sector anchorRows anchor anchorTagged sized leading inOrder sectorAt content stored puts tableAt bytesAt mapAt previousAt timeAt newestBelow walk closing sessionClosed saveSectors unpack pack fits begun filled wrote released closed committed first links reserve walked tests outcome effect after secondNumber sectorsOf
 opened = tt
 
 -- A blank disc of n sectors, and a lent block.
@@ -41,7 +42,11 @@ block x = x ∷ replicate 2047 0
 
 -- The table sector of n unused entries at block b behind a bytes of attributes, all zero; its sums are not put yet.
 abbrev pub behind : ℕ → ℕ → ℕ → List ℕ
-behind a n b = lay (sets (block 0) (176 + a) (tableBytes (replicate n unused) unused)) (plainRows b ++ (tableRows a n ++ ownRows 3))
+behind a n b = lay (sets (block 0) (176 + a) (tableBytes (replicate n unused) unused)) (plainRows b ++ (lengthRows a (tableLength n) (tableLength n) ++ ownRows 3))
+
+-- A reader for which nothing lies below: no table that its ICB holds asks it.
+abbrev pub nothing : Lower
+nothing b = none
 
 -- A disc of two sectors, the first with these bytes, the other blank.
 abbrev pub holding : List ℕ → Disc
@@ -103,7 +108,7 @@ answer = replicate 8 0
 
 -- A closing's pointer with this tag location, and a closing with this partition start.
 abbrev pub pointer : ℕ → List ℕ
-pointer location = anchor (extent 32768 257) (extent 32768 513) location
+pointer location = anchor tagVersion (extent 32768 257) (extent 32768 513) location
 
 abbrev pub closingAt : ℕ → Call
 closingAt start = closeSession (extent 32768 257) (extent 32768 513) start
@@ -132,9 +137,9 @@ pub data Example : Type 0 where
 
 unfoldable pub right : Example → Bool
 right (crc-of bytes value) = eqb (crcOf bytes) value
-right (lengths-of a n table crc) = let s : List ℕ = lay (block 0) (tableRows a n) in eqb (readLe 4 s 172) table && eqb (crcLength s) crc
-right (no-table n) = not (isTable 1 (sector (replicate n unused) unused noStamp 0) 0)
-right (framed-behind a n true) = framed (behind a n 0) 0
+right (lengths-of a n table crc) = let s : List ℕ = lay (block 0) (lengthRows a (tableLength n) (tableLength n)) in eqb (readLe 4 s 172) table && eqb (crcLength s) crc
+right (no-table n) = not (isTable nothing (sector (tableBytes (replicate n unused) unused) noStamp 0) 0)
+right (framed-behind a n true) = let s : List ℕ = behind a n 0 in framed s 0 && listed (tableOf nothing s) 0
 right (framed-behind a n false) = not (framed (behind a n 0) 0)
 right (told-of stamp minutes mark) = valid stamp && same (told stamp) (le 4 minutes ++ le 4 mark)
 right (wrong-stamp stamp) = not (valid stamp)
@@ -162,8 +167,8 @@ starred =
     ∷ calls-on (blank 16) full (begin ∷ write (some 0) (block 1) ∷ closePacket ∷ write (some 1) (block 2) ∷ []) (0 ∷ 0 ∷ 0 ∷ refused 14 ∷ [])
     ∷ calls-on (blank 9) full (begin ∷ write (some 1) (block 1) ∷ []) (0 ∷ refused 12 ∷ [])
     ∷ calls-on (blank 9) full (write (some 458) (block 1) ∷ []) (refused 13 ∷ [])
-    ∷ calls-on (blank 12) full (begin ∷ write (some 0) (block 1) ∷ write (some 1) (block 2) ∷ write (some 2) (sector [] unused noStamp 1) ∷ []) (0 ∷ 0 ∷ 1 ∷ 2 ∷ [])
-    ∷ calls-on (blank 12) full (begin ∷ write (some 0) (block 1) ∷ write (some 1) (block 2) ∷ write (some 2) (sector [] unused noStamp 2) ∷ []) (0 ∷ 0 ∷ 1 ∷ refused 15 ∷ [])
+    ∷ calls-on (blank 12) full (begin ∷ write (some 0) (block 1) ∷ write (some 1) (block 2) ∷ write (some 2) (sector (tableBytes [] unused) noStamp 1) ∷ []) (0 ∷ 0 ∷ 1 ∷ 2 ∷ [])
+    ∷ calls-on (blank 12) full (begin ∷ write (some 0) (block 1) ∷ write (some 1) (block 2) ∷ write (some 2) (sector (tableBytes [] unused) noStamp 2) ∷ []) (0 ∷ 0 ∷ 1 ∷ refused 15 ∷ [])
     ∷ []
 
 pub starred-rows : T (all-right starred)

@@ -6,23 +6,25 @@ use mathlib.Core.Path.{_≡_, refl, sym, ap, ap₂, _∙_}
 use mathlib.Core.List.{List, [], _∷_, _++_}
 use mathlib.Core.Option.{Option, some}
 use lib.Dec.{eqb}
-use lib.ListN.{length, set, replicate, length-append, length-replicate}
+use lib.ListN.{length, set, replicate, length-replicate}
 use Rattle.timestamp.specs.Timestamp.{stampLength, told}
-use Rattle.vat.specs.Table.{sectorLength, limit}
-use Rattle.vat.specs.Sector.{noStamp, sector}
+use Rattle.vat.specs.Table.{sectorLength, limit, tagVersion}
+use Rattle.vat.specs.Sector.{noStamp, tableBytes}
 use Rattle.extent.specs.declared.Extent.{Extent}
 use Rattle.anchor.specs.Anchor.{farthestStart, anchor}
 use Rattle.disc.specs.declared.Walk.{Walk}
 use Rattle.disc.specs.declared.Walk.the-variants.{Reached}
 use Rattle.disc.specs.Disc.{Disc, lent, mostSectors, Sector, link, plain, recorded, sectorAt, stored, put, puts}
-use Rattle.disc.specs.Tables.{mapAt, timeAt, blockFound, newest}
+use Rattle.disc.specs.Tables.{timeAt, blockFound, newest}
 use Rattle.disc.specs.Session.{zeroSectors, zeroSector, closing, closingLength}
+use Rattle.disc.specs.Save.{saveSectors}
 use Rattle.disc.proofs.Recording.{leading-le, puts-append, puts-links}
+use Rattle.disc.proofs.Save.{one-sector, same-save}
 use Rattle.volume.specs.declared.Volume.{Volume}
-use Rattle.volume.specs.Volume.{ledgerLength, idle, readOnly, unpack, pack, mapOf, begun, filled, wrote, released, closed}
-use Rattle.recorder.specs.Calls.{Call, begin, mount, write, release, closePacket, commit, closeSession, read, lookBack, timeOf, stampBuffer, bufferOf}
+use Rattle.volume.specs.Volume.{ledgerLength, idle, readOnly, unpack, pack, mapOf, begun, wrote, released, closed}
+use Rattle.recorder.specs.Calls.{Call, begin, mount, write, release, closePacket, commit, closeSession, read, lookBack, timeOf, stampBuffer, bufferOf, stampOf}
 use Rattle.recorder.specs.Refusals.{links, target, blockOf, walked, timeReached, outcome}
-use Rattle.recorder.specs.Effects.{Effect, effect, blockReached, cleanNumber, stampOf, saved, After, left, settled, after}
+use Rattle.recorder.specs.Effects.{Effect, effect, blockReached, cleanNumber, saved, After, left, settled, after, shownAt}
 use Rattle.recorder.proofs.Sectors.{length-closing}
 use Rattle.recorder.proofs.Done.{ledger-accepted, WriteDone, write-done, SaveDone, commit-done, ClosingDone, closing-done}
 
@@ -37,9 +39,9 @@ unfolding puts
 puts-first d b s ss = refl
 
 pub closing-puts : (main reserved : Extent) (start b : ℕ) (d : Disc)
-    → puts (put d b (plain (anchor main reserved (start + b)))) (b + 1) (replicate zeroSectors zeroSector) ≡ puts d b (closing main reserved start b)
+    → puts (put d b (plain (anchor tagVersion main reserved (start + b)))) (b + 1) (replicate zeroSectors zeroSector) ≡ puts d b (closing main reserved start b)
 unfolding closing
-closing-puts main reserved start b d = puts-first d b (plain (anchor main reserved (start + b))) (replicate zeroSectors zeroSector)
+closing-puts main reserved start b d = puts-first d b (plain (anchor tagVersion main reserved (start + b))) (replicate zeroSectors zeroSector)
 
 module _ (d : Disc) (l : List ℕ) where
   -- a refusal
@@ -58,17 +60,17 @@ module _ (d : Disc) (l : List ℕ) where
   begin-left z = done-left begin z
 
   pub mount-left : (b : ℕ) → outcome d l mount ≡ 0 → newest d ≡ some b
-      → left (cleanNumber (eqb (b + 1) (recorded d))) (d .image) (d .kinds) (pack (filled (mapAt d b) b (recorded d) idle)) [] ≡ after d l mount
+      → left (cleanNumber (eqb (b + 1) (recorded d))) (d .image) (d .kinds) (pack (shownAt d b idle)) [] ≡ after d l mount
   unfolding effect puts
   mount-left b z e =
-      ap (λ (o : Option ℕ). left (cleanNumber (eqb (blockFound o + 1) (recorded d))) (d .image) (d .kinds) (pack (filled (mapAt d (blockFound o)) (blockFound o) (recorded d) idle)) []) (sym e)
+      ap (λ (o : Option ℕ). left (cleanNumber (eqb (blockFound o + 1) (recorded d))) (d .image) (d .kinds) (pack (shownAt d (blockFound o) idle)) []) (sym e)
       ∙ done-left mount z
 
   pub look-back-left : (k b : ℕ) → outcome d l (lookBack k) ≡ 0 → walked d k ≡ Reached b
-      → left b (d .image) (d .kinds) (pack (filled (mapAt d b) b (recorded d) readOnly)) [] ≡ after d l (lookBack k)
+      → left b (d .image) (d .kinds) (pack (shownAt d b readOnly)) [] ≡ after d l (lookBack k)
   unfolding effect puts
   look-back-left k b z e =
-      ap (λ (w : Walk). left (blockReached w) (d .image) (d .kinds) (pack (filled (mapAt d (blockReached w)) (blockReached w) (recorded d) readOnly)) []) (sym e)
+      ap (λ (w : Walk). left (blockReached w) (d .image) (d .kinds) (pack (shownAt d (blockReached w) readOnly)) []) (sym e)
       ∙ done-left (lookBack k) z
 
   pub release-left : (n : ℕ) → outcome d l (release n) ≡ 0 → left 0 (d .image) (d .kinds) (pack (released n (unpack l))) [] ≡ after d l (release n)
@@ -134,36 +136,45 @@ module _ (d : Disc) (l : List ℕ) where
 
   -- ---- saves
 
-  -- the links, what is recorded between them and the table, and the table sector behind both
-  pub saved-disc : (between : List Sector) (stamp : List ℕ) (x : Disc) (b : ℕ) → x ≡ puts (lent (d .image) linkedKinds) (target (unpack l)) between → b ≡ target (unpack l) + length between
-      → put x b (plain (sector (mapOf (unpack l)) (unpack l .last) stamp b)) ≡ puts d (unpack l .recorded) (saved (unpack l) between stamp [] .sectors)
-  unfolding puts
-  saved-disc between stamp x b e at =
+  -- a save of the working state, and its table's bytes
+  abbrev pub savedBy : List Sector → List ℕ → List ℕ → Effect
+  savedBy first stamp buffer = saved d (unpack l) (mapOf (unpack l)) (unpack l .last) first stamp buffer
+
+  abbrev pub tableOf : List ℕ
+  tableOf = tableBytes (mapOf (unpack l)) (unpack l .last)
+
+  -- the links, what a save puts first, and the sectors of its table behind both
+  pub saved-disc : (first : List Sector) (stamp : List ℕ) (x : Disc) (b : ℕ) → x ≡ puts (lent (d .image) linkedKinds) (target (unpack l)) first → b ≡ target (unpack l) + length first
+      → puts x b (saveSectors x tableOf (unpack l .last) stamp b) ≡ puts d (unpack l .recorded) (savedBy first stamp [] .sectors)
+  saved-disc first stamp x b e at =
       let v : Volume = unpack l in
       let k : ℕ = links v in
       let r : ℕ = v .recorded in
       let before : List Sector = replicate k link in
-      let s : List ℕ = sector (mapOf v) (v .last) stamp (target v + length between) in
+      let save : List Sector = saveSectors d tableOf (v .last) stamp (target v + length first) in
       let taken : r + length before ≡ target v = ap (λ (n : ℕ). r + n) (length-replicate k link) in
-      let place : r + length (before ++ between) ≡ target v + length between = omega (arith, length-append before between, taken) in
       let linked : puts d r before ≡ lent (d .image) linkedKinds = puts-links k (d .image) (d .kinds) r in
-      let passed : puts d r (before ++ between) ≡ x =
-      puts-append before between d r ∙ ap₂ (λ (y : Disc) (n : ℕ). puts y n between) linked taken ∙ sym e in
-      ap (λ (n : ℕ). put x n (plain (sector (mapOf v) (v .last) stamp n))) at
-      ∙ sym (puts-append (before ++ between) (plain s ∷ []) d r ∙ ap₂ (λ (y : Disc) (n : ℕ). put y n (plain s)) passed place)
+      ap₂ (λ (n : ℕ) (ss : List Sector). puts x n ss) at (same-save x d tableOf (v .last) stamp b ∙ ap (saveSectors d tableOf (v .last) stamp) at)
+      ∙ ap (λ (y : Disc). puts y (target v + length first) save) e
+      ∙ sym (puts-append first save (lent (d .image) linkedKinds) (target v))
+      ∙ sym (puts-append before (first ++ save) d r ∙ ap₂ (λ (y : Disc) (n : ℕ). puts y n (first ++ save)) linked taken)
+
+  -- the block of its last sector
+  pub saved-at : (first : List Sector) (stamp : List ℕ) (b : ℕ) → b ≡ target (unpack l) + length first → b ≡ savedBy first stamp [] .second
+  saved-at first stamp b at = omega (arith, at, one-sector d tableOf (unpack l .last) stamp (target (unpack l) + length first))
 
   -- what a save answers and leaves, part by part
   abbrev pub Saved : List Sector → List ℕ → ℕ → List ℕ → List ℕ → List ℕ → Type 0
-  Saved between stamp answer image kinds ledger =
-      (answer ≡ saved (unpack l) between stamp [] .second)
-      × (lent image kinds ≡ puts d (unpack l .recorded) (saved (unpack l) between stamp [] .sectors))
-      × (ledger ≡ saved (unpack l) between stamp [] .ledger)
+  Saved first stamp answer image kinds ledger =
+      (answer ≡ savedBy first stamp [] .second)
+      × (lent image kinds ≡ puts d (unpack l .recorded) (savedBy first stamp [] .sectors))
+      × (ledger ≡ savedBy first stamp [] .ledger)
 
   -- a save that is done
-  saved-left : (c : Call) (between : List Sector) (stamp buffer : List ℕ) → outcome d l c ≡ 0 → effect d l c ≡ saved (unpack l) between stamp buffer → unpack l .recorded ≡ recorded d
-      → {a : ℕ} {i k m : List ℕ} → Saved between stamp a i k m → left a i k m buffer ≡ after d l c
-  saved-left c between stamp buffer z is same {a} {i} {k} {m} s =
-      let e : Effect = saved (unpack l) between stamp buffer in
+  saved-left : (c : Call) (first : List Sector) (stamp buffer : List ℕ) → outcome d l c ≡ 0 → effect d l c ≡ savedBy first stamp buffer → unpack l .recorded ≡ recorded d
+      → {a : ℕ} {i k m : List ℕ} → Saved first stamp a i k m → left a i k m buffer ≡ after d l c
+  saved-left c first stamp buffer z is same {a} {i} {k} {m} s =
+      let e : Effect = savedBy first stamp buffer in
       let disc : lent i k ≡ puts d (recorded d) (e .sectors) = s .1 ∙ ap (λ (n : ℕ). puts d n (e .sectors)) same in
       same-after (s .0) disc (s .2)
       ∙ ap (λ (e : Effect). settled d l (bufferOf c) 0 e) (sym is)
@@ -176,7 +187,7 @@ module _ (d : Disc) (l : List ℕ) where
       let f : SaveDone d l [] (stampOf stamp) = commit-done d l stamp z .saving in (
         ledger-accepted d l (commit stamp) z,
         f .sound-disc .whole,
-        omega (arith, f .room, f .fit .same-recorded, leading-le (d .kinds)),
+        omega (arith, f .room, one-sector d tableOf (unpack l .last) (stampOf stamp) (target (unpack l) + 0), f .fit .same-recorded, leading-le (d .kinds)),
         f .sound-disc .few,
         f .fit .few,
         f .timely,
@@ -191,10 +202,12 @@ module _ (d : Disc) (l : List ℕ) where
   module _ (main reserved : Extent) (start : ℕ) (z : outcome d l (closeSession main reserved start) ≡ 0) where
     pub closing-saves : (length l ≡ ledgerLength) × (length (d .image) ≡ sectorLength * length (d .kinds)) × (target (unpack l) + closingLength < length (d .kinds)) × (length (d .kinds) ≤ mostSectors) × (unpack l .size ≤ limit) × (start ≤ farthestStart)
     closing-saves =
-        let f : ClosingDone d l main reserved start = closing-done d l main reserved start z in (
+        let f : ClosingDone d l main reserved start = closing-done d l main reserved start z in
+        let first : List Sector = closing main reserved start (target (unpack l)) in (
           ledger-accepted d l (closeSession main reserved start) z,
           f .saving .sound-disc .whole,
-          omega (arith, f .saving .room, length-closing main reserved start (target (unpack l)), f .saving .fit .same-recorded, leading-le (d .kinds)),
+          omega
+              (arith, f .saving .room, one-sector d tableOf (unpack l .last) noStamp (target (unpack l) + length first), length-closing main reserved start (target (unpack l)), f .saving .fit .same-recorded, leading-le (d .kinds)),
           f .saving .sound-disc .few,
           f .saving .fit .few,
           f .near,

@@ -11,15 +11,18 @@ use borrow.Author.Tests.{eq-eqb, ne-eqb, le-ltb, lt-ltb, le-leb, lt-leb}
 use Rattle.timestamp.specs.Timestamp.{valid}
 use Rattle.vat.specs.Table.{limit, unused}
 use Rattle.extent.specs.declared.Extent.{Extent}
+use Rattle.vat.specs.Sector.{tableBytes}
 use Rattle.anchor.specs.Anchor.{farthestStart}
 use Rattle.disc.specs.declared.Walk.the-variants.{Reached, Broken, Ended}
 use Rattle.disc.specs.Disc.{Disc, mostSectors, kindAt}
 use Rattle.disc.specs.Tables.{timeAt, blockFound, newestBelow, newest}
 use Rattle.disc.specs.Session.{closingLength, sessionClosed}
 use Rattle.disc.proofs.Found.{newest-below}
-use Rattle.volume.specs.Volume.{readOnly, unpack, fits}
-use Rattle.recorder.specs.Calls.{begin, mount, write, release, closePacket, commit, closeSession, read, lookBack, timeOf}
-use Rattle.recorder.specs.Refusals.{Test, test, first, reserveIf, reserve, basic, ledgerLent, blockLent, stampLent, answerLent, unfit, blockTests, writeTests, stampWrong, noRoom, commitTests, closingTests, blockOf, notInUse, isSome, walked, isBroken, isEnded, walkTests, timeWrong, tests, outcome}
+use Rattle.disc.proofs.Save.{one-sector}
+use Rattle.volume.specs.Volume.{readOnly, unpack, mapOf, fits}
+use Rattle.volume.specs.declared.Volume.{Volume}
+use Rattle.recorder.specs.Calls.{begin, mount, write, release, closePacket, commit, closeSession, read, lookBack, timeOf, stampOf}
+use Rattle.recorder.specs.Refusals.{Test, test, first, target, reserveIf, reserve, basic, ledgerLent, blockLent, stampLent, answerLent, unfit, blockTests, writeTests, stampWrong, noRoom, commitTests, closingTests, blockOf, notInUse, isSome, walked, isBroken, isEnded, walkTests, timeWrong, tests, outcome}
 use Rattle.recorder.proofs.Done.{stopped, resumed, fittingTests, workingTests}
 
 -- ---- the newest table, as a block number
@@ -228,9 +231,11 @@ module _ (d : Disc) (l : List ℕ) (stamp : Option (List ℕ)) where
   unfolding first
   commit-16 z e = commit-rest z ∙ rw e
 
-  pub commit-tested : first (workingTests d l (stampLent l stamp)) ≡ 0 → stampWrong stamp ≡ false → outcome d l (commit stamp) ≡ first (noRoom d (unpack l) 0 ∷ [])
+  pub commit-tested : first (workingTests d l (stampLent l stamp)) ≡ 0 → stampWrong stamp ≡ false → outcome d l (commit stamp) ≡ first (noRoom d (unpack l) 1 ∷ [])
   unfolding first
-  commit-tested z e = commit-rest z ∙ rw e
+  commit-tested z e =
+      let v : Volume = unpack l in
+      commit-rest z ∙ rw (e, one-sector d (tableBytes (mapOf v) (v .last)) (v .last) (stampOf stamp) (target v))
 
 module _ (d : Disc) (l : List ℕ) (main reserved : Extent) (start : ℕ) where
   pub closing-stopped : (first (workingTests d l (ledgerLent l && true)) ≡ 0 → ⊥) → outcome d l (closeSession main reserved start) ≡ first (workingTests d l (ledgerLent l && true))
@@ -246,7 +251,7 @@ module _ (d : Disc) (l : List ℕ) (main reserved : Extent) (start : ℕ) where
   closing-18 z h = closing-rest z ∙ rw (lt-ltb farthestStart start h)
 
   pub closing-tested : first (workingTests d l (ledgerLent l && true)) ≡ 0 → start ≤ farthestStart
-      → outcome d l (closeSession main reserved start) ≡ first (noRoom d (unpack l) closingLength ∷ [])
+      → outcome d l (closeSession main reserved start) ≡ first (noRoom d (unpack l) (closingLength + 1) ∷ [])
   unfolding first
   closing-tested z h = closing-rest z ∙ rw (le-ltb farthestStart start h)
 

@@ -12,7 +12,6 @@ use vat::table::SECTOR;
 use vat::table::UNUSED;
 ghost use mathlib.Core.Path.{_≡_};
 ghost use mathlib.Core.Bool.{true};
-ghost use mathlib.Core.List.{[]};
 ghost use mathlib.Core.Option.{none, some};
 ghost use Prim.Native.Nat.{_≤_};
 ghost use lib.ListN.{length};
@@ -64,21 +63,21 @@ pub fn time_of(image: &[u8], kinds: &[u8], ledger: &[u8], k: u32, answer: &[u8])
     plan
 }
 
-// 15, what no write may put at block b: a table sector, or a pointer's tag.
-fn forbidden_at(block: &[u8], b: u32) -> bool
+// 15, what no write may put at block b of this disc: a table sector, or a pointer's tag.
+fn forbidden_at(image: &[u8], kinds: &[u8], block: &[u8], b: u32) -> bool
     requires { ⌜ length (now block) ≡ sectorLength ⌝ }
-    ensures { λ r. ⌜ r ≡ forbiddenAt b (now (block .entry)) ⌝ }
+    ensures { λ r. ⌜ r ≡ forbiddenAt (lent (now (image .entry)) (now (kinds .entry))) b (now (block .entry)) ⌝ }
 {
-    if vat::table::is_table(1, block, b) {
+    if vat::table::is_table(block, b) {
         return true;
     }
     anchor::tagged(block, b)
 }
 
 // 14 and 15 of a write: room for the links, the block and the reserve, and a block that may stand behind the links.
-fn recordable(kinds: &[u8], ledger: &[u8], block: &[u8]) -> u32
+fn recordable(image: &[u8], kinds: &[u8], ledger: &[u8], block: &[u8]) -> u32
     requires { ⌜ (length (now ledger) ≡ ledgerLength) × (unpack (now ledger) .recorded ≡ leading (now kinds)) × (length (now kinds) ≤ 360000) × (length (now block) ≡ sectorLength) ⌝ }
-    ensures { λ r. ⌜ r ≡ first (blockTests (lent [] (now (kinds .entry))) (unpack (now (ledger .entry))) (now (block .entry))) ⌝ }
+    ensures { λ r. ⌜ r ≡ first (blockTests (lent (now (image .entry)) (now (kinds .entry))) (unpack (now (ledger .entry))) (now (block .entry))) ⌝ }
 {
     let links = crate::basic::links(ledger);
     let recorded = volume::ledger::recorded(ledger);
@@ -86,7 +85,7 @@ fn recordable(kinds: &[u8], ledger: &[u8], block: &[u8]) -> u32
     if blank < links + 1 + crate::basic::reserve(kinds.len()) {
         return 14;
     }
-    if forbidden_at(block, recorded + links) {
+    if forbidden_at(image, kinds, block, recorded + links) {
         return 15;
     }
     0
@@ -106,7 +105,7 @@ pub fn write(image: &[u8], kinds: &[u8], ledger: &[u8], n: u32, block: &[u8]) ->
     if size < n {
         return 12;
     }
-    recordable(kinds, ledger, block)
+    recordable(image, kinds, ledger, block)
 }
 
 pub fn write_unnumbered(image: &[u8], kinds: &[u8], ledger: &[u8], block: &[u8]) -> u32
@@ -116,7 +115,7 @@ pub fn write_unnumbered(image: &[u8], kinds: &[u8], ledger: &[u8], block: &[u8])
     if outcome != 0 {
         return outcome;
     }
-    recordable(kinds, ledger, block)
+    recordable(image, kinds, ledger, block)
 }
 
 pub fn release(image: &[u8], kinds: &[u8], ledger: &[u8], n: u32) -> u32
@@ -145,7 +144,7 @@ pub fn commit(image: &[u8], kinds: &[u8], ledger: &[u8]) -> u32
     if outcome != 0 {
         return outcome;
     }
-    crate::basic::room(kinds, ledger, 0)
+    crate::basic::room(kinds, ledger, 1)
 }
 
 pub fn commit_at(image: &[u8], kinds: &[u8], ledger: &[u8], stamp: &[u8]) -> u32
@@ -158,7 +157,7 @@ pub fn commit_at(image: &[u8], kinds: &[u8], ledger: &[u8], stamp: &[u8]) -> u32
     if !timestamp::valid(stamp) {
         return 16;
     }
-    crate::basic::room(kinds, ledger, 0)
+    crate::basic::room(kinds, ledger, 1)
 }
 
 pub fn close_session(
@@ -178,7 +177,7 @@ pub fn close_session(
     if FARTHEST_START < start {
         return 18;
     }
-    crate::basic::room(kinds, ledger, CLOSING)
+    crate::basic::room(kinds, ledger, CLOSING + 1)
 }
 
 pub fn read(image: &[u8], kinds: &[u8], ledger: &[u8], n: u32, block: &[u8]) -> u32

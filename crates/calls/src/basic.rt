@@ -18,7 +18,7 @@ ghost use Rattle.recorder.specs.Refusals.{test, first, links, basic, ledgerLent
 
 pub const LEDGER: usize = 1848;
 
-// 1, 2, 3: the disc's size, the lent lengths, the kinds.
+// 1, 2, 3: the disc's size, the lent lengths, the kinds. No ledger is read, so no count is likely.
 pub fn sound(image: &[u8], kinds: &[u8], lengths: bool) -> Plan
     ensures { λ r. ⌜ (r .outcome ≡ first (basic (lent (now (image .entry)) (now (kinds .entry))) lengths)) × (r .outcome ≡ 0 → r .recorded ≡ leading (now (kinds .entry))) ⌝ }
 {
@@ -28,13 +28,14 @@ pub fn sound(image: &[u8], kinds: &[u8], lengths: bool) -> Plan
     if !lengths {
         return refused(2);
     }
-    let extent = disc::kinds::count(kinds);
+    let extent = disc::kinds::count(kinds, 0);
     if !extent.in_order {
         return refused(3);
     }
+    let recorded = extent.recorded as u32;
     Plan {
         outcome: 0,
-        recorded: extent.recorded as u32,
+        recorded: recorded,
         block: 0,
     }
 }
@@ -79,16 +80,22 @@ pub fn reached(image: &[u8], kinds: &[u8], lengths: bool, k: u32) -> Plan
     }
 }
 
-// 1 to 4: and the ledger fits the disc.
+// 1 to 4: and the ledger fits the disc. If it does, its count is the disc's, and is looked at first.
 pub fn fitting(image: &[u8], kinds: &[u8], ledger: &[u8], whole: bool) -> u32
     ensures { λ r. ⌜ r ≡ first (basic (lent (now (image .entry)) (now (kinds .entry))) (ledgerLent (now (ledger .entry)) && whole) ++ (unfit (lent (now (image .entry)) (now (kinds .entry))) (now (ledger .entry)) ∷ [])) ⌝ }
 {
-    let lengths = (ledger.len() == LEDGER) & whole;
-    let plan = sound(image, kinds, lengths);
-    if plan.outcome != 0 {
-        return plan.outcome;
+    if !disc::kinds::sized(image, kinds) {
+        return 1;
     }
-    if !volume::ledger::fits(ledger, image, kinds, plan.recorded) {
+    let lengths = (ledger.len() == LEDGER) & whole;
+    if !lengths {
+        return 2;
+    }
+    let extent = disc::kinds::count(kinds, volume::ledger::recorded(ledger) as usize);
+    if !extent.in_order {
+        return 3;
+    }
+    if !volume::ledger::fits(ledger, image, kinds, extent.recorded as u32) {
         return 4;
     }
     0
@@ -135,13 +142,13 @@ pub fn reserve(sectors: usize) -> u32
     264
 }
 
-// 14 of a save that records so many sectors between its links and its table.
-pub fn room(kinds: &[u8], ledger: &[u8], between: u32) -> u32
-    requires { ⌜ (length (now ledger) ≡ ledgerLength) × (unpack (now ledger) .recorded ≡ leading (now kinds)) × (length (now kinds) ≤ 360000) × (between ≤ 256) ⌝ }
-    ensures { λ r. ⌜ r ≡ first (noRoom (lent [] (now (kinds .entry))) (unpack (now (ledger .entry))) between ∷ []) ⌝ }
+// 14 of a save that records so many sectors behind its links.
+pub fn room(kinds: &[u8], ledger: &[u8], recording: u32) -> u32
+    requires { ⌜ (length (now ledger) ≡ ledgerLength) × (unpack (now ledger) .recorded ≡ leading (now kinds)) × (length (now kinds) ≤ 360000) × (recording ≤ 257) ⌝ }
+    ensures { λ r. ⌜ r ≡ first (noRoom (lent [] (now (kinds .entry))) (unpack (now (ledger .entry))) recording ∷ []) ⌝ }
 {
     let blank = (kinds.len() as u32) - volume::ledger::recorded(ledger);
-    if blank < links(ledger) + between + 1 {
+    if blank < links(ledger) + recording {
         return 14;
     }
     0

@@ -4,20 +4,22 @@ use disc::session::CLOSING;
 use disc::session::ZEROS;
 use extent::Extent;
 use vat::table::SECTOR;
+use vat::table::TAG_VERSION;
 use volume::Volume;
 ghost use mathlib.Core.Path.{_≡_};
-ghost use mathlib.Core.List.{[], _∷_, _++_};
-ghost use Prim.Native.Nat.{_+_, _*_, _≤_, _<_};
+ghost use mathlib.Core.List.{List, [], _∷_, _++_};
+ghost use Prim.Native.Nat.{ℕ, _+_, _*_, _≤_, _<_};
 ghost use lib.ListN.{length, take, drop, set, replicate};
 ghost use Rattle.timestamp.specs.Timestamp.{stampLength};
-ghost use Rattle.vat.specs.Table.{sectorLength, limit, wholeLength, entriesOf};
-ghost use Rattle.vat.specs.Sector.{noStamp, sector};
+ghost use Rattle.vat.specs.Table.{sectorLength, limit, tagVersion, wholeLength};
+ghost use Rattle.vat.specs.Sector.{tableBytes, sector};
 ghost use Rattle.anchor.specs.Anchor.{farthestStart, anchor};
-ghost use Rattle.disc.specs.Disc.{lent, link, plain, stored, put, puts};
-ghost use Rattle.disc.specs.Session.{closing};
+ghost use Rattle.disc.specs.Disc.{lent, link, plain, sectorAt, stored, puts};
+ghost use Rattle.disc.specs.Tables.{mapAt};
+ghost use Rattle.disc.specs.Save.{saveSectors};
 ghost use Rattle.volume.specs.Volume.{ledgerLength, unpack, pack, mapOf, filled, committed};
 ghost use Rattle.recorder.specs.Refusals.{links, target};
-ghost use Rattle.recorder.specs.Effects.{saved};
+ghost use Rattle.recorder.specs.Effects.{commits, closes};
 
 // The links, if there are any; the answer is the block behind them.
 pub fn record_links(kinds: &mut [u8], ledger: &[u8]) -> u32
@@ -43,7 +45,7 @@ pub fn record_block(image: &mut [u8], kinds: &mut [u8], ledger: &[u8], block: &[
 // The table sector of the ledger's state, with a timestamp, at block b. The map is taken from the ledger's bytes.
 fn record_table(image: &mut [u8], kinds: &mut [u8], ledger: &[u8], stamp: &[u8], b: u32)
     requires { ⌜ (length (now ledger) ≡ ledgerLength) × (length (now image) ≡ sectorLength * length (now kinds)) × (b < length (now kinds)) × (unpack (now ledger) .size ≤ limit) × (length (now stamp) ≡ stampLength) ⌝ }
-    ensures { λ _. ⌜ (now (image .exit) ≡ stored (now (image .entry)) (sectorLength * b) (sector (mapOf (unpack (now (ledger .entry)))) (unpack (now (ledger .entry)) .last) (now (stamp .entry)) b)) × (now (kinds .exit) ≡ set (now (kinds .entry)) b 1) ⌝ }
+    ensures { λ _. ⌜ (now (image .exit) ≡ stored (now (image .entry)) (sectorLength * b) (sector (tableBytes (mapOf (unpack (now (ledger .entry)))) (unpack (now (ledger .entry)) .last)) (now (stamp .entry)) b)) × (now (kinds .exit) ≡ set (now (kinds .entry)) b 1) ⌝ }
 {
     let size = volume::ledger::size(ledger);
     let last = volume::ledger::last(ledger);
@@ -64,19 +66,19 @@ fn record_anchor(
     b: u32,
 )
     requires { ⌜ (length (now image) ≡ sectorLength * length (now kinds)) × (b < length (now kinds)) × (start + b < 4294967296) ⌝ }
-    ensures { λ _. ⌜ (now (image .exit) ≡ stored (now (image .entry)) (sectorLength * b) (anchor main reserve (start + b))) × (now (kinds .exit) ≡ set (now (kinds .entry)) b 1) ⌝ }
+    ensures { λ _. ⌜ (now (image .exit) ≡ stored (now (image .entry)) (sectorLength * b) (anchor tagVersion main reserve (start + b))) × (now (kinds .exit) ≡ set (now (kinds .entry)) b 1) ⌝ }
 {
     let place = b as usize;
     let at = SECTOR * place;
     let end = at + SECTOR;
-    anchor::record(&mut image[at..end], main, reserve, start + b);
+    anchor::record(&mut image[at..end], TAG_VERSION, main, reserve, start + b);
     kinds[place] = 1;
 }
 
-// The table sector of the ledger's state, at block b, and the state after it.
+// The sectors of a save of the ledger's state, from block b on, and the state after it: the ICB alone, which holds the table.
 fn save_at(image: &mut [u8], kinds: &mut [u8], ledger: &mut [u8], stamp: &[u8], b: u32)
     requires { ⌜ (length (now ledger) ≡ ledgerLength) × (length (now image) ≡ sectorLength * length (now kinds)) × (b < length (now kinds)) × (length (now kinds) ≤ 360000) × (unpack (now ledger) .size ≤ limit) × (length (now stamp) ≡ stampLength) ⌝ }
-    ensures { λ _. ⌜ (lent (now (image .exit)) (now (kinds .exit)) ≡ put (lent (now (image .entry)) (now (kinds .entry))) b (plain (sector (mapOf (unpack (now (ledger .entry)))) (unpack (now (ledger .entry)) .last) (now (stamp .entry)) b))) × (now (ledger .exit) ≡ pack (committed b (unpack (now (ledger .entry))))) ⌝ }
+    ensures { λ _. ⌜ (lent (now (image .exit)) (now (kinds .exit)) ≡ puts (lent (now (image .entry)) (now (kinds .entry))) b (saveSectors (lent (now (image .entry)) (now (kinds .entry))) (tableBytes (mapOf (unpack (now (ledger .entry)))) (unpack (now (ledger .entry)) .last)) (unpack (now (ledger .entry)) .last) (now (stamp .entry)) b)) × (now (ledger .exit) ≡ pack (committed b (unpack (now (ledger .entry))))) ⌝ }
 {
     record_table(image, kinds, ledger, stamp, b);
     Volume::load(ledger).committed(b).store_fields(ledger);
@@ -85,7 +87,7 @@ fn save_at(image: &mut [u8], kinds: &mut [u8], ledger: &mut [u8], stamp: &[u8], 
 // A commit's save: links, the table sector and the state after it; the answer is the table's block.
 pub fn save(image: &mut [u8], kinds: &mut [u8], ledger: &mut [u8], stamp: &[u8]) -> u32
     requires { ⌜ (length (now ledger) ≡ ledgerLength) × (length (now image) ≡ sectorLength * length (now kinds)) × (target (unpack (now ledger)) < length (now kinds)) × (length (now kinds) ≤ 360000) × (unpack (now ledger) .size ≤ limit) × (length (now stamp) ≡ stampLength) ⌝ }
-    ensures { λ r. ⌜ (r ≡ saved (unpack (now (ledger .entry))) [] (now (stamp .entry)) [] .second) × (lent (now (image .exit)) (now (kinds .exit)) ≡ puts (lent (now (image .entry)) (now (kinds .entry))) (unpack (now (ledger .entry)) .recorded) (saved (unpack (now (ledger .entry))) [] (now (stamp .entry)) [] .sectors)) × (now (ledger .exit) ≡ saved (unpack (now (ledger .entry))) [] (now (stamp .entry)) [] .ledger) ⌝ }
+    ensures { λ r. ⌜ (r ≡ commits (lent (now (image .entry)) (now (kinds .entry))) (unpack (now (ledger .entry))) (now (stamp .entry)) [] .second) × (lent (now (image .exit)) (now (kinds .exit)) ≡ puts (lent (now (image .entry)) (now (kinds .entry))) (unpack (now (ledger .entry)) .recorded) (commits (lent (now (image .entry)) (now (kinds .entry))) (unpack (now (ledger .entry))) (now (stamp .entry)) [] .sectors)) × (now (ledger .exit) ≡ commits (lent (now (image .entry)) (now (kinds .entry))) (unpack (now (ledger .entry))) (now (stamp .entry)) [] .ledger) ⌝ }
 {
     let b = record_links(kinds, ledger);
     save_at(image, kinds, ledger, stamp, b);
@@ -102,7 +104,7 @@ pub fn close(
     start: u32,
 ) -> u32
     requires { ⌜ (length (now ledger) ≡ ledgerLength) × (length (now image) ≡ sectorLength * length (now kinds)) × (target (unpack (now ledger)) + 256 < length (now kinds)) × (length (now kinds) ≤ 360000) × (unpack (now ledger) .size ≤ limit) × (start ≤ farthestStart) ⌝ }
-    ensures { λ r. ⌜ (r ≡ saved (unpack (now (ledger .entry))) (closing main reserve start (target (unpack (now (ledger .entry))))) noStamp [] .second) × (lent (now (image .exit)) (now (kinds .exit)) ≡ puts (lent (now (image .entry)) (now (kinds .entry))) (unpack (now (ledger .entry)) .recorded) (saved (unpack (now (ledger .entry))) (closing main reserve start (target (unpack (now (ledger .entry))))) noStamp [] .sectors)) × (now (ledger .exit) ≡ saved (unpack (now (ledger .entry))) (closing main reserve start (target (unpack (now (ledger .entry))))) noStamp [] .ledger) ⌝ }
+    ensures { λ r. ⌜ (r ≡ closes (lent (now (image .entry)) (now (kinds .entry))) (unpack (now (ledger .entry))) main reserve start .second) × (lent (now (image .exit)) (now (kinds .exit)) ≡ puts (lent (now (image .entry)) (now (kinds .entry))) (unpack (now (ledger .entry)) .recorded) (closes (lent (now (image .entry)) (now (kinds .entry))) (unpack (now (ledger .entry))) main reserve start .sectors)) × (now (ledger .exit) ≡ closes (lent (now (image .entry)) (now (kinds .entry))) (unpack (now (ledger .entry))) main reserve start .ledger) ⌝ }
 {
     let b = record_links(kinds, ledger);
     record_anchor(image, kinds, main, reserve, start, b);
@@ -115,10 +117,9 @@ pub fn close(
 
 // The ledger shows the table that a plan found.
 pub fn show(image: &[u8], ledger: &mut [u8], plan: Plan, mode: u32)
-    requires { ⌜ (length (now ledger) ≡ ledgerLength) × (sectorLength * plan .block + sectorLength ≤ length (now image)) × (wholeLength (take sectorLength (drop (sectorLength * plan .block) (now image))) < sectorLength) ⌝ }
-    ensures { λ _. ⌜ now (ledger .exit) ≡ pack (filled (entriesOf (take sectorLength (drop (sectorLength * plan .block) (now (image .entry))))) (plan .block) (plan .recorded) mode) ⌝ }
+    requires { ⌜ (length (now ledger) ≡ ledgerLength) × (sectorLength * plan .block + sectorLength ≤ length (now image)) × (wholeLength (sectorAt (lent (now image) []) (plan .block)) < sectorLength) ⌝ }
+    ensures { λ _. ⌜ ((kinds : List ℕ) → now (ledger .exit) ≡ pack (filled (mapAt (lent (now (image .entry)) kinds) (plan .block)) (plan .block) (plan .recorded) mode)) ⌝ }
 {
-    let at = SECTOR * (plan.block as usize);
-    let end = at + SECTOR;
-    Volume::filled(&image[at..end], plan.block, plan.recorded, mode).store(ledger);
+    let table = disc::tables::bytes_at(image, plan.block);
+    Volume::filled(table, plan.block, plan.recorded, mode).store(ledger);
 }

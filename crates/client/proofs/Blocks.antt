@@ -19,6 +19,7 @@ use Rattle.extent.specs.declared.Extent.{Extent}
 use Rattle.extent.specs.Extents.{extent, totalLength}
 use Rattle.disc.specs.Disc.{Disc, recorded, kindAt, sectorAt, content}
 use Rattle.disc.proofs.Recording.{sound-sized, sound-order}
+use Rattle.disc.proofs.Told.{data-there}
 use Rattle.volume.specs.declared.Volume.{Volume}
 use Rattle.volume.specs.Volume.{ledgerLength, unpack, wrote}
 use Rattle.volume.proofs.State.{Proper}
@@ -32,7 +33,7 @@ use Rattle.viewer.proofs.Outcome.{view-done}
 use Rattle.archive.specs.Earlier.{seen}
 use Rattle.archive.proofs.Runs.{sectors-split}
 use Rattle.history.proofs.Log.{Extends, extends-same, extends-on}
-use Rattle.history.proofs.Growth.{F, data-there, data-within}
+use Rattle.history.proofs.Growth.{F, data-within}
 use Rattle.client.specs.Day.{Day, day, AllDone, joinedBlocks, filling}
 use Rattle.client.proofs.Days.{did, done-first, called-done, first-done, rest-done}
 use Rattle.client.proofs.Written.{Wrote, written, names-block}

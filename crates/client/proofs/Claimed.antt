@@ -19,13 +19,10 @@ use Rattle.history.specs.Claim.{Claim}
 use Rattle.alike.specs.Scribbles.{Happening, event, AllHappen, ends, recalls}
 use Rattle.history.proofs.Theorem.{Kept, all-kept, begun-kept, mounted-kept}
 use Rattle.alike.proofs.Scribbles.{scribbled-power-cuts}
-use Rattle.client.specs.Day.{Day, day, AllDone, opening}
+use Rattle.client.specs.Day.{Day, day, AllDone, opening, world}
 use Rattle.client.proofs.Days.{did, first-done, called-done, done-first, rest-done}
 
 -- ---- calls that are done, and then whatever happens
-
-abbrev pub world : Day → World
-world x = record { disc = x .disc; ledger = some (x .ledger) }
 
 pub not-lost : (l : List ℕ) → _≡_ {A = Option (List ℕ)} (some l) none → ⊥
 not-lost l e = let z : _≡_ {A = ℕ} 0 1 = cc in omega arith

@@ -27,12 +27,13 @@ use Rattle.history.specs.Claim.{DoneShowing}
 use Rattle.history.specs.Closed.{ClosedShowing, Closes, TurnedAway}
 use Rattle.history.proofs.Log.{some-same}
 use Rattle.history.proofs.Closed.{closed-discs}
-use Rattle.client.specs.Day.{Day, ended, day, AllDone, opening, leftBy, ClosedAnswer}
+use Rattle.space.specs.Called.{asEvents}
+use Rattle.client.specs.Day.{Day, ended, day, AllDone, opening, leftBy, world, ClosedAnswer}
 use Rattle.client.proofs.Days.{joined, part-done, did, done-first, called-done, first-done, rest-done, last-done, Fit}
-use Rattle.client.proofs.Claimed.{world, history, startHistory, opened, remembered}
+use Rattle.client.proofs.Claimed.{history, startHistory, opened, remembered}
 use Rattle.client.proofs.Shown.{Reads, mount-reads}
 use Rattle.client.proofs.Saves.{firstPage, first-there}
-use Rattle.client.proofs.Since.{asEvents, Went, went}
+use Rattle.client.proofs.Since.{Went, went}
 
 start-closes : (fresh : Bool) (d : Disc) (l : List ℕ) → outcome d l (opening fresh) ≡ 0 → (es : List Event) → AllAllowed (afterCall d l (opening fresh)) es
     → Closes (runs (afterCall d l (opening fresh)) es) (remembers (afterCall d l (opening fresh)) (startHistory fresh d) es)

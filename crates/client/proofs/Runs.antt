@@ -32,10 +32,11 @@ use Rattle.archive.proofs.Theorem.{earlier-entries}
 use Rattle.history.proofs.Theorem.{claimed}
 use Rattle.alike.specs.Alike.{Alike}
 use Rattle.alike.proofs.Views.{mean-nothing}
-use Rattle.client.specs.Day.{Day, ended, goingOn, day, AllDone, opening, savesAmong, filling, storing, joinedBlocks, viewed}
+use Rattle.space.specs.Called.{asEvents}
+use Rattle.client.specs.Day.{Day, ended, goingOn, day, AllDone, opening, savesAmong, world, filling, storing, joinedBlocks, viewed}
 use Rattle.client.proofs.Days.{joined, part-done, did, done-first, called-done, first-done, last-done, rest-done, first-fit}
-use Rattle.client.proofs.Claimed.{world, startHistory, start-kept, opened, remembered, claim-at}
-use Rattle.client.proofs.Since.{asEvents, Went, went, history-joined, saved, book, SavedThere}
+use Rattle.client.proofs.Claimed.{startHistory, start-kept, opened, remembered, claim-at}
+use Rattle.client.proofs.Since.{Went, went, history-joined, saved, book, SavedThere}
 use Rattle.client.proofs.Written.{Wrote, write-told, write-small, written}
 use Rattle.client.proofs.Blocks.{Stand, open-behind, StoredBlocks, stored-blocks, entry-shows}
 

@@ -13,31 +13,33 @@ use mathlib.Core.List.{List, [], _∷_, _++_}
 use mathlib.Core.Option.{Option, none, some}
 use borrow.Author.Tests.{eqb-true, eqb-false, ne-eqb, lt-ltb}
 use lib.Dec.{eqb, ltb}
-use lib.ListN.{length, getD, take, set, replicate, length-set, length-append}
+use lib.ListN.{length, getD, take, set, length-set, length-append}
 use lib.Seq.{getD-set-same, getD-append-seam}
 use Rattle.vat.specs.Table.{sectorLength, unused}
-use Rattle.disc.specs.Disc.{Disc, lent, Sector, link, recorded, puts}
+use Rattle.disc.specs.Disc.{Disc, lent, Sector, recorded, puts}
 use Rattle.disc.proofs.Recording.{Sound, leading-le}
 use Rattle.volume.specs.declared.Volume.{Volume}
-use Rattle.volume.specs.Volume.{ledgerLength, unpack, begun, grown, wrote, committed}
+use Rattle.volume.specs.Volume.{ledgerLength, unpack, mapOf, begun, grown, wrote, committed}
 use Rattle.volume.proofs.State.{Proper, length-pack, unpack-pack, proper-begun, proper-wrote, proper-committed}
-use Rattle.recorder.specs.Calls.{Call, begin, mount, write, release, closePacket, commit, lookBack, saves}
-use Rattle.recorder.specs.Refusals.{outcome, links, target}
+use Rattle.recorder.specs.Calls.{Call, begin, mount, write, release, closePacket, commit, lookBack, bufferOf, saves}
+use Rattle.recorder.specs.Refusals.{outcome, target}
 use Rattle.recorder.specs.Effects.{Effect, effect, sectorsIf, after, secondNumber, sectorsOf}
 use Rattle.alike.specs.Alike.{Alike}
 use Rattle.recorder.proofs.Done.{begin-done, WriteDone, write-done, ledger-accepted, links-few}
 use Rattle.recorder.proofs.Answers.{answer-of, done-small}
+use Rattle.recorder.proofs.Sectors.{beforeIcb, ends-in-icb}
 use Rattle.alike.proofs.Discs.{blank-bytes}
 use Rattle.alike.proofs.Ahead.{marked-call}
 use Rattle.history.specs.History.{unusedEntry, shows, Snapshot, History, Told, placed, savedIf, done, feed}
 use Rattle.history.specs.Events.{cuts, Torn, tornAt, cutDisc, next, told, kept, cutIf, cutShort, fed}
 use Rattle.history.specs.Claim.{blockNumber, DoneShowing, Mounts, Claim}
+use Rattle.history.specs.Times.{savedStamp}
 use Rattle.alike.specs.Scribbles.{event, scribble, AllHappen, ends, recalls}
-use Rattle.history.proofs.Saving.{told-save, unsaved, Saving, saving-done}
+use Rattle.history.proofs.Saving.{told-save, unsaved, Saving, saving-done, small, tableBlock, at-table}
 use Rattle.history.proofs.Theorem.{Kept, saved-page, Remounted, remounts}
-use Rattle.client.specs.Day.{Day, ended, day, AllDone, opening, ShowsSave, backIf, oneBack, savesAmong, struck, OneSector, sectorsBehind, CutBehind, tableKept, readsOf, StoppedStoring, StoppedMarking}
+use Rattle.client.specs.Day.{Day, ended, day, AllDone, opening, ShowsSave, backIf, oneBack, savesAmong, struck, OneSector, sectorsBehind, CutBehind, tableKept, readsOf, StoppedStoring, StoppedMarking, world}
 use Rattle.client.proofs.Days.{joined, part-done, did, done-first, called-done, first-done, rest-done, last-done, Fit, first-fit, opening-fit, last-fit}
-use Rattle.client.proofs.Claimed.{world, not-lost, history, kept-next, startPage, startPages, opened, remembered, claim-behind, claim-at, kept-at}
+use Rattle.client.proofs.Claimed.{not-lost, history, kept-next, startPage, startPages, opened, remembered, claim-behind, claim-at, kept-at}
 use Rattle.client.proofs.Shown.{Reads, mount-disc, mount-reads, mount-unused, look-reads}
 
 -- ---- entries of a page
@@ -94,10 +96,11 @@ module _ (d : Disc) (l : List ℕ) (good : Proper (unpack l)) where
   save-long c is-save e =
       let s : Saving d l c = saving-done d l c is-save e in
       let v : Volume = unpack l in
-      let b : ℕ = target v + length (s .between) in
+      let ok : Sound d = s .done .sound-disc in
+      let b : ℕ = tableBlock d l ok good c s in
       rw e
       (ap (λ (x : Effect). length (x .ledger)) (s .leaves)
-      ∙ length-pack (committed b v) (proper-committed v good b (omega (arith, s .done .room, few d (s .done .sound-disc), s .done .sound-disc .few, s .done .fit .same-recorded))))
+      ∙ length-pack (committed b v) (proper-committed v good b (omega (arith, at-table d l ok good c s, small d l ok good c s))))
 
 one-step : (last : ℕ) {answer : ℕ} → (last ≡ unused → answer ≡ 9 * 4294967296) → ((last ≡ unused → ⊥) → answer ≡ last) → answer ≡ oneBack last
 one-step last {answer} none-there there = go (eqb last unused) refl
@@ -366,11 +369,12 @@ kept-table d l c is-save j = go (outcome d l c) refl
     go zero e =
         let ss : List Sector = effect d l c .sectors in
         let s : Saving d l c = saving-done d l c is-save e in
-        let some-there : 0 < length ss = subst (λ (x : Effect). 0 < length (x .sectors)) (sym (s .leaves)) (ends-in (replicate (links (unpack l)) link ++ s .between) _) in
+        let v : Volume = unpack l in
+        let some-there : 0 < length ss = subst (λ (x : Effect). 0 < length (x .sectors)) (sym (s .leaves)) (subst (λ (ss : List Sector). 0 < length ss) (sym (ends-in-icb d v (mapOf v) (v .last) (s .first) (savedStamp c) (bufferOf c))) (ends-in (beforeIcb d v (mapOf v) (v .last) (s .first)) _)) in
         ap (λ (t : Bool). t && eqb j (length ss)) (sym (lt-ltb 0 (length ss) some-there))
     go (suc n) e = ap (λ (t : Bool). t && eqb j 0) (ne-eqb (suc n) 0 (λ e. omega (arith, e)))
 
-cut-history : (d : Disc) (l : List ℕ) (h : History) (c : Call) (j : ℕ)
+pub cut-history : (d : Disc) (l : List ℕ) (h : History) (c : Call) (j : ℕ)
     → feed h (cutShort d l c j) ≡ record { pages = savedIf (tableKept c j (length (sectorsOf d l c))) (h .draft) (h .pages); draft = none }
 unfolding feed
 cut-history d l h c j = go (saves c) refl

@@ -12,18 +12,15 @@ use Rattle.recorder.specs.Calls.{Call, saves}
 use Rattle.recorder.specs.Refusals.{outcome}
 use Rattle.recorder.specs.Effects.{secondNumber}
 use Rattle.history.specs.History.{History, done, feed}
-use Rattle.history.specs.Events.{World, Event, calls, AllAllowed, next, told, fed, runs, remembers}
+use Rattle.history.specs.Events.{World, calls, AllAllowed, next, told, fed, runs, remembers}
 use Rattle.history.proofs.Theorem.{Kept, saved-page}
-use Rattle.client.specs.Day.{Day, day, AllDone, opening, savesAmong}
+use Rattle.space.specs.Called.{asEvents}
+use Rattle.client.specs.Day.{Day, day, AllDone, opening, savesAmong, world}
 use Rattle.client.proofs.Days.{joined, part-done, did, done-first, called-done, first-done, rest-done, Fit, start-fit}
-use Rattle.client.proofs.Claimed.{world, not-lost, history, next-done, fed-done, kept-next, kept-on, startHistory, start-kept, opened, remembered}
+use Rattle.client.proofs.Claimed.{not-lost, history, next-done, fed-done, kept-next, kept-on, startHistory, start-kept, opened, remembered}
 use Rattle.client.proofs.Saves.{MovedBack, moved-back}
 
 -- ---- a day as a list of events
-
-abbrev pub asEvents : List Call → List Event
-asEvents [] = []
-asEvents (c ∷ cs) = calls c [] ∷ asEvents cs
 
 pub record Went (x : Day) (h : History) (cs : List Call) : Type 0 where
   pub allowed : AllAllowed (world x) (asEvents cs)

@@ -21,9 +21,10 @@ use Rattle.history.specs.History.{History, feed}
 use Rattle.history.specs.Events.{World, calls, fed, afterCall}
 use Rattle.history.specs.Times.{telling, TellsTime, savedStamp, ToldLater, EachTold}
 use Rattle.history.proofs.Times.{save-times, told-there}
-use Rattle.client.specs.Day.{Day, day, opening, savesAmong}
-use Rattle.client.proofs.Claimed.{world, not-lost, next-done, fed-done, startHistory, opened, remembered}
-use Rattle.client.proofs.Since.{asEvents, Went, went, upTo, saved, book, SavedThere}
+use Rattle.space.specs.Called.{asEvents}
+use Rattle.client.specs.Day.{Day, day, opening, savesAmong, world}
+use Rattle.client.proofs.Claimed.{not-lost, next-done, fed-done, startHistory, opened, remembered}
+use Rattle.client.proofs.Since.{Went, went, upTo, saved, book, SavedThere}
 
 -- ---- a save, and calls behind it
 

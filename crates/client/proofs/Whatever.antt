@@ -16,7 +16,7 @@ use Rattle.alike.specs.Scribbles.{Happening, event, scribble, AllHappen, ends, 
 use Rattle.history.specs.History.{History, feed}
 use Rattle.history.specs.Events.{World, Event, AllAllowed, next, fed, runs, remembers}
 use Rattle.history.specs.Claim.{Mounts, Claim}
-use Rattle.client.specs.Day.{Day, day, AllDone, opening, leftAs, NoSave}
+use Rattle.client.specs.Day.{Day, day, AllDone, opening, world, NoSave}
 use Rattle.client.proofs.Days.{Fit}
 use Rattle.client.proofs.Claimed.{remembered, claim-behind}
 use Rattle.client.proofs.Saves.{first-there}
@@ -47,7 +47,7 @@ module _ (x : Day) (fresh : Bool) (ok : x .answer < 4294967296) (v : ℕ) (stamp
   calls-made = write (some v) block ∷ commit stamp ∷ []
 
   abbrev left-behind : World
-  left-behind = leftAs (day x (opening fresh ∷ calls-made))
+  left-behind = world (day x (opening fresh ∷ calls-made))
 
   pub whatever-reads : AllDone x (opening fresh ∷ calls-made) → AllAllowed left-behind since → NoSave left-behind since
       → (y : Day) (out : List ℕ) → y .answer < 4294967296 → Fit y → Alike (runs left-behind since .disc) (y .disc) → length (y .ledger) ≡ ledgerLength → length out ≡ sectorLength

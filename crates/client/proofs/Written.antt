@@ -14,21 +14,24 @@ use lib.Seq.{getD-set-same, drop-set-lt}
 use borrow.Author.Tests.{eq-eqb, ne-eqb, eqb-false, lt-ltb, lt-leb, le-leb}
 use Rattle.le.specs.Bytes.{every}
 use Rattle.le.proofs.Rows.{and-left, and-right}
-use Rattle.vat.specs.Table.{limit, unused, unusedOrBelow, isTable}
+use Rattle.vat.specs.Table.{limit, unused, unusedOrBelow}
 use Rattle.disc.specs.Disc.{Disc, Sector, link, recorded, kindAt, content, puts}
 use Rattle.disc.specs.Tables.{tableAt}
 use Rattle.disc.proofs.Recording.{Sound, leading-le}
+use Rattle.disc.proofs.Told.{data-there}
 use Rattle.disc.proofs.Found.{table-recorded}
+use Rattle.disc.proofs.Save.{NoTables}
 use Rattle.volume.specs.declared.Volume.{Volume}
 use Rattle.volume.specs.Volume.{ledgerLength, unpack, pack, mapOf, isUnused, fits, grown, entriesWith, sizeWith, wrote}
 use Rattle.volume.proofs.State.{Proper, length-pack, unpack-pack, proper-wrote, grownMap, map-wrote}
 use Rattle.recorder.specs.Calls.{write}
 use Rattle.recorder.specs.Refusals.{links, target, blockOf, notInUse, outcome}
 use Rattle.recorder.specs.Effects.{effect, After, after}
-use Rattle.recorder.proofs.Sectors.{links-whole, behind, length-behind, behind-whole}
+use Rattle.recorder.proofs.Sectors.{links-whole, behind, length-behind}
 use Rattle.recorder.proofs.Done.{Fits, links-few, Writable, size-fits, WriteDone, write-done}
 use Rattle.history.proofs.Log.{all-below-more, Extends}
-use Rattle.history.proofs.Growth.{F, data-there, all-below-of, all-below-to, NoTables, Grown, puts-plain, links-no-tables, behind-no-tables, behind-content, behind-counted}
+use Rattle.history.proofs.Growth.{F, all-below-of, all-below-to, Grown, links-no-tables, behind-content, behind-counted}
+use Rattle.history.proofs.Steps.{written-grown}
 
 -- ---- the ledger fits
 
@@ -130,9 +133,7 @@ module _ (d : Disc) (l : List ℕ) (good : Proper (unpack l)) (n : Option ℕ) (
       let room : recorded d + (length ss + 1) ≤ length (d .kinds) = omega (arith, count, f .room) in
       let no-links : NoTables (recorded d) ss = links-no-tables (links v) (recorded d) in
       let d′ : Disc = puts d (recorded d) (behind ss block) in
-      let g : Grown d d′ (length (behind ss block)) =
-      puts-plain (behind ss block) d ok (omega (arith, length-behind ss block)) (behind-whole ss block (links-whole (links v)) (f .block-long))
-      (behind-no-tables ss block (recorded d) no-links (subst (λ (b : ℕ). isTable 1 block b ≡ false) here (f .no-table))) in
+      let g : Grown d d′ (length (behind ss block)) = written-grown d l n block f in
       let small : target v < 400000 = write-small d l n block e in
       let fine : Proper (wrote n (target v) v) = proper-wrote v good n (target v) (f .fit .few) (omega arith) in
       let same : unpack (pack (wrote n (target v) v)) ≡ wrote n (target v) v = unpack-pack (wrote n (target v) v) fine in

@@ -19,6 +19,7 @@ use Rattle.history.specs.History.{History}
 use Rattle.history.specs.Events.{World, Event, runs, remembers}
 use Rattle.history.specs.Closed.{TurnedAway}
 use Rattle.archive.specs.Earlier.{Seen, showing}
+use Rattle.space.specs.Called.{worldOf}
 
 -- What the last call answered, outcome × 4,294,967,296 + second number; and the disc, the roles and the ledger as it left them.
 pub record Day : Type 0 where
@@ -140,9 +141,9 @@ pub record StoppedMarking (x : Day) (cs : List Call) (c : Call) (j : ℕ) (left 
 abbrev pub leftBy : Disc → Option (List ℕ) → List Event → Disc
 leftBy d held tried = runs (record { disc = d; ledger = held }) tried .disc
 
--- The disc and the ledger that a day leaves.
-abbrev pub leftAs : Day → World
-leftAs x = record { disc = x .disc; ledger = some (x .ledger) }
+-- The disc and the ledger that a day leaves, as events go on from them.
+abbrev pub world : Day → World
+world x = worldOf (record { disc = x .disc; roles = x .roles; ledger = x .ledger })
 
 -- Events that make no save: whatever the history was, its pages stay.
 abbrev pub NoSave : World → List Event → Type 0

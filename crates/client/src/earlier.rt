@@ -20,7 +20,7 @@ ghost use Rattle.history.specs.Events.{Event, AllAllowed, runs};
 ghost use Rattle.history.specs.Times.{savedStamp};
 ghost use Rattle.archive.specs.Earlier.{seenBack, showing};
 ghost use Rattle.alike.specs.Alike.{Alike};
-ghost use Rattle.client.specs.Day.{Day, ended, day, AllDone, opening, savesAmong, sectorsBehind, CutBehind, tableKept, readsOf, StoppedStoring, StoppedMarking, leftBy, leftAs, NoSave, ClosedAnswer, filling, storing, joinedBlocks};
+ghost use Rattle.client.specs.Day.{Day, ended, day, AllDone, opening, savesAmong, sectorsBehind, CutBehind, tableKept, readsOf, StoppedStoring, StoppedMarking, leftBy, world, NoSave, ClosedAnswer, filling, storing, joinedBlocks};
 
 // Whatever was done since a save of x, with k saves among it: k saves back, v reads x. Any 1,848 bytes will do as ledger, and
 // any bytes as roles, one a sector.
@@ -129,7 +129,7 @@ pub fn after_events(
     v: u32,
     out: &mut [u8],
 ) -> u64
-    ensures { λ r. ⌜ ((start : Day) (fresh : Bool) (stamp : Option (List ℕ)) (x : List ℕ) (since : List Event) → start .answer < 4294967296 → AllDone start (opening fresh ∷ write (some v) x ∷ commit stamp ∷ []) → AllAllowed (leftAs (day start (opening fresh ∷ write (some v) x ∷ commit stamp ∷ []))) since → NoSave (leftAs (day start (opening fresh ∷ write (some v) x ∷ commit stamp ∷ []))) since → Alike (runs (leftAs (day start (opening fresh ∷ write (some v) x ∷ commit stamp ∷ []))) since .disc) (lent (now (image .entry)) (now (kinds .entry))) → length (now (roles .entry)) ≡ length (now (kinds .entry)) → length (now (ledger .entry)) ≡ ledgerLength → length (now (out .entry)) ≡ sectorLength → (r ≡ 0) × (now (out .exit) ≡ x)) ⌝ }
+    ensures { λ r. ⌜ ((start : Day) (fresh : Bool) (stamp : Option (List ℕ)) (x : List ℕ) (since : List Event) → start .answer < 4294967296 → AllDone start (opening fresh ∷ write (some v) x ∷ commit stamp ∷ []) → AllAllowed (world (day start (opening fresh ∷ write (some v) x ∷ commit stamp ∷ []))) since → NoSave (world (day start (opening fresh ∷ write (some v) x ∷ commit stamp ∷ []))) since → Alike (runs (world (day start (opening fresh ∷ write (some v) x ∷ commit stamp ∷ []))) since .disc) (lent (now (image .entry)) (now (kinds .entry))) → length (now (roles .entry)) ≡ length (now (kinds .entry)) → length (now (ledger .entry)) ≡ ledgerLength → length (now (out .entry)) ≡ sectorLength → (r ≡ 0) × (now (out .exit) ≡ x)) ⌝ }
 {
     crate::show(image, kinds, roles, ledger, v, out)
 }

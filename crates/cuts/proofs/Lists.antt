@@ -9,7 +9,7 @@ use mathlib.Core.Option.{Option, none, some}
 use lib.Dec.{T, eqb}
 use lib.ListN.{length, getD}
 use Rattle.vat.specs.Table.{unused}
-use Rattle.vat.specs.Sector.{noStamp, sector}
+use Rattle.vat.specs.Sector.{noStamp, tableBytes, sector}
 use Rattle.disc.specs.Disc.{Disc, link, plain, torn, puts}
 use Rattle.volume.specs.Volume.{unpack}
 use Rattle.recorder.specs.Calls.{begin, mount, write, release, closePacket, commit, lookBack}
@@ -74,7 +74,7 @@ shown-before-the-first-table = tt
 
 -- a sector that was struck is unreadable, though its bytes are those of a table at its block
 unfoldable pub looks-like-a-table : List Event
-looks-like-a-table = calls (write (some 0) (block 5)) [] ∷ calls (commit none) [] ∷ cuts (commit none) [] 0 (some (sector [] 1 noStamp 2)) ∷ []
+looks-like-a-table = calls (write (some 0) (block 5)) [] ∷ calls (commit none) [] ∷ cuts (commit none) [] 0 (some (sector (tableBytes [] 1) noStamp 2)) ∷ []
 
 unfoldable pub struck-pages : List Snapshot
 struck-pages = (shows 0 (some (block 5)) ∷ []) ∷ []
@@ -106,7 +106,7 @@ shown-three-back = tt
 
 -- a mount on a disc whose block of number 0 cannot be read; then a save, and a write of that number that is cut
 unfoldable pub scratched : Disc
-scratched = puts (blank 21) 0 (torn (block 5) ∷ plain (block 6) ∷ plain (sector (0 ∷ 1 ∷ []) unused noStamp 2) ∷ [])
+scratched = puts (blank 21) 0 (torn (block 5) ∷ plain (block 6) ∷ plain (sector (tableBytes (0 ∷ 1 ∷ []) unused) noStamp 2) ∷ [])
 
 unfoldable pub on-scratched : List Event
 on-scratched = calls (write (some 2) (block 7)) [] ∷ calls (commit none) [] ∷ cuts (write (some 0) (block 8)) [] 1 none ∷ []

@@ -11,6 +11,7 @@ use Rattle.timestamp.proofs.Theorems.{starts, rises, utc-rises}
 use Rattle.timestamp.proofs.Stamps as stamps
 use Rattle.vat.proofs.Theorems as tables
 use Rattle.anchor.proofs.Theorems as pointers
+use Rattle.disc.proofs.Told.{other-kind}
 use Rattle.volume.proofs.State.{unpack-pack, pack-unpack}
 use Rattle.recorder.proofs.Answers.{done-small}
 use Rattle.run.proofs.Theorems as runs
@@ -39,7 +40,7 @@ delivered =
       answers = done-small;
       reads-back = tables.reads-back;
       tells = tables.tells;
-      of-kind-1 = tables.of-kind-1;
+      of-kind-1 = other-kind;
       at-one-block = tables.at-one-block;
       not-elsewhere = tables.not-elsewhere;
       unused-at-block-0 = tables.all-unused-at-zero;

@@ -17,12 +17,13 @@ use Rattle.timestamp.specs.declared.Moment.{Moment}
 use Rattle.timestamp.specs.Calendar.{moment, real, minutesBefore, nextMinute}
 use Rattle.timestamp.specs.Timestamp.{stampLength, valid, zoneOf, notGiven, marked, minutesOf, utcMinutes, told}
 use Rattle.timestamp.proofs.Theorems.{Risen}
-use Rattle.vat.specs.Table.{sectorLength, limit, unused, entryCount, entriesOf, previousOf, unusedOrBelow, isTable}
-use Rattle.vat.specs.Sector.{sector}
+use Rattle.vat.specs.Table.{sectorLength, limit, unused, unusedOrBelow, Lower, tableOf, entryCount, entriesOf, previousOf, isTable}
+use Rattle.vat.specs.Sector.{tableBytes, sector}
 use Rattle.vat.proofs.Theorems.{Tells, ReadsBack}
 use Rattle.extent.specs.declared.Extent.{Extent}
 use Rattle.anchor.specs.Anchor.{farthestStart, anchor, anchorTagged}
-use Rattle.disc.specs.Disc.{Disc}
+use Rattle.disc.specs.Disc.{Disc, kindAt}
+use Rattle.disc.specs.Tables.{tableAt}
 use Rattle.volume.specs.declared.Volume.{Volume}
 use Rattle.volume.specs.Volume.{ledgerLength, unpack, pack}
 use Rattle.volume.proofs.State.{Proper}
@@ -56,15 +57,16 @@ pub record Delivery : Type 0 where
       → afterRoles d roles l c ≡ leftRoles (suc n * 4294967296) (d .image) (d .kinds) roles l (bufferOf c)
   pub answers : (d : Disc) (l : List ℕ) (c : Call) → outcome d l c ≡ 0 → after d l c .answer < 4294967296
   -- Demand 2: "Every map of up to 458 numbers, once recorded, reads back as that map."
-  pub reads-back : (map : List ℕ) (previous : ℕ) (stamp : List ℕ) (b : ℕ) → length map ≤ limit → every (unusedOrBelow b) map ≡ true → unusedOrBelow b previous ≡ true
-      → length stamp ≡ stampLength → b < 4294967296 → ReadsBack map previous stamp b
+  pub reads-back : (lower : Lower) (map : List ℕ) (previous : ℕ) (stamp : List ℕ) (b : ℕ) → length map ≤ limit → every (unusedOrBelow b) map ≡ true → unusedOrBelow b previous ≡ true
+      → length stamp ≡ stampLength → b < 4294967296 → ReadsBack lower map previous stamp b
   -- "Every table sector is read as the map it holds, and no other sector is taken for one."
-  pub tells : (kind : ℕ) (s : List ℕ) (b : ℕ) → isTable kind s b ≡ true → Tells s b
-  pub of-kind-1 : (kind : ℕ) (s : List ℕ) (b : ℕ) → (kind ≡ 1 → ⊥) → isTable kind s b ≡ false
-  pub at-one-block : (kind kind′ : ℕ) (s : List ℕ) (b b′ : ℕ) → isTable kind s b ≡ true → isTable kind′ s b′ ≡ true → b ≡ b′
+  pub tells : (lower : Lower) (s : List ℕ) (b : ℕ) → isTable lower s b ≡ true → Tells lower s b
+  pub of-kind-1 : (d : Disc) (b : ℕ) → (kindAt d b ≡ 1 → ⊥) → tableAt d b ≡ false
+  pub at-one-block : (lower lower′ : Lower) (s : List ℕ) (b b′ : ℕ) → isTable lower s b ≡ true → isTable lower′ s b′ ≡ true → b ≡ b′
   pub not-elsewhere : (map : List ℕ) (previous : ℕ) (stamp : List ℕ) (b : ℕ) → length map ≤ limit → length stamp ≡ stampLength → b < 4294967296
-      → (kind b′ : ℕ) → (b′ ≡ b → ⊥) → isTable kind (sector map previous stamp b) b′ ≡ false
-  pub unused-at-block-0 : (kind : ℕ) (s : List ℕ) → isTable kind s 0 ≡ true → ((i : ℕ) → i < entryCount s → getD (entriesOf s) i 0 ≡ unused) × (previousOf s ≡ unused)
+      → (lower : Lower) (b′ : ℕ) → (b′ ≡ b → ⊥) → isTable lower (sector (tableBytes map previous) stamp b) b′ ≡ false
+  pub unused-at-block-0 : (lower : Lower) (s : List ℕ) → isTable lower s 0 ≡ true
+      → let t : List ℕ = tableOf lower s in ((i : ℕ) → i < entryCount t → getD (entriesOf t) i 0 ≡ unused) × (previousOf t ≡ unused)
   -- Demand 3, which document 01 states as the book.
   pub power-cuts : PowerCuts
   -- "A save is one finished table sector", and a mount on what it leaves shows it.
@@ -97,10 +99,10 @@ pub record Delivery : Type 0 where
   -- R-4 changes no answer: that its table has the CRC of each byte is what `crc::by_table` shows of it.
 
   -- R-5: what a closing records before its table, and closed discs.
-  pub tagged-anchor : (main reserve : Extent) (location : ℕ) → location < 4294967296 → (b : ℕ) → b ≤ location → location ≤ b + farthestStart
-      → anchorTagged (anchor main reserve location) b ≡ true
-  pub anchor-no-table : (main reserve : Extent) (location kind b : ℕ) → isTable kind (anchor main reserve location) b ≡ false
-  pub zeros-no-table : (kind b : ℕ) → isTable kind (replicate sectorLength 0) b ≡ false
+  pub tagged-anchor : (version : ℕ) (main reserve : Extent) (location : ℕ) → location < 4294967296 → (b : ℕ) → b ≤ location → location ≤ b + farthestStart
+      → anchorTagged (anchor version main reserve location) b ≡ true
+  pub anchor-no-table : (version : ℕ) (main reserve : Extent) (location : ℕ) (lower : Lower) (b : ℕ) → isTable lower (anchor version main reserve location) b ≡ false
+  pub zeros-no-table : (lower : Lower) (b : ℕ) → isTable lower (replicate sectorLength 0) b ≡ false
   pub closed-discs : ClosedDiscs
   pub closing-rows : T (all-right closings)
   -- R-6: "an ordinary file entry", recorded and recognised.

@@ -13,22 +13,23 @@ use lib.ListN.{length, getD, take, drop, length-drop}
 use lib.Seq.{length-take-le, drop-drop}
 use borrow.Author.Tests.{eqb-true, eqb-false, eq-eqb, ne-eqb, ltb-true, ltb-false}
 use Rattle.le.specs.Bytes.{every}
-use Rattle.le.specs.Field.{readLe, holds, words}
+use Rattle.le.specs.Field.{readLe, words}
 use Rattle.le.proofs.Bytes.{part-take}
 use Rattle.le.proofs.Runs.{words-none, words-step}
 use Rattle.timestamp.specs.Timestamp.{stampLength}
 use Rattle.tag.specs.Tag.{sealed}
-use Rattle.vat.specs.Table.{sectorLength, unused, plainRows, unusedOrBelow, entriesOf, modifiedAt, modifiedOf, framed, isTable}
-use Rattle.vat.proofs.Theorems.{recognised, of-kind-1}
+use Rattle.vat.specs.Table.{sectorLength, limit, unused, unusedOrBelow, Lower, wholeLength, framed, modifiedAt, modifiedOf, tableOf, entryCount, entriesOf, enclosed, listed, isTable}
+use Rattle.vat.proofs.Frame.{untagged-frame, table-short, few-entries}
 use Rattle.disc.specs.declared.Walk.{Walk}
 use Rattle.disc.specs.declared.Walk.the-variants.{Reached, Broken, Ended}
 use Rattle.disc.specs.Disc.{Disc, recorded, kindAt, sectorAt}
-use Rattle.disc.specs.Tables.{tableAt, timeAt, found, newestBelow, newest, stepped, walk}
+use Rattle.disc.specs.Tables.{below, tableAt, bytesAt, timeAt, found, newestBelow, newest, stepped, walk}
 use Rattle.disc.proofs.Order.{and-false}
+use Rattle.disc.proofs.Told.{data-kind, other-kind}
 use Rattle.disc.proofs.Recording.{Sized, Sound, blank-kind, kind-recorded}
 
 pub table-recorded : (d : Disc) → Sound d → (b : ℕ) → tableAt d b ≡ true → b < recorded d
-table-recorded d ok b e = kind-recorded d ok b (λ z. let one : kindAt d b ≡ 1 = recognised (kindAt d b) (sectorAt d b) b e .data-kind in omega arith)
+table-recorded d ok b e = kind-recorded d ok b (λ z. let one : kindAt d b ≡ 1 = data-kind d b e in omega arith)
 
 pub newest-table : (table : ℕ → Bool) (n b : ℕ) → newestBelow table n ≡ some b → table b ≡ true
 unfolding newestBelow
@@ -66,8 +67,7 @@ newest-ends table (suc n) b high low = go (table n) refl high (newest-ends table
 
 -- none stands behind what is recorded, nor behind the newest
 pub none-recorded : (d : Disc) → Sound d → (b : ℕ) → recorded d ≤ b → tableAt d b ≡ false
-none-recorded d ok b h =
-    of-kind-1 (kindAt d b) (sectorAt d b) b (λ one. let none : kindAt d b ≡ 0 = blank-kind (d .kinds) (recorded d) b (ok .blank) h in omega arith)
+none-recorded d ok b h = other-kind d b (λ one. let none : kindAt d b ≡ 0 = blank-kind (d .kinds) (recorded d) b (ok .blank) h in omega arith)
 
 pub none-newer : (d : Disc) → Sound d → (b : ℕ) → endOf (newest d) ≤ b → tableAt d b ≡ false
 none-newer d ok b h = go (ltb b (recorded d)) refl
@@ -98,28 +98,37 @@ part-sector d b =
 -- the modification time of a sector, as a part of the image
 pub part-time : (d : Disc) (b : ℕ)
     → take ((sectorLength * b + modifiedAt + stampLength) - (sectorLength * b + modifiedAt)) (drop (sectorLength * b + modifiedAt) (d .image)) ≡ timeAt d b
-unfolding sectorAt modifiedOf
+unfolding timeAt sectorAt modifiedOf
 part-time d b =
     let at : ℕ = sectorLength * b in
     let long : (at + modifiedAt + stampLength) - (at + modifiedAt) ≡ stampLength = omega arith in
     ap₂ (λ (k : ℕ) (l : List ℕ). take k l) long (sym (drop-drop modifiedAt at (d .image)))
     ∙ sym (part-take sectorLength modifiedAt stampLength (drop at (d .image)) (lit≤ tt))
 
-pub length-time : (d : Disc) (b : ℕ) → sectorLength * b + sectorLength ≤ length (d .image) → length (timeAt d b) ≡ stampLength
-unfolding sectorAt modifiedOf
-length-time d b h =
-    let sector : List ℕ = take sectorLength (drop (sectorLength * b) (d .image)) in
-    let long : length sector ≡ sectorLength = length-take-le sectorLength (drop (sectorLength * b) (d .image)) (rw (length-drop (sectorLength * b) (d .image)) (omega arith)) in
-    length-take-le stampLength (drop modifiedAt sector) (rw (length-drop modifiedAt sector, long) (lit≤ tt))
-
 -- its bytes lie within the image
 pub sector-end : (d : Disc) → Sized d → (b : ℕ) → b < length (d .kinds) → sectorLength * b + sectorLength ≤ length (d .image)
 sector-end d ok b h = omega (arith, ok .whole)
 
-pub sector-long : (d : Disc) → Sized d → (b : ℕ) → b < length (d .kinds) → length (sectorAt d b) ≡ sectorLength
+pub sector-there : (d : Disc) (b : ℕ) → sectorLength * b + sectorLength ≤ length (d .image) → length (sectorAt d b) ≡ sectorLength
 unfolding sectorAt
-sector-long d ok b h =
-    length-take-le sectorLength (drop (sectorLength * b) (d .image)) (rw (length-drop (sectorLength * b) (d .image)) (omega (arith, sector-end d ok b h)))
+sector-there d b h = length-take-le sectorLength (drop (sectorLength * b) (d .image)) (rw (length-drop (sectorLength * b) (d .image)) (omega arith))
+
+pub sector-long : (d : Disc) → Sized d → (b : ℕ) → b < length (d .kinds) → length (sectorAt d b) ≡ sectorLength
+sector-long d ok b h = sector-there d b (sector-end d ok b h)
+
+pub length-time : (d : Disc) (b : ℕ) → sectorLength * b + sectorLength ≤ length (d .image) → length (timeAt d b) ≡ stampLength
+unfolding timeAt modifiedOf
+length-time d b h =
+    let sector : List ℕ = sectorAt d b in
+    length-take-le stampLength (drop modifiedAt sector) (rw (length-drop modifiedAt sector, sector-there d b h) (lit≤ tt))
+
+-- the bytes of a table that ends before its sector does
+pub bytes-fit : (d : Disc) (b : ℕ) → sectorLength * b + sectorLength ≤ length (d .image) → wholeLength (sectorAt d b) < sectorLength
+    → (length (bytesAt d b) < sectorLength) × (entryCount (bytesAt d b) ≤ limit)
+unfolding bytesAt
+bytes-fit d b inside ends =
+    let whole : length (sectorAt d b) ≡ sectorLength = sector-there d b inside in
+    (table-short (below d b) (sectorAt d b) whole ends, few-entries (below d b) (sectorAt d b) whole ends)
 
 -- ---- whether it is a table sector
 
@@ -129,8 +138,7 @@ beyond-kind (k ∷ ks) zero h = absurd (not-suc-le-zero h)
 beyond-kind (k ∷ ks) (suc b) h = beyond-kind ks b (le-of-suc-le-suc h)
 
 pub table-beyond : (d : Disc) (b : ℕ) → length (d .kinds) ≤ b → tableAt d b ≡ false
-unfolding isTable
-table-beyond d b h = rw (beyond-kind (d .kinds) b h)
+table-beyond d b h = other-kind d b (λ one. let none : kindAt d b ≡ 0 = beyond-kind (d .kinds) b h in omega arith)
 
 pub table-within : (d : Disc) (b : ℕ) → tableAt d b ≡ true → b < length (d .kinds)
 table-within d b e = go (ltb b (length (d .kinds))) refl
@@ -139,33 +147,41 @@ table-within d b e = go (ltb b (length (d .kinds))) refl
     go true h = ltb-true b (length (d .kinds)) h
     go false h = absurd (mathlib.Core.Bool.true≢false (sym e ∙ table-beyond d b (ltb-false b (length (d .kinds)) h)))
 
-module _ (kind : ℕ) (s : List ℕ) (b : ℕ) where
-  pub other-kind : (kind ≡ 1 → ⊥) → isTable kind s b ≡ false
-  unfolding isTable
-  other-kind h = rw (ne-eqb kind 1 h)
+module _ (lower : Lower) (s : List ℕ) (b : ℕ) where
+  abbrev T : List ℕ
+  T = tableOf lower s
 
-  pub not-framed : framed s b ≡ false → isTable kind s b ≡ false
+  pub not-framed : framed s b ≡ false → isTable lower s b ≡ false
   unfolding isTable
   not-framed e =
-      let rest : Bool = every (unusedOrBelow b) (entriesOf s) && sealed s in
-      let f : Bool = framed s b in
-      and-false (eqb kind 1) (eqb (length s) sectorLength && (f && rest)) (and-false (eqb (length s) sectorLength) (f && rest) (ap (λ (t : Bool). t && rest) e))
+      let rest : Bool = listed T b && sealed s in
+      and-false (eqb (length s) sectorLength) (framed s b && rest) (ap (λ (t : Bool). t && rest) e)
 
-  pub untagged : eqb (readLe 2 s 0) 261 ≡ false → isTable kind s b ≡ false
-  unfolding framed holds plainRows
-  untagged e = not-framed (rw e)
+  pub untagged : eqb (readLe 2 s 0) 261 ≡ false → isTable lower s b ≡ false
+  untagged e = not-framed (untagged-frame s b e)
 
-  pub not-held : every (unusedOrBelow b) (entriesOf s) ≡ false → isTable kind s b ≡ false
+  not-listed : listed T b ≡ false → isTable lower s b ≡ false
   unfolding isTable
-  not-held e =
-      let held : Bool = every (unusedOrBelow b) (entriesOf s) in
+  not-listed e =
+      let l : Bool = listed T b in
       let f : Bool = framed s b in
-      and-false (eqb kind 1) (eqb (length s) sectorLength && (f && (held && sealed s)))
-      (and-false (eqb (length s) sectorLength) (f && (held && sealed s)) (and-false f (held && sealed s) (ap (λ (t : Bool). t && sealed s) e)))
+      and-false (eqb (length s) sectorLength) (f && (l && sealed s)) (and-false f (l && sealed s) (ap (λ (t : Bool). t && sealed s) e))
 
-  pub all-but-sums : kind ≡ 1 → length s ≡ sectorLength → framed s b ≡ true → every (unusedOrBelow b) (entriesOf s) ≡ true → isTable kind s b ≡ sealed s
+  pub not-enclosed : enclosed T b ≡ false → isTable lower s b ≡ false
+  unfolding listed
+  not-enclosed e = not-listed (ap (λ (t : Bool). t && every (unusedOrBelow b) (entriesOf T)) e)
+
+  pub not-held : every (unusedOrBelow b) (entriesOf T) ≡ false → isTable lower s b ≡ false
+  unfolding listed
+  not-held e = not-listed (and-false (enclosed T b) (every (unusedOrBelow b) (entriesOf T)) e)
+
+  pub all-but-sums : length s ≡ sectorLength → framed s b ≡ true → enclosed T b ≡ true → every (unusedOrBelow b) (entriesOf T) ≡ true → isTable lower s b ≡ sealed s
+  unfolding isTable listed
+  all-but-sums l f n e = rw (eq-eqb (length s) sectorLength l, f, n, e)
+
+  pub sector-held : length s ≡ sectorLength → isTable lower s b ≡ (framed s b && (listed T b && sealed s))
   unfolding isTable
-  all-but-sums k l f e = rw (eq-eqb kind 1 k, eq-eqb (length s) sectorLength l, f, e)
+  sector-held l = rw (eq-eqb (length s) sectorLength l)
 
 -- ---- its entries, group by group
 
@@ -184,14 +200,14 @@ group-taken f (suc k) m s at =
     ∙ ap (λ (n : ℕ). every f (words n s at)) (sym (suc-add k m))
 
 module _ (f : ℕ → Bool) (k left : ℕ) (s : List ℕ) (at : ℕ) (h : k ≤ left) where
-  both : (every f (words k s at) && every f (words (left - k) s (at + 4 * k))) ≡ every f (words left s at)
-  both = let all : k + (left - k) ≡ left = omega arith in group-taken f k (left - k) s at ∙ ap (λ (n : ℕ). every f (words n s at)) all
+  pub groups-held : (every f (words k s at) && every f (words (left - k) s (at + 4 * k))) ≡ every f (words left s at)
+  groups-held = let all : k + (left - k) ≡ left = omega arith in group-taken f k (left - k) s at ∙ ap (λ (n : ℕ). every f (words n s at)) all
 
   pub group-fails : every f (words k s at) ≡ false → every f (words left s at) ≡ false
-  group-fails e = sym both ∙ ap (λ (t : Bool). t && every f (words (left - k) s (at + 4 * k))) e
+  group-fails e = sym groups-held ∙ ap (λ (t : Bool). t && every f (words (left - k) s (at + 4 * k))) e
 
   pub group-passes : every f (words k s at) ≡ true → every f (words (left - k) s (at + 4 * k)) ≡ every f (words left s at)
-  group-passes e = ap (λ (t : Bool). t && every f (words (left - k) s (at + 4 * k))) (sym e) ∙ both
+  group-passes e = ap (λ (t : Bool). t && every f (words (left - k) s (at + 4 * k))) (sym e) ∙ groups-held
 
 pub words-passed : (f : ℕ → Bool) (left : ℕ) (s : List ℕ) (at : ℕ) → left ≡ 0 → every f (words left s at) ≡ true
 unfolding every

@@ -1,6 +1,6 @@
 -- The kinds in order: what one kind tells of where the blank sectors begin, and that both sides of that place tell whether the kinds are in order.
 -- Assumes nothing.
-use Prim.Native.Nat.{ℕ, zero, suc, _+_, _≤_, _<_}
+use Prim.Native.Nat.{ℕ, zero, suc, _+_, _-_, _≤_, _<_}
 use native.Mathlib.Nat.{not-suc-le-zero, le-of-suc-le-suc, add-zero}
 use native.Mathlib.Numerals.{add-one}
 use native.Mathlib.Omega.{arith}
@@ -10,7 +10,7 @@ use mathlib.Core.List.{List, [], _∷_}
 use lib.Dec.{eqb, ltb, leb}
 use lib.ListN.{length, getD, take, drop, drop-of-length-le}
 use lib.Seq.{drop-cons, getD-take, length-take-le}
-use borrow.Author.Tests.{eq-eqb, ne-eqb, eqb-true, eqb-false, ltb-true, ltb-false, lt-ltb, le-leb}
+use borrow.Author.Tests.{eq-eqb, ne-eqb, eqb-true, eqb-false, ltb-true, ltb-false, lt-ltb, le-ltb, le-leb, leb-true, leb-false}
 use Rattle.le.specs.Bytes.{every}
 use Rattle.le.proofs.Rows.{and-left, and-right}
 use Rattle.disc.specs.Disc.{counted, leading, inOrder}
@@ -35,6 +35,10 @@ same-bool false false f g = refl
 
 -- ---- one kind
 
+positive : (x : ℕ) → (x ≡ 0 → ⊥) → 0 < x
+positive zero h = absurd (h refl)
+positive (suc x) h = omega arith
+
 pub leading-at-blank : (ks : List ℕ) (i : ℕ) → getD ks i 0 ≡ 0 → leading ks ≤ i
 unfolding leading
 leading-at-blank [] i e = omega arith
@@ -54,6 +58,14 @@ leading-past-recorded ks i e nz = go (ltb i (leading ks)) refl
     go false h =
         absurd (nz (blank-kind ks (leading ks) i (and-right (every (λ k. leb k 3) ks) (blankFrom ks (leading ks)) e) (ltb-false i (leading ks) h)))
 
+-- one less than a recorded kind is below 3 exactly if the kind is known
+pub lowered-known : (k : ℕ) → (k ≡ 0 → ⊥) → ltb (k - 1) 3 ≡ (ltb 0 k && leb k 3)
+lowered-known k nz = rw (lt-ltb 0 k (positive k nz)) (go (leb k 3) refl)
+  where
+    go : (t : Bool) → leb k 3 ≡ t → ltb (k - 1) 3 ≡ leb k 3
+    go true e = lt-ltb (k - 1) 3 (let le = leb-true k 3 e in let p = positive k nz in omega (arith, le, p)) ∙ sym e
+    go false e = le-ltb (k - 1) 3 (let lt = leb-false k 3 e in omega (arith, lt)) ∙ sym e
+
 -- ---- one kind after another
 
 pub kind-taken : (f : ℕ → Bool) (ks : List ℕ) (i : ℕ) (found : Bool) → i < length ks → ((found && f (getD ks i 0)) && every f (drop (i + 1) ks)) ≡ (found && every f (drop i ks))
@@ -62,15 +74,6 @@ kind-taken f ks i found h =
     rw (drop-cons ks i 0 h, add-one i) (and-assoc found (f (getD ks i 0)) (every f (drop (suc i) ks)))
 
 -- ---- both halves at once
-
-crossed : (a b c d : Bool) → ((a && b) && (c && d)) ≡ ((a && c) && (b && d))
-crossed false b c d = refl
-crossed true false c d = sym (and-false c false refl)
-crossed true true c d = refl
-
--- the least and the largest so far, with two kinds more
-pub bounds-taken : (L M lx ly mx my : Bool) → ((L && (lx && ly)) && (M && (mx && my))) ≡ ((L && M) && ((lx && mx) && (ly && my)))
-bounds-taken L M lx ly mx my = crossed L (lx && ly) M (mx && my) ∙ ap (λ (t : Bool). (L && M) && t) (crossed lx ly mx my)
 
 -- what is left of both halves from turn i on
 abbrev pub leftOf : (ℕ → Bool) → List ℕ → ℕ → ℕ → ℕ → Bool → Bool
@@ -181,10 +184,6 @@ sides-leading (k ∷ ks) (suc r) h p q =
     let f : (0 < k) × (leb k 3 ≡ true) × (recordedTo ks r ≡ true) = first-recorded k (recordedTo ks r) p in
     let nz : eqb k 0 ≡ false = ne-eqb k 0 (λ z. omega (arith, f .0)) in
     rw nz (ap suc (sides-leading ks r (le-of-suc-le-suc h) (f .2) q))
-
-positive : (x : ℕ) → (x ≡ 0 → ⊥) → 0 < x
-positive zero h = absurd (h refl)
-positive (suc x) h = omega arith
 
 -- known kinds are recorded ones up to the first blank one
 recorded-leading : (ks : List ℕ) → every (λ k. leb k 3) ks ≡ true → recordedTo ks (leading ks) ≡ true

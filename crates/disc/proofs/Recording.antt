@@ -2,7 +2,7 @@
 -- one stays.
 -- Assumes nothing.
 use Prim.Native.Nat.{ℕ, zero, suc, _+_, _-_, _*_, _≤_, _<_}
-use native.Mathlib.Nat.{not-suc-le-zero, le-of-suc-le-suc, add-zero}
+use native.Mathlib.Nat.{not-suc-le-zero, le-of-suc-le-suc, le-refl, add-zero}
 use native.Mathlib.Omega.{arith}
 use mathlib.Core.Path.{_≡_, refl, sym, ap, _∙_}
 use mathlib.Core.Bool.{Bool, true, false, _&&_}
@@ -14,7 +14,7 @@ use borrow.Author.Tests.{eq-eqb, ne-eqb, eqb-true, ltb-true, ltb-false, leb-true
 use Rattle.le.specs.Bytes.{every}
 use Rattle.le.proofs.Rows.{and-left, and-right}
 use Rattle.vat.specs.Table.{sectorLength}
-use Rattle.disc.specs.Disc.{Disc, lent, mostSectors, sized, counted, leading, recorded, inOrder, kindAt, sectorAt, Sector, link, plain, torn, stored, put, puts}
+use Rattle.disc.specs.Disc.{Disc, lent, mostSectors, sized, counted, leading, recorded, inOrder, kindAt, sectorAt, readable, content, Sector, link, plain, torn, stored, put, puts}
 
 -- ---- the kinds
 
@@ -165,6 +165,19 @@ Whole link = Unit
 Whole (plain s) = length s ≡ sectorLength
 Whole (torn s) = length s ≡ sectorLength
 
+abbrev pub AllWhole : List Sector → Type 0
+AllWhole [] = Unit
+AllWhole (s ∷ ss) = Whole s × AllWhole ss
+
+pub whole-append : (xs ys : List Sector) → AllWhole xs → AllWhole ys → AllWhole (xs ++ ys)
+whole-append [] ys a b = b
+whole-append (x ∷ xs) ys a b = (a .0, whole-append xs ys (a .1) b)
+
+pub whole-take : (j : ℕ) (ss : List Sector) → AllWhole ss → AllWhole (take j ss)
+whole-take zero ss a = tt
+whole-take (suc j) [] a = tt
+whole-take (suc j) (s ∷ ss) a = (a .0, whole-take j ss (a .1))
+
 pub record Recorded (d d′ : Disc) (s : Sector) : Type 0 where
   pub still-sound : Sound d′
   pub same-length : length (d′ .kinds) ≡ length (d .kinds)
@@ -271,3 +284,18 @@ kind-recorded d ok b nz = go (ltb b (recorded d)) refl
     go : (t : Bool) → ltb b (recorded d) ≡ t → b < recorded d
     go true e = ltb-true b (recorded d) e
     go false e = absurd (nz (blank-kind (d .kinds) (recorded d) b (ok .blank) (ltb-false b (recorded d) e)))
+
+-- links read as the blank sectors did: nothing that can be read changes
+link-kind : (ks : List ℕ) (r c : ℕ) → getD ks r 0 ≡ 0 → eqb (getD (set ks r 2) c 0) 1 ≡ eqb (getD ks c 0) 1
+link-kind [] r c e = refl
+link-kind (k ∷ ks) zero zero e = ap (λ (n : ℕ). eqb n 1) (sym e)
+link-kind (k ∷ ks) zero (suc c) e = refl
+link-kind (k ∷ ks) (suc r) zero e = refl
+link-kind (k ∷ ks) (suc r) (suc c) e = link-kind ks r c e
+
+pub links-contents : (n : ℕ) (d : Disc) (r : ℕ) → ((b : ℕ) → r ≤ b → kindAt d b ≡ 0) → (c : ℕ) → content (puts d r (replicate n link)) c ≡ content d c
+unfolding puts content sectorAt
+links-contents zero d r blank c = refl
+links-contents (suc n) d r blank c =
+    links-contents n (put d r link) (r + 1) (λ b h. getD-set-other (d .kinds) r b 2 0 (omega arith) ∙ blank b (omega arith)) c
+    ∙ ap (λ (t : Bool). readable t (sectorAt d c)) (link-kind (d .kinds) r c (blank r (le-refl r)))

@@ -1,3 +1,5 @@
 pub mod Disc
 pub mod Tables
 pub mod Session
+pub mod Save
+pub mod Again

@@ -6,7 +6,7 @@ use mathlib.Core.List.{List, _∷_}
 use lib.Dec.{eqb, leb}
 use lib.ListN.{take, drop, replicate}
 use Rattle.le.specs.Bytes.{every}
-use Rattle.vat.specs.Table.{sectorLength}
+use Rattle.vat.specs.Table.{sectorLength, tagVersion}
 use Rattle.extent.specs.declared.Extent.{Extent}
 use Rattle.anchor.specs.Anchor.{anchor, anchorTagged}
 use Rattle.disc.specs.Disc.{Disc, recorded, sectorAt, Sector, plain}
@@ -21,7 +21,7 @@ zeroSector = plain (replicate sectorLength 0)
 
 -- "an Anchor Volume Descriptor Pointer, 255 zero sectors", from block b on: "the pointer's tag location is that start plus its block".
 unfoldable pub closing : Extent → Extent → ℕ → ℕ → List Sector
-closing main reserve start b = plain (anchor main reserve (start + b)) ∷ replicate zeroSectors zeroSector
+closing main reserve start b = plain (anchor tagVersion main reserve (start + b)) ∷ replicate zeroSectors zeroSector
 
 -- How many these are: "the 256 before it".
 abbrev pub closingLength : ℕ

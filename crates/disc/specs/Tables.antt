@@ -1,25 +1,32 @@
 -- The tables on a disc: the newest one, and the walk back from table to table.
 use Prim.Native.Nat.{ℕ, zero, suc}
-use mathlib.Core.Bool.{Bool, true, false}
+use mathlib.Core.Bool.{Bool, true, false, _&&_}
 use mathlib.Core.List.{List}
 use mathlib.Core.Option.{Option, none, some}
-use lib.Dec.{eqb}
-use Rattle.vat.specs.Table.{unused, entriesOf, previousOf, modifiedOf, isTable}
+use lib.Dec.{eqb, ltb}
+use Rattle.vat.specs.Table.{unused, Lower, modifiedOf, tableOf, entriesOf, previousOf, isTable}
 use Rattle.disc.specs.declared.Walk.{Walk}
 use Rattle.disc.specs.declared.Walk.the-variants.{Reached, Broken, Ended}
-use Rattle.disc.specs.Disc.{Disc, recorded, kindAt, sectorAt}
+use Rattle.disc.specs.Disc.{Disc, recorded, kindAt, sectorAt, readable}
 
--- The sector at block b is a table sector; its map, its previous table and its modification time.
-abbrev pub tableAt : Disc → ℕ → Bool
-tableAt d b = isTable (kindAt d b) (sectorAt d b) b
+-- What can be read below block b: the data of lower blocks.
+abbrev pub below : Disc → ℕ → Lower
+below d b c = readable (ltb c b && eqb (kindAt d c) 1) (sectorAt d c)
 
-abbrev pub mapAt : Disc → ℕ → List ℕ
-mapAt d b = entriesOf (sectorAt d b)
+-- A table stands at block b: its sector is of kind 1 and a table's. The table's bytes, its map, its previous table and its modification time.
+unfoldable pub tableAt : Disc → ℕ → Bool
+tableAt d b = eqb (kindAt d b) 1 && isTable (below d b) (sectorAt d b) b
 
-abbrev pub previousAt : Disc → ℕ → ℕ
-previousAt d b = previousOf (sectorAt d b)
+unfoldable pub bytesAt : Disc → ℕ → List ℕ
+bytesAt d b = tableOf (below d b) (sectorAt d b)
 
-abbrev pub timeAt : Disc → ℕ → List ℕ
+unfoldable pub mapAt : Disc → ℕ → List ℕ
+mapAt d b = entriesOf (bytesAt d b)
+
+unfoldable pub previousAt : Disc → ℕ → ℕ
+previousAt d b = previousOf (bytesAt d b)
+
+unfoldable pub timeAt : Disc → ℕ → List ℕ
 timeAt d b = modifiedOf (sectorAt d b)
 
 -- "starts at the last recorded sector and goes towards block 0. The first table sector met ends the search."

@@ -26,7 +26,7 @@ pub fn data(image: &mut [u8], kinds: &mut [u8], b: usize, block: &[u8])
     requires { ⌜ (length (now image) ≡ sectorLength * length (now kinds)) × (b < length (now kinds)) × (length (now block) ≡ sectorLength) ⌝ }
     ensures { λ _. ⌜ (now (image .exit) ≡ stored (now (image .entry)) (sectorLength * b) (now (block .entry))) × (now (kinds .exit) ≡ set (now (kinds .entry)) b 1) ⌝ }
 {
-    le::run::put_text(image, SECTOR * b, block);
+    le::run::put_block(image, SECTOR * b, block);
     kinds[b] = 1;
 }
 

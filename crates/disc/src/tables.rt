@@ -6,12 +6,12 @@ use vat::table::SECTOR;
 use vat::table::UNUSED;
 ghost use mathlib.Core.Path.{_≡_};
 ghost use mathlib.Core.Bool.{true};
-ghost use mathlib.Core.List.{[]};
-ghost use Prim.Native.Nat.{_+_, _*_, _≤_, _<_};
+ghost use mathlib.Core.List.{List, []};
+ghost use Prim.Native.Nat.{ℕ, _+_, _*_, _≤_, _<_};
 ghost use lib.ListN.{length};
-ghost use Rattle.disc.specs.Disc.{lent, sized};
-ghost use Rattle.vat.specs.Table.{sectorLength};
-ghost use Rattle.disc.specs.Tables.{tableAt, previousAt, timeAt, blockFound, newestBelow, walk};
+ghost use Rattle.disc.specs.Disc.{lent, sized, sectorAt};
+ghost use Rattle.vat.specs.Table.{sectorLength, wholeLength};
+ghost use Rattle.disc.specs.Tables.{tableAt, bytesAt, previousAt, timeAt, blockFound, newestBelow, walk};
 
 // A block beyond the disc is no table sector.
 pub fn table_at(image: &[u8], kinds: &[u8], b: u32) -> bool
@@ -22,9 +22,12 @@ pub fn table_at(image: &[u8], kinds: &[u8], b: u32) -> bool
     if kinds.len() <= place {
         return false;
     }
+    if kinds[place] != 1 {
+        return false;
+    }
     let at = SECTOR * place;
     let end = at + SECTOR;
-    vat::table::is_table(kinds[place], &image[at..end], b)
+    vat::table::is_table(&image[at..end], b)
 }
 
 // How many of the entries that are left are looked at together: within a group no test waits for another.
@@ -62,12 +65,15 @@ pub fn newest(image: &[u8], kinds: &[u8], recorded: u32) -> u32
         if !vat::table::framed(s, b) {
             continue 'scan;
         }
-        let n = vat::table::entry_count(s);
-        let first = vat::table::table_start(s);
+        let t = vat::table::table(s);
+        if !vat::table::enclosed(t, b) {
+            continue 'scan;
+        }
+        let n = vat::table::entry_count(t);
         let mut i = 0;
         while i < n {
             let count = group(n - i);
-            if !vat::table::words_held(s, first + 4 * (i as usize), count, b) {
+            if !vat::table::words_held(t, 4 * (i as usize), count, b) {
                 continue 'scan;
             }
             i += count;
@@ -79,14 +85,22 @@ pub fn newest(image: &[u8], kinds: &[u8], recorded: u32) -> u32
     found
 }
 
+// The bytes of the table at block b.
+pub fn bytes_at(image: &[u8], b: u32) -> &[u8]
+    requires { ⌜ (sectorLength * b + sectorLength ≤ length (now image)) × (wholeLength (sectorAt (lent (now image) []) b) < sectorLength) ⌝ }
+    ensures { λ r. ⌜ ((kinds : List ℕ) → now r ≡ bytesAt (lent (now (image .entry)) kinds) b) ⌝ }
+{
+    let at = SECTOR * (b as usize);
+    let end = at + SECTOR;
+    vat::table::table(&image[at..end])
+}
+
 // The previous table of the table at block b.
 fn step_back(image: &[u8], kinds: &[u8], b: u32) -> Walk
     requires { ⌜ (sized (lent (now image) (now kinds)) ≡ true) × (tableAt (lent (now image) (now kinds)) b ≡ true) ⌝ }
     ensures { λ r. ⌜ r ≡ walk (tableAt (lent (now (image .entry)) (now (kinds .entry)))) (previousAt (lent (now (image .entry)) (now (kinds .entry)))) 1 b ⌝ }
 {
-    let at = SECTOR * (b as usize);
-    let end = at + SECTOR;
-    let previous = vat::table::previous(&image[at..end]);
+    let previous = vat::table::previous(bytes_at(image, b));
     if previous == UNUSED {
         return Walk::Ended;
     }
@@ -118,7 +132,7 @@ pub fn walk_back(image: &[u8], kinds: &[u8], k: u32, b: u32) -> Walk
 // The modification time of the sector at block b.
 pub fn time_at(image: &[u8], b: u32) -> &[u8]
     requires { ⌜ sectorLength * b + sectorLength ≤ length (now image) ⌝ }
-    ensures { λ r. ⌜ now r ≡ timeAt (lent (now (image .entry)) []) b ⌝ }
+    ensures { λ r. ⌜ ((kinds : List ℕ) → now r ≡ timeAt (lent (now (image .entry)) kinds) b) ⌝ }
 {
     let at = SECTOR * (b as usize) + MODIFIED_AT;
     let end = at + STAMP;

@@ -95,8 +95,8 @@ module _ (image l : List ℕ) (n : ℕ) (enough : closingLength < n) (few : n �
   unfolding links begun
   no-links = rw (none-recorded n)
 
-  room : ltb (blanks d) (links (unpack m) + closingLength + 1) ≡ false
-  room = le-ltb (blanks d) (links (unpack m) + closingLength + 1) (omega (arith, ap links unpacked, no-links, none-recorded n, length-replicate {A = ℕ} n 0))
+  room : ltb (blanks d) (links (unpack m) + (closingLength + 1)) ≡ false
+  room = le-ltb (blanks d) (links (unpack m) + (closingLength + 1)) (omega (arith, ap links unpacked, no-links, none-recorded n, length-replicate {A = ℕ} n 0))
 
   closes : (main reserve : Extent) (start : ℕ) → start ≤ farthestStart → outcome d m (closeSession main reserve start) ≡ 0
   unfolding outcome tests
@@ -105,7 +105,7 @@ module _ (image l : List ℕ) (n : ℕ) (enough : closingLength < n) (few : n �
       let five : Bool = eqb (unpack m .mode) readOnly in
       let seventeen : Bool = sessionClosed d in
       let eighteen : Bool = ltb farthestStart start in
-      let fourteen : Bool = ltb (blanks d) (links (unpack m) + closingLength + 1) in
+      let fourteen : Bool = ltb (blanks d) (links (unpack m) + (closingLength + 1)) in
       let last : List Test = test 18 eighteen ∷ test 14 fourteen ∷ [] in
       skip-basic d (ledgerLent m) (gate d m ++ closingTests d (unpack m) start) sound-blank (eq-eqb (length m) ledgerLength (length-pack v begun-proper))
       ∙ skip 4 four (test 5 five ∷ test 17 seventeen ∷ last) (ap not (ap (fits d) unpacked ∙ begun-fits))

@@ -10,30 +10,34 @@ use mathlib.Core.List.{List, [], _∷_, _++_}
 use mathlib.Core.Logic.{inl, inr}
 use mathlib.Core.Option.{Option, some}
 use lib.Dec.{eqb}
-use lib.ListN.{length, take, drop, replicate, length-replicate}
+use lib.ListN.{length, take, drop, replicate, length-append, length-replicate}
 use lib.Seq.{drop-cons}
 use borrow.Author.Tests.{le-leb}
 use Rattle.le.specs.Bytes.{every}
 use Rattle.extent.specs.declared.Extent.{Extent}
+use Rattle.vat.specs.Sector.{noStamp, tableBytes}
+use Rattle.vat.specs.Table.{tagVersion}
 use Rattle.anchor.specs.Anchor.{anchor, anchorTagged}
 use Rattle.anchor.proofs.Theorems.{tagged-anchor}
 use Rattle.disc.specs.Disc.{Disc, sized, inOrder, recorded, kindAt, sectorAt, content, Sector, link, plain, torn, put, puts}
 use Rattle.disc.specs.Session.{zeroSectors, zeroSector, closing, closingLength, sessionClosed}
-use Rattle.disc.proofs.Recording.{Sound, Recorded, put-recorded, puts-append}
-use Rattle.volume.specs.Volume.{ledgerLength, readOnly, unpack, fits}
+use Rattle.disc.proofs.Recording.{Sound, AllWhole, whole-append, Recorded, put-recorded, puts-append}
+use Rattle.disc.proofs.Save.{NoTables, AllData, own-whole, own-data, own-no-tables, save-count, one-sector}
+use Rattle.volume.specs.Volume.{ledgerLength, readOnly, unpack, mapOf, fits}
 use Rattle.volume.proofs.State.{Proper}
 use Rattle.recorder.specs.Calls.{Call, begin, mount, write, release, closePacket, commit, closeSession, read, lookBack, timeOf, mayRecord}
 use Rattle.recorder.specs.Refusals.{Test, test, first, basic, gate, links, target, ledgerLent, blockLent, stampLent, writeTests, commitTests, closingTests, notInUse, tests, outcome}
 use Rattle.recorder.specs.Effects.{effect, after, sectorsOf}
 use Rattle.recorder.proofs.Done.{ClosingDone, closing-done}
-use Rattle.recorder.proofs.Sectors.{AllWhole, links-whole, closing-whole, length-closing}
+use Rattle.recorder.proofs.Sectors.{links-whole, closing-whole, length-closing}
 use Rattle.history.specs.History.{Snapshot, History, Fed, feed}
 use Rattle.history.specs.Events.{World, Event, calls, cuts, ledgerHeld, cutDisc, AllAllowed, next, fed, runs, remembers, afterCall, begunHistory, mountedHistory}
 use Rattle.history.specs.Claim.{DoneShowing, Mounts, Claim}
 use Rattle.history.specs.Closed.{ClosedShowing, Closes, TurnedAway, ClosedDiscs}
 use Rattle.history.proofs.Log.{none-some, Extends}
-use Rattle.history.proofs.Growth.{F, data-there, data-within, plain-content, NoTables, Grown, puts-plain, links-no-tables, closing-no-tables, behind-counted, behind-extends}
-use Rattle.history.proofs.Saving.{Saving, closing-saving, tableSector, beforeTable, length-before, before-whole, before-no-tables, room, sector-long, savedDisc, save}
+use Rattle.disc.proofs.Told.{data-there}
+use Rattle.history.proofs.Growth.{F, data-within, plain-content, Grown, puts-plain, links-no-tables, no-tables-append, closing-no-tables, behind-counted, behind-extends}
+use Rattle.history.proofs.Saving.{Saving, closing-saving, own, tableSector, beforeTable, length-before, before-whole, before-no-tables, room, sector-long, savedDisc, save}
 use Rattle.history.proofs.Steps.{done-fed, refused-records-none, records-nothing}
 use Rattle.history.proofs.Recorded.{after-disc, cut-nothing}
 use Rattle.history.proofs.Blank.{closes-blank}
@@ -47,12 +51,6 @@ Stands d b (link ∷ ss) = ⊥
 Stands d b (plain s ∷ ss) = (content d b ≡ some s) × Stands d (suc b) ss
 Stands d b (torn s ∷ ss) = ⊥
 
-abbrev AllData : List Sector → Type 0
-AllData [] = Unit
-AllData (link ∷ ss) = ⊥
-AllData (plain s ∷ ss) = AllData ss
-AllData (torn s ∷ ss) = ⊥
-
 zeros-data : (n : ℕ) → AllData (replicate n zeroSector)
 zeros-data zero = tt
 zeros-data (suc n) = zeros-data n
@@ -60,6 +58,12 @@ zeros-data (suc n) = zeros-data n
 closing-data : (main reserve : Extent) (start b : ℕ) → AllData (closing main reserve start b)
 unfolding closing
 closing-data main reserve start b = zeros-data zeroSectors
+
+data-append : (xs ys : List Sector) → AllData xs → AllData ys → AllData (xs ++ ys)
+data-append [] ys p q = q
+data-append (link ∷ xs) ys p q = absurd p
+data-append (torn s ∷ xs) ys p q = absurd p
+data-append (plain s ∷ xs) ys p q = data-append xs ys p q
 
 stand : (ss : List Sector) (d : Disc) → Sound d → recorded d + length ss ≤ length (d .kinds) → AllWhole ss → AllData ss → NoTables (recorded d) ss → Stands (puts d (recorded d) ss) (recorded d) ss
 unfolding puts
@@ -92,9 +96,10 @@ kinds-of (plain t ∷ ss) d b s =
     let is : kindAt d b ≡ 1 = data-there d b t (s .0) .0 in
     rw (drop-cons (d .kinds) b 0 (data-within (d .kinds) b is), is) (kinds-of ss d (suc b) (s .1))
 
-first-of : (main reserve : Extent) (start b : ℕ) (d : Disc) (at : ℕ) → Stands d at (closing main reserve start b) → content d at ≡ some (anchor main reserve (start + b))
+first-of : (main reserve : Extent) (start b : ℕ) (own : List Sector) (d : Disc) (at : ℕ) → Stands d at (closing main reserve start b ++ own)
+    → content d at ≡ some (anchor tagVersion main reserve (start + b))
 unfolding closing
-first-of main reserve start b d at s = s .0
+first-of main reserve start b own d at s = s .0
 
 -- ---- what a closing leaves
 
@@ -102,8 +107,36 @@ module _ (d : Disc) (l : List ℕ) (ok : Sound d) (good : Proper (unpack l)) (ma
   abbrev s : Saving d l (closeSession main reserve start)
   s = closing-saving d l main reserve start f
 
+  -- what the save's table has before its ICB, and all data before that: pointer, zero sectors and these
+  abbrev own-part : List Sector
+  own-part = own d l ok good (closeSession main reserve start) s
+
   abbrev between : List Sector
-  between = closing main reserve start (target (unpack l))
+  between = closing main reserve start (target (unpack l)) ++ own-part
+
+  between-long : length between ≡ closingLength
+  between-long =
+      let first : List Sector = closing main reserve start (target (unpack l)) in
+      let t : List ℕ = tableBytes (mapOf (unpack l)) (unpack l .last) in
+      let at : ℕ = target (unpack l) + length first in
+      let long : length between ≡ length first + length own-part = length-append first own-part in
+      omega (arith, long, length-closing main reserve start (target (unpack l)), save-count d t (unpack l .last) noStamp at, one-sector d t (unpack l .last) noStamp at)
+
+  between-whole : AllWhole between
+  between-whole =
+      whole-append (closing main reserve start (target (unpack l))) own-part (closing-whole main reserve start (target (unpack l)))
+      (own-whole d (tableBytes (mapOf (unpack l)) (unpack l .last)) (unpack l .last))
+
+  between-data : AllData between
+  between-data =
+      data-append (closing main reserve start (target (unpack l))) own-part (closing-data main reserve start (target (unpack l)))
+      (own-data d (tableBytes (mapOf (unpack l)) (unpack l .last)) (unpack l .last))
+
+  between-no-tables : (b : ℕ) → NoTables b between
+  between-no-tables b =
+      let first : List Sector = closing main reserve start (target (unpack l)) in
+      no-tables-append first own-part b (closing-no-tables main reserve start (target (unpack l)) b)
+      (own-no-tables d (tableBytes (mapOf (unpack l)) (unpack l .last)) (unpack l .last) (b + length first))
 
   abbrev left : Disc
   left = savedDisc d l ok good (closeSession main reserve start) s
@@ -119,7 +152,9 @@ module _ (d : Disc) (l : List ℕ) (ok : Sound d) (good : Proper (unpack l)) (ma
   at-pointer = ap (λ (r : ℕ). r + links (unpack l)) (f .saving .fit .same-recorded)
 
   counted : table ≡ pointer + closingLength
-  counted = omega (arith, length-before d l ok good (closeSession main reserve start) s, length-closing main reserve start (target (unpack l)))
+  counted =
+      let first : List Sector = closing main reserve start (target (unpack l)) in
+      omega (arith, length-before d l ok good (closeSession main reserve start) s, length-append first own-part, between-long)
 
   linked : Disc
   linked = puts d (recorded d) (replicate (links (unpack l)) link)
@@ -141,25 +176,25 @@ module _ (d : Disc) (l : List ℕ) (ok : Sound d) (good : Proper (unpack l)) (ma
       let before : Disc = puts d (recorded d) ss in
       let split : before ≡ puts linked (recorded linked) between =
       puts-append (replicate n link) between d (recorded d) ∙ ap (λ (k : ℕ). puts linked k between) (ap (λ (k : ℕ). recorded d + k) (length-replicate n link) ∙ sym (linked-grown .counted)) in
-      let inside : recorded linked + length between ≤ length (linked .kinds) = omega (arith, linked-grown .counted, linked-grown .same-length, counted, length-closing main reserve start (target (unpack l)), room d l ok good c s) in
+      let inside : recorded linked + length between ≤ length (linked .kinds) = omega (arith, linked-grown .counted, linked-grown .same-length, counted, between-long, room d l ok good c s) in
       let there : Stands (puts linked (recorded linked) between) (recorded linked) between =
-      stand between linked (linked-grown .still-sound) inside (closing-whole main reserve start (target (unpack l))) (closing-data main reserve start (target (unpack l))) (closing-no-tables main reserve start (target (unpack l)) (recorded linked)) in
+      stand between linked (linked-grown .still-sound) inside between-whole between-data (between-no-tables (recorded linked)) in
       let all : Grown d before (length ss) = puts-plain ss d ok (omega (arith, room d l ok good c s)) (before-whole d l ok good c s) (before-no-tables d l ok good c s) in
       stand-on (behind-extends d ok ss (before-whole d l ok good c s) (before-no-tables d l ok good c s) (tableSector d l ok good c s) (sector-long d l ok good c s) (room d l ok good c s))
-      between pointer (omega (arith, all .counted, counted, length-closing main reserve start (target (unpack l))))
+      between pointer (omega (arith, all .counted, counted, between-long))
       (subst₂ (λ (x : Disc) (b : ℕ). Stands x b between) (sym split) (linked-grown .counted) there)
 
   -- the first of them is the pointer
-  pointed : sectorAt left pointer ≡ anchor main reserve (start + target (unpack l))
+  pointed : sectorAt left pointer ≡ anchor tagVersion main reserve (start + target (unpack l))
   pointed =
       let b : ℕ = target (unpack l) in
-      data-there left pointer (anchor main reserve (start + b)) (first-of main reserve start b left pointer standing) .1
+      data-there left pointer (anchor tagVersion main reserve (start + b)) (first-of main reserve start b own-part left pointer standing) .1
 
   tagged : anchorTagged (sectorAt left pointer) pointer ≡ true
   tagged =
       let b : ℕ = target (unpack l) in
       subst (λ (x : List ℕ). anchorTagged x pointer ≡ true) (sym pointed)
-      (tagged-anchor main reserve (start + b) (omega (arith, f .near, at-pointer, counted, ok .few, room d l ok good (closeSession main reserve start) s)) pointer (omega (arith, at-pointer)) (omega (arith, at-pointer, f .near)))
+      (tagged-anchor tagVersion main reserve (start + b) (omega (arith, f .near, at-pointer, counted, ok .few, room d l ok good (closeSession main reserve start) s)) pointer (omega (arith, at-pointer)) (omega (arith, at-pointer, f .near)))
 
   pub is-closed : sessionClosed left ≡ true
   unfolding sessionClosed
@@ -169,9 +204,8 @@ module _ (d : Disc) (l : List ℕ) (ok : Sound d) (good : Proper (unpack l)) (ma
       let all : recorded left ≡ suc table = behind-counted d ok ss (before-whole d l ok good c s) (before-no-tables d l ok good c s) (tableSector d l ok good c s) (sector-long d l ok good c s) (room d l ok good c s) in
       let last : recorded left - 1 ≡ table = omega (arith, all) in
       let first : recorded left - 1 - closingLength ≡ pointer = omega (arith, all, counted) in
-      let long : length between ≡ closingLength = length-closing main reserve start (target (unpack l)) in
       let all-data : every (λ k. eqb k 1) (take closingLength (drop pointer (left .kinds))) ≡ true =
-      subst (λ (n : ℕ). every (λ k. eqb k 1) (take n (drop pointer (left .kinds))) ≡ true) long (kinds-of between left pointer standing) in
+      subst (λ (n : ℕ). every (λ k. eqb k 1) (take n (drop pointer (left .kinds))) ≡ true) between-long (kinds-of between left pointer standing) in
       rw (le-leb (closingLength + 1) (recorded left) (omega (arith, all, counted)), first, tagged, all-data, last) (save d l ok good c s .a-table)
 
 -- ---- on a closed disc

@@ -15,15 +15,18 @@ use lib.Seq.{take-append-le, length-take-le, take-length}
 use borrow.Author.Tests.{eq-eqb, ltb-true, lt-ltb, le-ltb, eqb-true}
 use Rattle.le.specs.Bytes.{every}
 use Rattle.le.proofs.Rows.{and-left, and-right}
-use Rattle.vat.specs.Table.{sectorLength, unused, unusedOrBelow, entriesOf, previousOf, modifiedOf, isTable}
-use Rattle.vat.proofs.Theorems.{Named, named, recognised, of-kind-1}
+use Rattle.vat.specs.Table.{sectorLength, unused, unusedOrBelow, Lower, modifiedOf, tableOf, entriesOf, previousOf, isTable, tagVersion}
+use Rattle.vat.proofs.Theorems.{Named, named}
 use Rattle.extent.specs.declared.Extent.{Extent}
 use Rattle.anchor.proofs.Theorems.{anchor-no-table, zeros-no-table}
 use Rattle.disc.specs.Disc.{Disc, recorded, kindAt, sectorAt, readable, content, Sector, link, plain, torn, put, puts}
-use Rattle.disc.specs.Tables.{tableAt, mapAt, previousAt, timeAt}
+use Rattle.disc.specs.Tables.{below, tableAt, mapAt, previousAt, timeAt}
 use Rattle.disc.specs.Session.{zeroSectors, zeroSector, closing}
-use Rattle.disc.proofs.Recording.{Sound, Whole, Recorded, put-recorded, plain-here, puts-append}
-use Rattle.recorder.proofs.Sectors.{AllWhole, whole-take, behind, length-behind}
+use Rattle.disc.proofs.Recording.{Sound, Whole, Recorded, put-recorded, plain-here, puts-append, AllWhole, whole-take, blank-kind, links-contents}
+use Rattle.disc.proofs.Told.{entries-named, table-of, map-of, previous-of, time-of, other-kind, SameBelow, below-same, table-same, map-same, previous-same, time-same}
+use Rattle.disc.proofs.Growing.{one-kept}
+use Rattle.disc.proofs.Save.{NoTable, NoTables}
+use Rattle.recorder.proofs.Sectors.{behind, length-behind}
 use Rattle.history.specs.Events.{Torn, tornAt, cutDisc}
 use Rattle.history.proofs.Log.{Format, AllBelow, NamesBelow, View, Extends, Plain, Saved, extends-on, plain-same, plain-on, none-some, some-same}
 
@@ -51,18 +54,9 @@ all-below-to b [] a = refl
 all-below-to b (x ∷ xs) a = ap₂ (λ (p q : Bool). p && q) (below-to b x (a .0)) (all-below-to b xs (a .1))
 
 pub names-below : NamesBelow F
-names-below d b e = all-below-of b (mapAt d b) (recognised (kindAt d b) (sectorAt d b) b e .entries)
+names-below d b e = all-below-of b (mapAt d b) (entries-named d b e)
 
 -- ---- data
-
--- what is read is data, and stands there
-pub data-there : (d : Disc) (b : ℕ) (s : List ℕ) → content d b ≡ some s → (kindAt d b ≡ 1) × (sectorAt d b ≡ s)
-unfolding content
-data-there d b s e = go (eqb (kindAt d b) 1) refl e
-  where
-    go : (t : Bool) → eqb (kindAt d b) 1 ≡ t → readable t (sectorAt d b) ≡ some s → (kindAt d b ≡ 1) × (sectorAt d b ≡ s)
-    go true z e = (eqb-true (kindAt d b) 1 z, some-same (sectorAt d b) s e)
-    go false z e = absurd (none-some s e)
 
 pub data-within : (ks : List ℕ) (b : ℕ) → getD ks b 0 ≡ 1 → b < length ks
 data-within [] b e = absurd (omega arith)
@@ -71,30 +65,49 @@ data-within (k ∷ ks) (suc b) e = let h : b < length ks = data-within ks b e in
 
 -- ---- one sector
 
-extends-of : {d d′ : Disc} {s : Sector} → Recorded d d′ s → Extends F d d′
-unfolding content
+-- what is read below it stays, and so below each lower block
+kept-below : {d d′ : Disc} {s : Sector} → Recorded d d′ s → (b : ℕ) → b < recorded d → SameBelow d d′ b
+kept-below r b h c low = one-kept r c (omega arith)
+
+pub extends-of : {d d′ : Disc} {s : Sector} → Recorded d d′ s → Extends F d d′
 extends-of {d} {d′} r =
     record {
       more = omega (arith, r .one-more);
-      tables = λ b h. ap₂ (λ (k : ℕ) (s : List ℕ). isTable k s b) (r .kinds-kept b h) (r .sectors-kept b h);
-      maps = λ b h. ap entriesOf (r .sectors-kept b h);
-      previous = λ b h. ap previousOf (r .sectors-kept b h);
-      times = λ b h. ap modifiedOf (r .sectors-kept b h);
-      contents = λ b h. ap₂ (λ (k : ℕ) (s : List ℕ). readable (eqb k 1) s) (r .kinds-kept b h) (r .sectors-kept b h);
+      tables = λ b h. table-same d d′ b (kept-below r b h) (one-kept r b h);
+      maps = λ b h. map-same d d′ b (kept-below r b h) (r .sectors-kept b h);
+      previous = λ b h. previous-same d d′ b (kept-below r b h) (r .sectors-kept b h);
+      times = λ b h. time-same d d′ b (kept-below r b h) (r .sectors-kept b h);
+      contents = one-kept r;
     }
 
--- a sector that is no table where it is recorded
-abbrev pub NoTable : ℕ → Sector → Type 0
-NoTable b link = Unit
-NoTable b (plain s) = isTable 1 s b ≡ false
-NoTable b (torn s) = Unit
-
 module _ (d : Disc) (ok : Sound d) (room : recorded d < length (d .kinds)) where
+  -- what stands at the next block is decided with what lay below it before
+  module _ (s : List ℕ) (w : length s ≡ sectorLength) where
+    abbrev next : Disc
+    next = put d (recorded d) (plain s)
+
+    r-next : Recorded d next (plain s)
+    r-next = put-recorded d ok room (plain s) w
+
+    lower-next : below next (recorded d) ≡ below d (recorded d)
+    lower-next = below-same d next (recorded d) (one-kept r-next)
+
+    pub table-next : tableAt next (recorded d) ≡ isTable (below d (recorded d)) s (recorded d)
+    table-next = table-of next (recorded d) (below d (recorded d)) s lower-next (plain-here d ok room s w) (r-next .its-kind)
+
+    pub map-next : mapAt next (recorded d) ≡ entriesOf (tableOf (below d (recorded d)) s)
+    map-next = map-of next (recorded d) (below d (recorded d)) s lower-next (plain-here d ok room s w)
+
+    pub previous-next : previousAt next (recorded d) ≡ previousOf (tableOf (below d (recorded d)) s)
+    previous-next = previous-of next (recorded d) (below d (recorded d)) s lower-next (plain-here d ok room s w)
+
+    pub time-next : timeAt next (recorded d) ≡ modifiedOf s
+    time-next = time-of next (recorded d) (below d (recorded d)) s lower-next (plain-here d ok room s w)
+
   not-there : (s : Sector) → Whole s → NoTable (recorded d) s → tableAt (put d (recorded d) s) (recorded d) ≡ false
-  not-there link w n = of-kind-1 (kindAt (put d (recorded d) link) (recorded d)) (sectorAt (put d (recorded d) link) (recorded d)) (recorded d) (λ e. let z = sym (put-recorded d ok room link w .its-kind) ∙ e in omega arith)
-  not-there (plain s) w n =
-      ap₂ (λ (k : ℕ) (t : List ℕ). isTable k t (recorded d)) (put-recorded d ok room (plain s) w .its-kind) (plain-here d ok room s w) ∙ n
-  not-there (torn s) w n = of-kind-1 (kindAt (put d (recorded d) (torn s)) (recorded d)) (sectorAt (put d (recorded d) (torn s)) (recorded d)) (recorded d) (λ e. let z = sym (put-recorded d ok room (torn s) w .its-kind) ∙ e in omega arith)
+  not-there link w n = other-kind (put d (recorded d) link) (recorded d) (λ e. let z = sym (put-recorded d ok room link w .its-kind) ∙ e in omega arith)
+  not-there (plain s) w n = table-next s w ∙ n (below d (recorded d))
+  not-there (torn s) w n = other-kind (put d (recorded d) (torn s)) (recorded d) (λ e. let z = sym (put-recorded d ok room (torn s) w .its-kind) ∙ e in omega arith)
 
   -- a data sector reads its bytes
   pub plain-content : (s : List ℕ) → length s ≡ sectorLength → content (put d (recorded d) (plain s)) (recorded d) ≡ some s
@@ -102,21 +115,17 @@ module _ (d : Disc) (ok : Sound d) (room : recorded d < length (d .kinds)) where
   plain-content s w =
       ap₂ (λ (k : ℕ) (t : List ℕ). readable (eqb k 1) t) (put-recorded d ok room (plain s) w .its-kind) (plain-here d ok room s w)
 
-  put-plain : (s : Sector) → Whole s → NoTable (recorded d) s → Plain F d (put d (recorded d) s)
-  put-plain s w n =
+  pub put-plain : (s : Sector) → Whole s → tableAt (put d (recorded d) s) (recorded d) ≡ false → Plain F d (put d (recorded d) s)
+  put-plain s w free =
       let r : Recorded d (put d (recorded d) s) s = put-recorded d ok room s w in
       record {
         extends = extends-of r;
         no-table = λ b low high.
             let here : b ≡ recorded d = omega (arith, r .one-more) in
-            ap (tableAt (put d (recorded d) s)) here ∙ not-there s w n;
+            ap (tableAt (put d (recorded d) s)) here ∙ free;
       }
 
 -- ---- a list of sectors
-
-abbrev pub NoTables : ℕ → List Sector → Type 0
-NoTables b [] = Unit
-NoTables b (s ∷ ss) = NoTable b s × NoTables (suc b) ss
 
 -- sectors recorded, none of them a table
 pub record Grown (d d′ : Disc) (n : ℕ) : Type 0 where
@@ -138,7 +147,7 @@ puts-plain (s ∷ ss) d ok room w n =
     puts-plain ss d₁ (r .still-sound) (omega (arith, r .one-more, r .same-length)) (w .1) (subst (λ (b : ℕ). NoTables b ss) (sym (r .one-more)) (n .1)) in
     subst (λ (b : ℕ). Grown d (puts d₁ b ss) (suc (length ss))) (sym next)
     (record {
-      plainly = plain-on F (put-plain d ok here s (w .0) (n .0)) (more .plainly);
+      plainly = plain-on F (put-plain d ok here s (w .0) (not-there d ok here s (w .0) (n .0))) (more .plainly);
       still-sound = more .still-sound;
       same-length = more .same-length ∙ r .same-length;
       counted = more .counted ∙ omega (arith, r .one-more);
@@ -149,6 +158,11 @@ puts-plain (s ∷ ss) d ok room w n =
 pub links-no-tables : (n b : ℕ) → NoTables b (replicate n link)
 links-no-tables zero b = tt
 links-no-tables (suc n) b = (tt, links-no-tables n (suc b))
+
+-- links change nothing that can be read
+pub links-below : (d : Disc) → Sound d → (n b : ℕ) → below (puts d (recorded d) (replicate n link)) b ≡ below d b
+links-below d ok n b =
+    below-same d (puts d (recorded d) (replicate n link)) b (λ c h. links-contents n d (recorded d) (λ i high. blank-kind (d .kinds) (recorded d) i (ok .blank) high) c)
 
 pub no-tables-append : (xs ys : List Sector) (b : ℕ) → NoTables b xs → NoTables (b + length xs) ys → NoTables b (xs ++ ys)
 no-tables-append [] ys b p q = subst (λ (k : ℕ). NoTables k ys) (add-zero b) q
@@ -161,17 +175,14 @@ no-tables-take zero ss b a = tt
 no-tables-take (suc j) [] b a = tt
 no-tables-take (suc j) (s ∷ ss) b a = (a .0, no-tables-take j ss (suc b) (a .1))
 
-pub behind-no-tables : (ss : List Sector) (s : List ℕ) (b : ℕ) → NoTables b ss → isTable 1 s (b + length ss) ≡ false → NoTables b (behind ss s)
-behind-no-tables ss s b n h = no-tables-append ss (plain s ∷ []) b n (h, tt)
-
 -- what closing records before its table
 zeros-no-tables : (n b : ℕ) → NoTables b (replicate n zeroSector)
 zeros-no-tables zero b = tt
-zeros-no-tables (suc n) b = (zeros-no-table 1 b, zeros-no-tables n (suc b))
+zeros-no-tables (suc n) b = (λ lower. zeros-no-table lower b, zeros-no-tables n (suc b))
 
 pub closing-no-tables : (main reserve : Extent) (start b c : ℕ) → NoTables c (closing main reserve start b)
 unfolding closing
-closing-no-tables main reserve start b c = (anchor-no-table main reserve (start + b) 1 c, zeros-no-tables zeroSectors (suc c))
+closing-no-tables main reserve start b c = (λ lower. anchor-no-table tagVersion main reserve (start + b) lower c, zeros-no-tables zeroSectors (suc c))
 
 module _ (d : Disc) (ok : Sound d) (ss : List Sector) (w : AllWhole ss) (n : NoTables (recorded d) ss) (s : List ℕ) (long : length s ≡ sectorLength) (room : recorded d + (length ss + 1) ≤ length (d .kinds)) where
   before : Disc
@@ -204,7 +215,7 @@ module _ (d : Disc) (ok : Sound d) (ss : List Sector) (w : AllWhole ss) (n : NoT
       ap₂ content goes-behind (sym (before-grown .counted)) ∙ plain-content before (before-grown .still-sound) before-room s long
 
   pub behind-time : timeAt (puts d (recorded d) (behind ss s)) (recorded d + length ss) ≡ modifiedOf s
-  behind-time = ap₂ timeAt goes-behind (sym (before-grown .counted)) ∙ ap modifiedOf last-here
+  behind-time = ap₂ timeAt goes-behind (sym (before-grown .counted)) ∙ time-next before (before-grown .still-sound) before-room s long
 
   pub behind-sound : Sound (puts d (recorded d) (behind ss s))
   behind-sound = subst Sound (sym goes-behind) (last-recorded .still-sound)
@@ -212,23 +223,46 @@ module _ (d : Disc) (ok : Sound d) (ss : List Sector) (w : AllWhole ss) (n : NoT
   pub behind-counted : recorded (puts d (recorded d) (behind ss s)) ≡ suc (recorded d + length ss)
   behind-counted = ap recorded goes-behind ∙ last-recorded .one-more ∙ ap suc (before-grown .counted)
 
+  -- what can be read below it
+  abbrev pub lower : Lower
+  lower = below (puts d (recorded d) ss) (recorded d + length ss)
+
   -- a table behind them is a save
-  pub behind-saved : (v : View) → recorded d + length ss < unused → isTable 1 s (recorded d + length ss) ≡ true → entriesOf s ≡ v .map → previousOf s ≡ v .last
+  pub behind-saved : (v : View) → recorded d + length ss < unused → isTable lower s (recorded d + length ss) ≡ true → entriesOf (tableOf lower s) ≡ v .map → previousOf (tableOf lower s) ≡ v .last
       → Saved F d (puts d (recorded d) (behind ss s)) v (recorded d + length ss)
+  unfolding before
   behind-saved v small is-table maps links =
       let r : ℕ = recorded before in
       let counted : recorded d + length ss ≡ r = sym (before-grown .counted) in
+      let ok′ : Sound before = before-grown .still-sound in
       let all : Saved F d (put before r (plain s)) v r =
       record {
         extends = extends-on F (before-grown .plainly .extends) (extends-of last-recorded);
         behind = omega arith;
         small = omega arith;
         last-sector = last-recorded .one-more;
-        a-table = ap₂ (λ (k : ℕ) (t : List ℕ). isTable k t r) (last-recorded .its-kind) last-here ∙ subst (λ (b : ℕ). isTable 1 s b ≡ true) counted is-table;
-        its-map = ap entriesOf last-here ∙ maps;
-        its-previous = ap previousOf last-here ∙ links;
+        a-table = table-next before ok′ before-room s long ∙ subst (λ (b : ℕ). isTable (below before b) s b ≡ true) counted is-table;
+        its-map = map-next before ok′ before-room s long ∙ subst (λ (b : ℕ). entriesOf (tableOf (below before b) s) ≡ v .map) counted maps;
+        its-previous = previous-next before ok′ before-room s long ∙ subst (λ (b : ℕ). previousOf (tableOf (below before b) s) ≡ v .last) counted links;
       } in
       subst (λ (e : Disc). Saved F d e v (recorded d + length ss)) (sym goes-behind) (subst (λ (b : ℕ). Saved F d (put before r (plain s)) v b) (sym counted) all)
+
+  -- and what is none leaves the tables
+  pub behind-grown : isTable lower s (recorded d + length ss) ≡ false → Grown d (puts d (recorded d) (behind ss s)) (length (behind ss s))
+  unfolding before
+  behind-grown free =
+      let r : ℕ = recorded before in
+      let counted : recorded d + length ss ≡ r = sym (before-grown .counted) in
+      let ok′ : Sound before = before-grown .still-sound in
+      let no-table : tableAt (put before r (plain s)) r ≡ false = table-next before ok′ before-room s long ∙ subst (λ (b : ℕ). isTable (below before b) s b ≡ false) counted free in
+      let all : Grown d (put before r (plain s)) (length (behind ss s)) =
+      record {
+        plainly = plain-on F (before-grown .plainly) (put-plain before ok′ before-room (plain s) long no-table);
+        still-sound = last-recorded .still-sound;
+        same-length = last-recorded .same-length ∙ before-grown .same-length;
+        counted = omega (arith, last-recorded .one-more, before-grown .counted, length-behind ss s);
+      } in
+      subst (λ (e : Disc). Grown d e (length (behind ss s))) (sym goes-behind) all
 
 -- ---- what a cut leaves
 
@@ -257,7 +291,7 @@ cut-left ss d j tear ok room some-of w n t = go (ltb j (length ss)) refl tear t
         let here : recorded d₁ < length (d₁ .kinds) = omega (arith, ltb-true j (length ss) e, g .same-length) in
         subst (λ (b : ℕ). Left d (put d₁ b (torn bytes))) at
         (record {
-          plainly = plain-on F (g .plainly) (put-plain d₁ (g .still-sound) here (torn bytes) t tt);
+          plainly = plain-on F (g .plainly) (put-plain d₁ (g .still-sound) here (torn bytes) t (not-there d₁ (g .still-sound) here (torn bytes) t tt));
           still-sound = put-recorded d₁ (g .still-sound) here (torn bytes) t .still-sound;
         })
 

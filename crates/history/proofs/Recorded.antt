@@ -15,23 +15,24 @@ use lib.ListN.{length, getD, take, drop, replicate, length-append, length-replic
 use lib.Seq.{take-append-le, take-take, take-set-le, getD-take}
 use borrow.Author.Tests.{le-ltb}
 use Rattle.vat.specs.Table.{sectorLength, limit, unused}
-use Rattle.vat.specs.Sector.{noStamp, sector}
-use Rattle.vat.proofs.Theorems.{length-sector}
+use Rattle.vat.specs.Sector.{noStamp, tableBytes}
 use Rattle.disc.specs.Disc.{Disc, sized, counted, leading, recorded, inOrder, blanks, kindAt, sectorAt, readable, content, Sector, link, plain, torn, stored, put, puts}
 use Rattle.disc.specs.declared.Walk.{Walk}
-use Rattle.disc.specs.Tables.{tableAt, mapAt, newest, blockFound}
+use Rattle.disc.specs.Tables.{tableAt, newest, blockFound}
 use Rattle.disc.specs.Session.{closing}
-use Rattle.disc.proofs.Recording.{Sound, Recorded, put-recorded, sized-tells, leading-le}
+use Rattle.disc.specs.Save.{saveSectors, lastBlock}
+use Rattle.disc.proofs.Recording.{Sound, Recorded, put-recorded, sized-tells, leading-le, AllWhole, whole-append}
 use Rattle.disc.proofs.Found.{newest-table}
+use Rattle.disc.proofs.Save.{ownSectors, save-count, sectors-whole}
 use Rattle.volume.specs.declared.Volume.{Volume}
 use Rattle.volume.specs.Volume.{idle, readOnly, unpack, pack, mapOf, begun, filled, entriesWith, wrote, released, closed, committed}
 use Rattle.volume.proofs.State.{recorded-kept, proper-begun, long-unpack}
-use Rattle.recorder.specs.Calls.{Call, begin, mount, write, release, closePacket, commit, closeSession, read, lookBack, timeOf, stampBuffer, bufferOf, onlyTells}
+use Rattle.recorder.specs.Calls.{Call, begin, mount, write, release, closePacket, commit, closeSession, read, lookBack, timeOf, stampBuffer, bufferOf, onlyTells, stampOf}
 use Rattle.recorder.specs.Refusals.{Test, test, first, basic, gate, links, target, ledgerLent, blockLent, stampLent, answerLent, writeTests, commitTests, closingTests, notInUse, numberedTests, isSome, walkTests, timeWrong, tests, outcome}
-use Rattle.recorder.specs.Effects.{blockReached, stampOf, saved, effect, settled, after, sectorsIf, sectorsOf}
+use Rattle.recorder.specs.Effects.{Effect, blockReached, saved, effect, settled, after, sectorsIf, sectorsOf, shownAt}
 use Rattle.recorder.proofs.Done.{stop, Fits, mount-done, write-done, release-done, close-done, SaveDone, commit-done, closing-done, read-done, begin-done, look-back-done}
 use Rattle.recorder.proofs.Answers.{walked-table}
-use Rattle.recorder.proofs.Sectors.{AllWhole, links-whole, whole-append, behind, length-behind, behind-whole}
+use Rattle.recorder.proofs.Sectors.{links-whole, behind, length-behind, behind-whole}
 use Rattle.history.specs.Events.{World, Event, calls, cuts, ledgerHeld, tornAt, cutDisc, next, runs, afterCall}
 use Rattle.history.specs.Recorded.{Untouched, WriteOnce, RecordedSame}
 use Rattle.history.proofs.Log.{none-some, some-same}
@@ -224,15 +225,18 @@ write-once w (e ∷ es) = untouched-on (event-untouched w e) (write-once (next w
 
 -- ---- what a call that is done has recorded
 
+-- a save of the working state
+abbrev savedBy : Disc → List ℕ → List Sector → List ℕ → List ℕ → Effect
+savedBy d l first stamp buffer = saved d (unpack l) (mapOf (unpack l)) (unpack l .last) first stamp buffer
+
 -- every sector of a save fills its block
-save-whole : (d : Disc) (l : List ℕ) (between : List Sector) (stamp buffer : List ℕ) → SaveDone d l between stamp → AllWhole (saved (unpack l) between stamp buffer .sectors)
-save-whole d l between stamp buffer f =
+save-whole : (d : Disc) (l : List ℕ) (first : List Sector) (stamp buffer : List ℕ) → SaveDone d l first stamp → AllWhole (savedBy d l first stamp buffer .sectors)
+save-whole d l first stamp buffer f =
     let v : Volume = unpack l in
-    let b : ℕ = target v + length between in
-    let ss : List Sector = replicate (links v) link ++ between in
-    behind-whole ss (sector (mapOf v) (v .last) stamp b) (whole-append (replicate (links v) link) between (links-whole (links v)) (f .whole))
-    (length-sector (mapOf v) (v .last) stamp b (omega (arith, length-take (v .size) (v .entries), f .fit .few))
-    (omega (arith, f .room, f .fit .same-recorded, f .sound-disc .few)) (f .timely))
+    let t : List ℕ = tableBytes (mapOf v) (v .last) in
+    let b : ℕ = target v + length first in
+    let save : List Sector = saveSectors d t (v .last) stamp b in
+    whole-append (replicate (links v) link) (first ++ save) (links-whole (links v)) (whole-append first save (f .whole) (sectors-whole d t (v .last) stamp b))
 
 pub effect-whole : (d : Disc) (l : List ℕ) (c : Call) → outcome d l c ≡ 0 → AllWhole (effect d l c .sectors)
 unfolding effect
@@ -275,17 +279,22 @@ behind-recorded d ok ss s n long w room =
     let count : length (behind ss s) ≡ n + 1 = length-behind ss s ∙ ap (λ (k : ℕ). k + 1) long in
     puts-counted (behind ss s) d ok (omega (arith, count, leading-le (d .kinds))) w ∙ omega (arith, count)
 
-save-left : (d : Disc) (l : List ℕ) (between : List Sector) (stamp buffer : List ℕ) → SaveDone d l between stamp
-    → unpack (saved (unpack l) between stamp buffer .ledger) .recorded ≡ recorded (puts d (recorded d) (saved (unpack l) between stamp buffer .sectors))
+save-left : (d : Disc) (l : List ℕ) (first : List Sector) (stamp buffer : List ℕ) → SaveDone d l first stamp
+    → unpack (savedBy d l first stamp buffer .ledger) .recorded ≡ recorded (puts d (recorded d) (savedBy d l first stamp buffer .sectors))
 unfolding committed
-save-left d l between stamp buffer f =
+save-left d l first stamp buffer f =
     let v : Volume = unpack l in
-    let b : ℕ = target v + length between in
-    let ss : List Sector = replicate (links v) link ++ between in
-    let long : length ss ≡ links v + length between = length-append (replicate (links v) link) between ∙ ap (λ (k : ℕ). k + length between) (length-replicate (links v) link) in
-    recorded-kept (committed b v) (long-unpack l) (omega (arith, f .room, f .fit .same-recorded, f .sound-disc .few, leading-le (d .kinds)))
-    ∙ omega (arith, f .fit .same-recorded)
-    ∙ sym (behind-recorded d (f .sound-disc) ss (sector (mapOf v) (v .last) stamp b) (links v + length between) long (save-whole d l between stamp buffer f) (f .room))
+    let t : List ℕ = tableBytes (mapOf v) (v .last) in
+    let at : ℕ = target v + length first in
+    let save : List Sector = saveSectors d t (v .last) stamp at in
+    let b : ℕ = lastBlock at save in
+    let all : List Sector = replicate (links v) link ++ (first ++ save) in
+    let some-there : length save ≡ length (ownSectors d t (v .last)) + 1 = save-count d t (v .last) stamp at in
+    let long : length all ≡ links v + (length first + length save) =
+    length-append (replicate (links v) link) (first ++ save) ∙ ap₂ _+_ (length-replicate (links v) link) (length-append first save) in
+    recorded-kept (committed b v) (long-unpack l) (omega (arith, f .room, some-there, f .fit .same-recorded, f .sound-disc .few, leading-le (d .kinds)))
+    ∙ omega (arith, f .fit .same-recorded, some-there, long)
+    ∙ sym (puts-counted all d (f .sound-disc) (omega (arith, f .room, long, leading-le (d .kinds))) (save-whole d l first stamp buffer f))
 
 write-left : (d : Disc) (l : List ℕ) (n : Option ℕ) (block : List ℕ) → outcome d l (write n block) ≡ 0
     → unpack (pack (wrote n (target (unpack l)) (unpack l))) .recorded ≡ recorded (puts d (recorded d) (behind (replicate (links (unpack l)) link) block))
@@ -298,9 +307,9 @@ write-left d l n block e =
     ∙ sym (behind-recorded d (f .sound-disc) (replicate (links v) link) block (links v) (length-replicate (links v) link)
     (behind-whole (replicate (links v) link) block (links-whole (links v)) (f .block-long)) (omega (arith, f .room)))
 
-filled-left : (d : Disc) → Sound d → (b mode : ℕ) → mode < 4294967296 → tableAt d b ≡ true → unpack (pack (filled (mapAt d b) b (recorded d) mode)) .recorded ≡ recorded d
+filled-left : (d : Disc) → Sound d → (b mode : ℕ) → mode < 4294967296 → tableAt d b ≡ true → unpack (pack (shownAt d b mode)) .recorded ≡ recorded d
 unfolding filled
-filled-left d ok b mode word e = recorded-kept (filled (mapAt d b) b (recorded d) mode) (proper-table d ok b mode word e .long) (few-recorded d ok)
+filled-left d ok b mode word e = recorded-kept (shownAt d b mode) (proper-table d ok b mode word e .long) (few-recorded d ok)
 
 -- a state that is changed without recording
 working-left : (d : Disc) (l : List ℕ) (v : Volume) → Sound d → Fits d (unpack l) → length (v .entries) ≡ limit → v .recorded ≡ unpack l .recorded → unpack (pack v) .recorded ≡ recorded d
@@ -314,7 +323,7 @@ effect-left d l begin e t =
 effect-left d l mount e t =
     let f = mount-done d l e in
     let b : ℕ = f .1 .0 in
-    subst (λ (o : Option ℕ). unpack (pack (filled (mapAt d (blockFound o)) (blockFound o) (recorded d) idle)) .recorded ≡ recorded d) (sym (f .1 .1))
+    subst (λ (o : Option ℕ). unpack (pack (shownAt d (blockFound o) idle)) .recorded ≡ recorded d) (sym (f .1 .1))
     (filled-left d (f .0) b idle (lit< tt) (newest-table (tableAt d) (recorded d) b (f .1 .1)))
 effect-left d l (write n block) e t = write-left d l n block e
 effect-left d l (release n) e t =
@@ -328,7 +337,7 @@ effect-left d l (read n block) e t = read-done d l n block e .fit .same-recorded
 effect-left d l (lookBack k) e t =
     let f = look-back-done d l k e in
     let b : ℕ = f .1 .0 in
-    subst (λ (w : Walk). unpack (pack (filled (mapAt d (blockReached w)) (blockReached w) (recorded d) readOnly)) .recorded ≡ recorded d) (sym (f .1 .1))
+    subst (λ (w : Walk). unpack (pack (shownAt d (blockReached w) readOnly)) .recorded ≡ recorded d) (sym (f .1 .1))
     (filled-left d (f .0) b readOnly (lit< tt) (walked-table d k b (f .1 .1)))
 effect-left d l (timeOf k answer) e t = absurd (mathlib.Core.Bool.true≢false t)
 

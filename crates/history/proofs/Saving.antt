@@ -12,30 +12,31 @@ use mathlib.Core.List.{List, [], _++_}
 use mathlib.Core.Logic.{inl, inr}
 use mathlib.Core.Option.{Option, none, some}
 use lib.Dec.{eqb}
-use lib.ListN.{length, replicate, length-append, length-replicate}
+use lib.ListN.{length, replicate}
 use borrow.Author.Tests.{eqb-true}
-use Rattle.vat.specs.Table.{sectorLength, unused, unusedOrBelow, isTable}
-use Rattle.vat.specs.Sector.{noStamp, sector}
-use Rattle.vat.proofs.Theorems.{recognised, ReadsBack, reads-back}
+use Rattle.vat.specs.Table.{sectorLength, unused, unusedOrBelow, Lower}
+use Rattle.vat.specs.Sector.{tableBytes}
 use Rattle.extent.specs.declared.Extent.{Extent}
 use Rattle.disc.specs.Disc.{Disc, recorded, Sector, link, puts}
 use Rattle.disc.specs.Tables.{tableAt, timeAt}
 use Rattle.disc.specs.Session.{closing}
-use Rattle.disc.proofs.Recording.{Sound}
+use Rattle.disc.specs.Save.{lastBlock}
+use Rattle.disc.proofs.Recording.{Sound, AllWhole}
 use Rattle.disc.proofs.Found.{table-recorded}
+use Rattle.disc.proofs.Save.{NoTables, ownSectors, icbOf, own-no-tables, save-count, icb-long, IcbReads, icb-reads}
 use Rattle.volume.specs.declared.Volume.{Volume}
 use Rattle.volume.specs.Volume.{unpack, mapOf}
 use Rattle.volume.proofs.State.{Proper, length-map}
-use Rattle.recorder.specs.Calls.{Call, begin, mount, write, release, closePacket, commit, closeSession, read, lookBack, timeOf, stampBuffer, bufferOf, saves}
+use Rattle.recorder.specs.Calls.{Call, begin, mount, write, release, closePacket, commit, closeSession, read, lookBack, timeOf, stampBuffer, bufferOf, saves, stampOf}
 use Rattle.recorder.specs.Refusals.{links, target, outcome}
-use Rattle.recorder.specs.Effects.{stampOf, saved, effect}
-use Rattle.recorder.proofs.Done.{Fits, SaveDone, CommitDone, commit-done, ClosingDone, closing-done}
-use Rattle.recorder.proofs.Sectors.{AllWhole, links-whole, whole-append, behind}
+use Rattle.recorder.specs.Effects.{saved, commits, closes, effect}
+use Rattle.recorder.proofs.Done.{Fits, saveOf, SaveDone, CommitDone, commit-done, ClosingDone, closing-done}
+use Rattle.recorder.proofs.Sectors.{behind, beforeIcb, length-beforeIcb, whole-beforeIcb, ends-in-icb}
 use Rattle.history.specs.History.{History, Told, done}
 use Rattle.history.specs.Events.{told}
 use Rattle.history.specs.Times.{savedStamp}
 use Rattle.history.proofs.Log.{AllBelow, all-below-more, Saved, working}
-use Rattle.history.proofs.Growth.{F, below-to, all-below-of, all-below-to, NoTables, links-no-tables, no-tables-append, closing-no-tables, behind-time, behind-sound, behind-saved}
+use Rattle.history.proofs.Growth.{F, below-to, all-below-of, all-below-to, links-no-tables, no-tables-append, closing-no-tables, behind-time, behind-sound, lower, behind-saved}
 
 -- ---- in the history
 
@@ -69,27 +70,27 @@ unsaved (timeOf k answer) s second h = refl
 -- ---- on the disc
 
 pub record Saving (d : Disc) (l : List ℕ) (c : Call) : Type 0 where
-  pub between : List Sector
-  pub done : SaveDone d l between (savedStamp c)
-  pub no-tables : (b : ℕ) → NoTables b between
-  pub leaves : effect d l c ≡ saved (unpack l) between (savedStamp c) (bufferOf c)
+  pub first : List Sector
+  pub done : SaveDone d l first (savedStamp c)
+  pub no-tables : (b : ℕ) → NoTables b first
+  pub leaves : effect d l c ≡ saved d (unpack l) (mapOf (unpack l)) (unpack l .last) first (savedStamp c) (bufferOf c)
 
-pub commit-leaves : (d : Disc) (l : List ℕ) (stamp : Option (List ℕ)) → effect d l (commit stamp) ≡ saved (unpack l) [] (stampOf stamp) (stampBuffer stamp)
+pub commit-leaves : (d : Disc) (l : List ℕ) (stamp : Option (List ℕ)) → effect d l (commit stamp) ≡ commits d (unpack l) (stampOf stamp) (stampBuffer stamp)
 unfolding effect
 commit-leaves d l stamp = refl
 
 abbrev pub commit-saving : (d : Disc) (l : List ℕ) (stamp : Option (List ℕ)) → CommitDone d l stamp → Saving d l (commit stamp)
-commit-saving d l stamp f = record { between = []; done = f .saving; no-tables = λ b. tt; leaves = commit-leaves d l stamp }
+commit-saving d l stamp f = record { first = []; done = f .saving; no-tables = λ b. tt; leaves = commit-leaves d l stamp }
 
 pub closing-leaves : (d : Disc) (l : List ℕ) (main reserve : Extent) (start : ℕ)
-    → effect d l (closeSession main reserve start) ≡ saved (unpack l) (closing main reserve start (target (unpack l))) noStamp []
+    → effect d l (closeSession main reserve start) ≡ closes d (unpack l) main reserve start
 unfolding effect
 closing-leaves d l main reserve start = refl
 
 abbrev pub closing-saving : (d : Disc) (l : List ℕ) (main reserve : Extent) (start : ℕ) → ClosingDone d l main reserve start → Saving d l (closeSession main reserve start)
 closing-saving d l main reserve start f =
     record {
-      between = closing main reserve start (target (unpack l));
+      first = closing main reserve start (target (unpack l));
       done = f .saving;
       no-tables = closing-no-tables main reserve start (target (unpack l));
       leaves = closing-leaves d l main reserve start;
@@ -120,67 +121,89 @@ module _ (d : Disc) (l : List ℕ) (sound : Sound d) (good : Proper (unpack l)) 
       go false z e = below-to b (unpack l .last) (inl (omega (arith, table-recorded d sound (unpack l .last) e)))
 
   module _ (c : Call) (s : Saving d l c) where
-    -- the table, and all that comes before it
+    -- the table's bytes, what its save records before the ICB, the ICB, and all that comes before it
+    abbrev pub table : List ℕ
+    table = tableBytes (mapOf (unpack l)) (unpack l .last)
+
+    abbrev pub own : List Sector
+    own = ownSectors d table (unpack l .last)
+
     unfoldable pub tableSector : List ℕ
-    tableSector = sector (mapOf (unpack l)) (unpack l .last) (savedStamp c) (target (unpack l) + length (s .between))
+    tableSector = icbOf d table (unpack l .last) (savedStamp c) (target (unpack l) + length (s .first))
 
     abbrev pub beforeTable : List Sector
-    beforeTable = replicate (links (unpack l)) link ++ s .between
+    beforeTable = beforeIcb d (unpack l) (mapOf (unpack l)) (unpack l .last) (s .first)
 
-    pub length-before : length beforeTable ≡ links (unpack l) + length (s .between)
-    length-before = length-append (replicate (links (unpack l)) link) (s .between) ∙ ap (λ (n : ℕ). n + length (s .between)) (length-replicate (links (unpack l)) link)
+    pub length-before : length beforeTable ≡ links (unpack l) + (length (s .first) + length own)
+    length-before = length-beforeIcb d (unpack l) (mapOf (unpack l)) (unpack l .last) (s .first)
 
     pub before-whole : AllWhole beforeTable
-    before-whole = whole-append (replicate (links (unpack l)) link) (s .between) (links-whole (links (unpack l))) (s .done .whole)
+    before-whole = whole-beforeIcb d (unpack l) (mapOf (unpack l)) (unpack l .last) (s .first) (s .done .whole)
 
     pub before-no-tables : NoTables (recorded d) beforeTable
     before-no-tables =
-        no-tables-append (replicate (links (unpack l)) link) (s .between) (recorded d) (links-no-tables (links (unpack l)) (recorded d))
-        (s .no-tables (recorded d + length (replicate (links (unpack l)) link)))
+        let linked : List Sector = replicate (links (unpack l)) link in
+        let b : ℕ = recorded d + length linked in
+        no-tables-append linked (s .first ++ own) (recorded d) (links-no-tables (links (unpack l)) (recorded d))
+        (no-tables-append (s .first) own b (s .no-tables b) (own-no-tables d table (unpack l .last) (b + length (s .first))))
+
+    counted : length (saveOf d l (s .first) (savedStamp c)) ≡ length own + 1
+    counted = save-count d table (unpack l .last) (savedStamp c) (target (unpack l) + length (s .first))
 
     pub room : recorded d + (length beforeTable + 1) ≤ length (d .kinds)
-    room = omega (arith, length-before, s .done .room)
+    room = omega (arith, length-before, counted, s .done .room)
 
     pub small : recorded d + length beforeTable < unused
-    small = omega (arith, length-before, s .done .room, sound .few)
+    small = omega (arith, length-before, counted, s .done .room, sound .few)
 
     -- the block that it takes
-    pub at-table : target (unpack l) + length (s .between) ≡ recorded d + length beforeTable
-    at-table = omega (arith, length-before, s .done .fit .same-recorded)
+    abbrev pub tableBlock : ℕ
+    tableBlock = lastBlock (target (unpack l) + length (s .first)) (saveOf d l (s .first) (savedStamp c))
+
+    pub at-table : tableBlock ≡ recorded d + length beforeTable
+    at-table = omega (arith, length-before, counted, s .done .fit .same-recorded)
 
     pub leaves-behind : effect d l c .sectors ≡ behind beforeTable tableSector
     unfolding tableSector
-    leaves-behind = ap (λ e. e .sectors) (s .leaves)
+    leaves-behind =
+        ap (λ e. e .sectors) (s .leaves) ∙ ends-in-icb d (unpack l) (mapOf (unpack l)) (unpack l .last) (s .first) (savedStamp c) (bufferOf c)
 
     -- it is a table of the working map there
-    pub read-back : ReadsBack (mapOf (unpack l)) (unpack l .last) (savedStamp c) (target (unpack l) + length (s .between))
-    read-back =
+    pub read-back : (lower : Lower) → IcbReads lower tableSector (mapOf (unpack l)) (unpack l .last) (savedStamp c) (recorded d + length beforeTable)
+    unfolding tableSector
+    read-back lower =
         let v : Volume = unpack l in
-        let b : ℕ = target v + length (s .between) in
-        let f : SaveDone d l (s .between) (savedStamp c) = s .done in
-        let lower : recorded d + length beforeTable < unused = small in
+        let at : ℕ = target v + length (s .first) in
+        let b : ℕ = at + length own in
+        let f : SaveDone d l (s .first) (savedStamp c) = s .done in
+        let here : b ≡ recorded d + length beforeTable = omega (arith, length-before, f .fit .same-recorded) in
+        let under : recorded d + length beforeTable < unused = small in
         let below : AllBelow b (mapOf v) = all-below-more (v .recorded) b (mapOf v) (omega arith) (all-below-of (v .recorded) (mapOf v) (f .fit .entries-below)) in
-        reads-back (mapOf v) (v .last) (savedStamp c) b (omega (arith, length-map v (enough (f .fit)), f .fit .few)) (all-below-to b (mapOf v) below)
-        (last-below (f .fit) b (omega (arith, at-table))) (f .timely) (omega (arith, at-table))
+        subst (λ (n : ℕ). IcbReads lower (icbOf d table (v .last) (savedStamp c) at) (mapOf v) (v .last) (savedStamp c) n) here
+        (icb-reads lower d (mapOf v) (v .last) (savedStamp c) at (omega (arith, length-map v (enough (f .fit)), f .fit .few)) (all-below-to b (mapOf v) below)
+        (last-below (f .fit) b (omega (arith, here))) (f .timely) (omega (arith, here)))
 
     pub sector-long : length tableSector ≡ sectorLength
     unfolding tableSector
-    sector-long = recognised 1 tableSector (target (unpack l) + length (s .between)) (read-back .is-table) .whole
+    sector-long = icb-long d table (unpack l .last) (savedStamp c) (target (unpack l) + length (s .first))
 
     abbrev pub savedDisc : Disc
     savedDisc = puts d (recorded d) (behind beforeTable tableSector)
 
+    -- what can be read below the table where it is recorded
+    abbrev readable : Lower
+    readable = lower d sound beforeTable before-whole before-no-tables tableSector sector-long room
+
     pub save : Saved F d savedDisc (working F (mapOf (unpack l)) (unpack l .last)) (recorded d + length beforeTable)
-    unfolding tableSector
     save =
         let v : Volume = unpack l in
-        behind-saved d sound beforeTable before-whole before-no-tables tableSector sector-long room (working F (mapOf v) (v .last)) small
-        (subst (λ (b : ℕ). isTable 1 (sector (mapOf v) (v .last) (savedStamp c) (target v + length (s .between))) b ≡ true) at-table (read-back .is-table)) (read-back .entries) (read-back .previous-table)
+        let reads : IcbReads readable tableSector (mapOf v) (v .last) (savedStamp c) (recorded d + length beforeTable) = read-back readable in
+        behind-saved d sound beforeTable before-whole before-no-tables tableSector sector-long room (working F (mapOf v) (v .last)) small (reads .is-table) (reads .entries)
+        (reads .previous-table)
 
     pub save-sound : Sound savedDisc
     save-sound = behind-sound d sound beforeTable before-whole before-no-tables tableSector sector-long room
 
     -- and its time is the call's
     pub save-time : timeAt savedDisc (recorded d + length beforeTable) ≡ savedStamp c
-    unfolding tableSector
-    save-time = behind-time d sound beforeTable before-whole before-no-tables tableSector sector-long room ∙ read-back .modified
+    save-time = behind-time d sound beforeTable before-whole before-no-tables tableSector sector-long room ∙ read-back readable .modified

@@ -11,17 +11,17 @@ use lib.Seq.{drop-at}
 use borrow.Author.Tests.{eq-eqb, eqb-true, eqb-false, le-leb, lt-leb}
 use Rattle.le.specs.Bytes.{every}
 use Rattle.vat.specs.Table.{sectorLength, limit, unused, unusedOrBelow}
-use Rattle.vat.proofs.Theorems.{Tells, tells}
 use Rattle.disc.specs.Disc.{Disc, recorded, kindAt, sectorAt, readable, content, puts}
 use Rattle.disc.specs.Tables.{tableAt, mapAt}
 use Rattle.disc.proofs.Recording.{Sound}
+use Rattle.disc.proofs.Told.{few-at}
 use Rattle.disc.proofs.Found.{table-recorded}
 use Rattle.volume.specs.declared.Volume.{Volume}
 use Rattle.volume.specs.Volume.{ledgerLength, packetOpen, readOnly, unpack, pack, mapOf, isUnused, fits, filled}
 use Rattle.volume.proofs.State.{Proper, unpack-pack, length-pack, map-filled}
 use Rattle.recorder.specs.Calls.{read}
 use Rattle.recorder.specs.Refusals.{Test, test, first, blockLent, unfit, blockOf, notInUse, tests, outcome}
-use Rattle.recorder.specs.Effects.{effect, after}
+use Rattle.recorder.specs.Effects.{effect, after, shownAt}
 use Rattle.recorder.proofs.Done.{skip, stop, none-left, skip-basic}
 use Rattle.history.specs.History.{unusedEntry}
 use Rattle.history.specs.Events.{shownIf}
@@ -108,14 +108,13 @@ module _ (d : Disc) (l : List ℕ) (n : ℕ) (block : List ℕ) (ok : Sound d) (
 abbrev Filling : ℕ → Type 0
 Filling mode = (leb mode readOnly ≡ true) × (eqb mode packetOpen ≡ false)
 
-filled-fits : (d : Disc) → Sound d → (b mode : ℕ) → Filling mode → tableAt d b ≡ true → fits d (filled (mapAt d b) b (recorded d) mode) ≡ true
+filled-fits : (d : Disc) → Sound d → (b mode : ℕ) → Filling mode → tableAt d b ≡ true → fits d (shownAt d b mode) ≡ true
 unfolding fits filled
 filled-fits d ok b mode m e =
-    let t : Tells (sectorAt d b) b = tells (kindAt d b) (sectorAt d b) b e in
     let xs : List ℕ = mapAt d b in
     let r : ℕ = recorded d in
     let inside : b < r = table-recorded d ok b e in
-    let few : leb (length xs) limit ≡ true = le-leb (length xs) limit (omega (arith, t .counted, t .few)) in
+    let few : leb (length xs) limit ≡ true = le-leb (length xs) limit (few-at d b e) in
     let behind : every isUnused (drop (length xs) (xs ++ replicate (limit - length xs) unused)) ≡ true =
     ap (every isUnused) (drop-at xs (replicate (limit - length xs) unused) (length xs) refl) ∙ all-unused (limit - length xs) in
     let named : every (unusedOrBelow r) (mapOf (filled xs b r mode)) ≡ true =
@@ -130,10 +129,10 @@ pub record HoldsMap (d : Disc) (l xs : List ℕ) : Type 0 where
   pub entry : (n : ℕ) → blockOf (unpack l) n ≡ getD xs n unused
 
 module _ (d : Disc) (ok : Sound d) (b mode : ℕ) (word : mode < 4294967296) (m : Filling mode) (e : tableAt d b ≡ true) where
-  pub holds-table : HoldsMap d (pack (filled (mapAt d b) b (recorded d) mode)) (mapAt d b)
+  pub holds-table : HoldsMap d (pack (shownAt d b mode)) (mapAt d b)
   unfolding filled
   holds-table =
-      let v : Volume = filled (mapAt d b) b (recorded d) mode in
+      let v : Volume = shownAt d b mode in
       let proper : Proper v = proper-table d ok b mode word e in
       let unpacked : unpack (pack v) ≡ v = unpack-pack v proper in
       record {
@@ -143,9 +142,9 @@ module _ (d : Disc) (ok : Sound d) (b mode : ℕ) (word : mode < 4294967296) (m 
         entry = λ n. ap (λ (u : Volume). blockOf u n) unpacked ∙ padded-at (mapAt d b) (limit - length (mapAt d b)) n;
       }
 
-  pub shows-table : Shows d (pack (filled (mapAt d b) b (recorded d) mode)) (pageFrom F d (mapAt d b))
+  pub shows-table : Shows d (pack (shownAt d b mode)) (pageFrom F d (mapAt d b))
   shows-table =
-      let l : List ℕ = pack (filled (mapAt d b) b (recorded d) mode) in
+      let l : List ℕ = pack (shownAt d b mode) in
       let h : HoldsMap d l (mapAt d b) = holds-table in
       record {
         size = h .size ∙ sym (length-page F d (mapAt d b));

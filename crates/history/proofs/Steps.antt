@@ -12,26 +12,29 @@ use lib.ListN.{length, replicate, length-replicate}
 use lib.Arith.{lt-of-le-ne}
 use borrow.Author.Tests.{eqb-true, eqb-false}
 use Rattle.le.proofs.Runs.{Words}
-use Rattle.vat.specs.Table.{limit, unused, isTable}
-use Rattle.vat.proofs.Theorems.{Named, Tells, tells}
-use Rattle.disc.specs.Disc.{Disc, recorded, kindAt, sectorAt, content, Sector, link, puts}
-use Rattle.disc.specs.Tables.{tableAt, mapAt, newest, blockFound}
+use Rattle.vat.specs.Table.{limit, unused, Lower, isTable}
+use Rattle.vat.proofs.Theorems.{Named}
+use Rattle.disc.specs.Disc.{Disc, recorded, content, Sector, link, puts}
+use Rattle.disc.specs.Tables.{below, tableAt, mapAt, newest, blockFound}
 use Rattle.disc.proofs.Recording.{Sound, leading-le}
+use Rattle.disc.proofs.Told.{few-at}
+use Rattle.disc.proofs.Save.{NoTables}
 use Rattle.disc.proofs.Found.{table-recorded, newest-table}
 use Rattle.volume.specs.declared.Volume.{Volume}
 use Rattle.volume.specs.Volume.{idle, readOnly, unpack, pack, mapOf, begun, filled, wrote, released, closed, committed}
 use Rattle.volume.proofs.State.{Proper, unpack-pack, proper-begun, proper-filled, proper-wrote, proper-released, proper-closed, proper-committed, grownMap, map-filled, map-wrote, map-released, length-map}
-use Rattle.recorder.specs.Calls.{Call, begin, mount, write, release, closePacket, commit, closeSession, read, lookBack, timeOf, restores, saves, onlyTells}
+use Rattle.recorder.specs.Calls.{Call, begin, mount, write, release, closePacket, commit, closeSession, read, lookBack, timeOf, restores, saves, onlyTells, bufferOf}
 use Rattle.recorder.specs.Refusals.{links, target, walked, outcome}
-use Rattle.recorder.specs.Effects.{Effect, blockReached, effect, settled, after, secondNumber, sectorsIf, sectorsOf}
+use Rattle.recorder.specs.Effects.{Effect, blockReached, saved, effect, settled, after, secondNumber, sectorsIf, sectorsOf, shownAt}
 use Rattle.recorder.proofs.Done.{Writable, WriteDone, begin-done, mount-done, write-done, release-done, close-done, look-back-done}
 use Rattle.recorder.proofs.Answers.{walked-table}
 use Rattle.history.specs.History.{History, Told, Fed, answered, cut, cutCommit, feed}
 use Rattle.history.specs.Events.{World, Event, calls, cuts, ledgerHeld, CountsAsDone, Follows, Torn, Allowed, cutDisc, ledgerAfter, next, told, kept, cutShort, fed}
 use Rattle.history.proofs.Log.{AllBelow, writtenMap, View, State, Step, plain-same, at, working}
-use Rattle.recorder.proofs.Sectors.{links-whole, whole-take, behind, length-behind, behind-whole}
-use Rattle.history.proofs.Growth.{F, names-below, NoTables, Grown, puts-plain, links-no-tables, no-tables-take, behind-no-tables, behind-content, behind-counted, Left, cut-left, cut-before-left, cut-all, cut-none}
-use Rattle.history.proofs.Saving.{Saving, saving-done, enough, tableSector, beforeTable, before-whole, before-no-tables, room, small, at-table, leaves-behind, savedDisc, save, save-sound}
+use Rattle.recorder.proofs.Sectors.{links-whole, behind, length-behind}
+use Rattle.history.specs.Times.{savedStamp}
+use Rattle.history.proofs.Growth.{F, names-below, Grown, links-no-tables, links-below, behind-content, behind-counted, behind-grown, Left, cut-before-left, cut-all, cut-none}
+use Rattle.history.proofs.Saving.{Saving, saving-done, enough, tableSector, beforeTable, before-whole, before-no-tables, room, small, tableBlock, at-table, leaves-behind, savedDisc, save, save-sound}
 
 -- ---- the world as the log sees it
 
@@ -83,13 +86,12 @@ few-recorded : (d : Disc) → Sound d → recorded d < 4294967296
 few-recorded d ok = omega (arith, leading-le (d .kinds), ok .few)
 
 -- a state filled from a table
-pub proper-table : (d : Disc) → Sound d → (b mode : ℕ) → mode < 4294967296 → tableAt d b ≡ true → Proper (filled (mapAt d b) b (recorded d) mode)
+pub proper-table : (d : Disc) → Sound d → (b mode : ℕ) → mode < 4294967296 → tableAt d b ≡ true → Proper (shownAt d b mode)
 proper-table d ok b mode hm e =
     let r : ℕ = recorded d in
     let inside : b < r = table-recorded d ok b e in
     let small : r < 4294967296 = few-recorded d ok in
-    let t : Tells (sectorAt d b) b = tells (kindAt d b) (sectorAt d b) b e in
-    proper-filled (mapAt d b) b r mode (omega (arith, t .counted, t .few)) (words-below b (mapAt d b) (omega arith) (names-below d b e)) (omega arith) small hm
+    proper-filled (mapAt d b) b r mode (few-at d b e) (words-below b (mapAt d b) (omega arith) (names-below d b e)) (omega arith) small hm
 
 -- ---- a call that is done or refused
 
@@ -146,10 +148,10 @@ mount-step w l g e =
     let b : ℕ = facts .1 .0 in
     let here : blockFound (newest d) ≡ b = ap blockFound (facts .1 .1) in
     let table : tableAt d b ≡ true = newest-table (tableAt d) (recorded d) b (facts .1 .1) in
-    let v : Volume = filled (mapAt d b) b (recorded d) idle in
+    let v : Volume = shownAt d b idle in
     let ok : Proper v = proper-table d (g .sound-disc) b idle (lit< tt) table in
     let view : viewIs (unpack (pack v)) ≡ working F (mapAt d b) b = packed-view v ok ∙ filled-view (mapAt d b) b (recorded d) in
-    subst (λ (x : ℕ). GoodStep w (answered Told.mount 0 (effect d l mount .second)) (record { disc = d; ledger = some (pack (filled (mapAt d x) x (recorded d) idle)) })) (sym here)
+    subst (λ (x : ℕ). GoodStep w (answered Told.mount 0 (effect d l mount .second)) (record { disc = d; ledger = some (pack (shownAt d x idle)) })) (sym here)
     (record {
       good = record { sound-disc = g .sound-disc; ledger-good = packed-good v ok };
       step =
@@ -170,9 +172,9 @@ look-back-step w l k g e =
     let b : ℕ = facts .1 .0 in
     let second : ℕ = blockReached (walked d k) in
     let here : blockReached (walked d k) ≡ b = ap blockReached (facts .1 .1) in
-    let v : Volume = filled (mapAt d b) b (recorded d) readOnly in
+    let v : Volume = shownAt d b readOnly in
     let ok : Proper v = proper-table d (g .sound-disc) b readOnly (lit< tt) (walked-table d k b (facts .1 .1)) in
-    subst (λ (x : ℕ). GoodStep w (answered (Told.lookBack k) 0 second) (record { disc = d; ledger = some (pack (filled (mapAt d x) x (recorded d) readOnly)) })) (sym here)
+    subst (λ (x : ℕ). GoodStep w (answered (Told.lookBack k) 0 second) (record { disc = d; ledger = some (pack (shownAt d x readOnly)) })) (sym here)
     (record {
       good = record { sound-disc = g .sound-disc; ledger-good = packed-good v ok };
       step =
@@ -204,12 +206,17 @@ committed-view : (v : Volume) (b : ℕ) → viewIs (committed b v) ≡ working F
 unfolding committed
 committed-view v b = refl
 
--- a write's block is no table behind its links
-written-no-tables : (d : Disc) (l : List ℕ) (n : Option ℕ) (block : List ℕ) → WriteDone d l n block → NoTables (recorded d) (behind (replicate (links (unpack l)) link) block)
-written-no-tables d l n block f =
+-- a write's block is no table behind its links, below which the disc reads as it did
+pub written-grown : (d : Disc) (l : List ℕ) (n : Option ℕ) (block : List ℕ) → WriteDone d l n block → let ss : List Sector = behind (replicate (links (unpack l)) link) block in
+    Grown d (puts d (recorded d) ss) (length ss)
+written-grown d l n block f =
     let m : ℕ = links (unpack l) in
-    let here : target (unpack l) ≡ recorded d + length (replicate {A = Sector} m link) = omega (arith, length-replicate {A = Sector} m link, f .fit .same-recorded) in
-    behind-no-tables (replicate m link) block (recorded d) (links-no-tables m (recorded d)) (subst (λ (b : ℕ). isTable 1 block b ≡ false) here (f .no-table))
+    let ss : List Sector = replicate m link in
+    let ok : Sound d = f .sound-disc in
+    let count : length ss ≡ m = length-replicate m link in
+    let here : target (unpack l) ≡ recorded d + length ss = omega (arith, count, f .fit .same-recorded) in
+    behind-grown d ok ss (links-whole m) (links-no-tables m (recorded d)) block (f .block-long) (omega (arith, count, f .room))
+    (ap (λ (lower : Lower). isTable lower block (recorded d + length ss)) (links-below d ok m (recorded d + length ss)) ∙ subst (λ (b : ℕ). isTable (below d b) block b ≡ false) here (f .no-table))
 
 -- the ledger is there, since a lost one lets only begin, mount and look back be done
 module _ (d : Disc) (l : List ℕ) (sound : Sound d) (good : Proper (unpack l)) where
@@ -262,8 +269,7 @@ module _ (d : Disc) (l : List ℕ) (sound : Sound d) (good : Proper (unpack l)) 
       let lower : recorded d + length ss < unused = omega (arith, fits, sound .few) in
       let plain-links : NoTables (recorded d) ss = links-no-tables (links v) (recorded d) in
       let d′ : Disc = puts d (recorded d) (behind ss block) in
-      let g : Grown d d′ (length (behind ss block)) =
-      puts-plain (behind ss block) d sound (omega (arith, length-behind ss block)) (behind-whole ss block (links-whole (links v)) (f .block-long)) (written-no-tables d l n block f) in
+      let g : Grown d d′ (length (behind ss block)) = written-grown d l n block f in
       let ok : Proper (wrote n (target v) v) = proper-wrote v good n (target v) (f .fit .few) (omega arith) in
       let before : viewIs v ≡ working F (mapOf v) (v .last) = working-view v (f .not-looking) in
       let after-view : viewIs (unpack (pack (wrote n (target v) v))) ≡ working F (writtenMap n (mapOf v) (target v)) (v .last) =
@@ -280,24 +286,26 @@ module _ (d : Disc) (l : List ℕ) (sound : Sound d) (good : Proper (unpack l)) 
   -- a save, whichever call makes it
   save-step : (c : Call) → saves c ≡ true → outcome d l c ≡ 0
       → GoodStep (record { disc = d; ledger = some l }) (answered Told.commit 0 (effect d l c .second)) (doneWorld (record { disc = d; ledger = some l }) l c)
-  unfolding tableSector
   save-step c is-save e =
       let s : Saving d l c = saving-done d l c is-save e in
       let v : Volume = unpack l in
-      let b : ℕ = target v + length (s .between) in
+      let b : ℕ = tableBlock d l sound good c s in
       let end : ℕ = recorded d + length (beforeTable d l sound good c s) in
       let d′ : Disc = savedDisc d l sound good c s in
       let ok : Proper (committed b v) = proper-committed v good b (omega (arith, at-table d l sound good c s, small d l sound good c s)) in
       let before : viewIs v ≡ working F (mapOf v) (v .last) = working-view v (s .done .not-looking) in
+      let records : saved d v (mapOf v) (v .last) (s .first) (savedStamp c) (bufferOf c) .sectors ≡ behind (beforeTable d l sound good c s) (tableSector d l sound good c s) =
+      ap (λ (x : Effect). x .sectors) (sym (s .leaves)) ∙ leaves-behind d l sound good c s in
       let after-view : viewIs (unpack (pack (committed b v))) ≡ working F (mapOf v) end =
       packed-view (committed b v) ok ∙ committed-view v b ∙ ap (working F (mapOf v)) (at-table d l sound good c s) in
       subst (λ (x : Effect). GoodStep (record { disc = d; ledger = some l }) (answered Told.commit 0 (x .second)) (record { disc = puts d (recorded d) (x .sectors); ledger = some (x .ledger) })) (sym (s .leaves))
+      (subst (λ (ss : List Sector). GoodStep (record { disc = d; ledger = some l }) (answered Told.commit 0 b) (record { disc = puts d (recorded d) ss; ledger = some (pack (committed b v)) })) (sym records)
       (record {
         good = record { sound-disc = save-sound d l sound good c s; ledger-good = packed-good (committed b v) ok };
         step =
             subst₂ (λ (x y : View). Step F (at F d (some x)) (answered Told.commit 0 b) (at F d′ (some y))) (sym before) (sym after-view)
             (Step.committed (mapOf v) (v .last) end b (save d l sound good c s));
-      })
+      }))
 
 done-step : (d : Disc) (o : Option (List ℕ)) (c : Call) (junk : List ℕ) → onlyTells c ≡ false → Good (record { disc = d; ledger = o }) → Follows (record { disc = d; ledger = o }) c junk
     → outcome d (ledgerHeld o junk) c ≡ 0
@@ -395,6 +403,22 @@ write-records : (d : Disc) (l : List ℕ) (n : Option ℕ) (block : List ℕ) �
 unfolding effect
 write-records d l n block = refl
 
+not-all : (j n m : ℕ) → j ≤ n → (j ≡ n → ⊥) → n ≡ m + 1 → j ≤ m
+not-all j n m h ne e = let less : j < n = lt-of-le-ne h ne in omega arith
+
+cut-written : (d : Disc) (l : List ℕ) (n : Option ℕ) (block : List ℕ) (j : ℕ) (tear : Option (List ℕ)) → WriteDone d l n block
+    → let ss : List Sector = behind (replicate (links (unpack l)) link) block in j ≤ length ss → Torn tear → (t : Bool) → eqb j (length ss) ≡ t → Left d (cutDisc d ss j tear)
+cut-written d l n block j tear w h t true z =
+    let ss : List Sector = behind (replicate (links (unpack l)) link) block in
+    let g : Grown d (puts d (recorded d) ss) (length ss) = written-grown d l n block w in
+    subst (λ (e : Disc). Left d e) (sym (cut-all ss d tear j (eqb-true j (length ss) z))) (record { plainly = g .plainly; still-sound = g .still-sound })
+cut-written d l n block j tear w h t false z =
+    let m : ℕ = links (unpack l) in
+    let ss : List Sector = replicate m link in
+    let count : length ss ≡ m = length-replicate m link in
+    let fewer : j ≤ length ss = not-all j (length (behind ss block)) (length ss) h (eqb-false j (length (behind ss block)) z) (length-behind ss block) in
+    cut-before-left ss block d j tear (w .sound-disc) (links-whole m) (links-no-tables m (recorded d)) (omega (arith, count, w .room)) fewer t
+
 cut-write-left : (d : Disc) (o : Option (List ℕ)) (n : Option ℕ) (block junk : List ℕ) (j : ℕ) (tear : Option (List ℕ)) → Good (record { disc = d; ledger = o })
     → Follows (record { disc = d; ledger = o }) (write n block) junk → j ≤ length (sectorsOf d (ledgerHeld o junk) (write n block)) → Torn tear
     → (m : ℕ) → outcome d (ledgerHeld o junk) (write n block) ≡ m → Left d (cutDisc d (sectorsOf d (ledgerHeld o junk) (write n block)) j tear)
@@ -402,15 +426,9 @@ cut-write-left d o n block junk j tear g f h t (suc m) e =
     nothing-left d (g .sound-disc) (sectorsOf d (ledgerHeld o junk) (write n block)) j tear (refused-records-none d (ledgerHeld o junk) (write n block) m e) h
 cut-write-left d none n block junk j tear g f h t zero e = absurd (mathlib.Core.Bool.false≢true (f refl (e, refl)))
 cut-write-left d (some l) n block junk j tear g f h t zero e =
-    let w : WriteDone d l n block = write-done d l n block e in
-    let m : ℕ = links (unpack l) in
-    let ss : List Sector = behind (replicate m link) block in
-    let count : length ss ≡ m + 1 = length-behind (replicate m link) block ∙ ap (λ (k : ℕ). k + 1) (length-replicate m link) in
-    let same : sectorsOf d l (write n block) ≡ ss = done-records d l (write n block) e ∙ write-records d l n block in
+    let same : sectorsOf d l (write n block) ≡ behind (replicate (links (unpack l)) link) block = done-records d l (write n block) e ∙ write-records d l n block in
     subst (λ (x : List Sector). Left d (cutDisc d x j tear)) (sym same)
-    (cut-left ss d j tear (g .sound-disc) (omega (arith, count, w .room)) (subst (λ (x : List Sector). j ≤ length x) same h)
-    (whole-take j ss (behind-whole (replicate m link) block (links-whole m) (w .block-long)))
-    (no-tables-take j ss (recorded d) (written-no-tables d l n block w)) t)
+    (cut-written d l n block j tear (write-done d l n block e) (subst (λ (x : List Sector). j ≤ length x) same h) t (eqb j (length (behind (replicate (links (unpack l)) link) block))) refl)
 
 -- a save does not bring a lost ledger back
 pub no-save-follows : (d : Disc) (l : List ℕ) (c : Call) → saves c ≡ true → (CountsAsDone d l c → restores c ≡ true) → outcome d l c ≡ 0 → ⊥
@@ -424,9 +442,6 @@ no-save-follows d l (closeSession main reserve start) s f e = mathlib.Core.Bool.
 no-save-follows d l (read n block) s f e = mathlib.Core.Bool.false≢true (f (e, refl))
 no-save-follows d l (lookBack k) s f e = mathlib.Core.Bool.false≢true s
 no-save-follows d l (timeOf k answer) s f e = mathlib.Core.Bool.false≢true s
-
-not-all : (j n m : ℕ) → j ≤ n → (j ≡ n → ⊥) → n ≡ m + 1 → j ≤ m
-not-all j n m h ne e = let less : j < n = lt-of-le-ne h ne in omega arith
 
 -- a save that would have been done, cut after j of its sectors
 module _ (d : Disc) (l : List ℕ) (g : Good (record { disc = d; ledger = some l })) (c : Call) (s : Saving d l c) (e : outcome d l c ≡ 0) where

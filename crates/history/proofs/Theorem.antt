@@ -27,8 +27,8 @@ use Rattle.volume.specs.declared.Volume.{Volume}
 use Rattle.volume.specs.Volume.{ledgerLength, idle, readOnly, unpack, pack, mapOf, filled}
 use Rattle.volume.proofs.State.{Proper, unpack-pack, proper-unpack, map-filled, length-map}
 use Rattle.recorder.specs.Calls.{Call, begin, mount, lookBack, saves, onlyTells}
-use Rattle.recorder.specs.Refusals.{test, ledgerLent, isSome, walkFrom, walked, isBroken, isEnded, walkTests, tests, outcome, target}
-use Rattle.recorder.specs.Effects.{effect, blockReached, cleanNumber, after}
+use Rattle.recorder.specs.Refusals.{test, ledgerLent, isSome, walkFrom, walked, isBroken, isEnded, walkTests, tests, outcome}
+use Rattle.recorder.specs.Effects.{effect, blockReached, cleanNumber, after, shownAt}
 use Rattle.recorder.proofs.Done.{skip, stop, none-left, skip-basic, skip-walk, begin-done, mount-done, SaveDone}
 use Rattle.recorder.proofs.Answers.{walked-table}
 use Rattle.history.specs.History.{Snapshot, History, Told, saved, done, feed}
@@ -39,7 +39,7 @@ use Rattle.history.proofs.Log.{Extends, extends-same, extends-on, HeldI
 use Rattle.history.proofs.Back.{step-extends, way-walk, Behind, page-behind, Since, since-kept}
 use Rattle.history.proofs.Growth.{F, names-below}
 use Rattle.history.proofs.Steps.{Good, GoodStep, stateOf, event-step, proper-table}
-use Rattle.history.proofs.Saving.{told-save, Saving, saving-done, beforeTable, at-table, leaves-behind, savedDisc, save, save-sound}
+use Rattle.history.proofs.Saving.{told-save, Saving, saving-done, beforeTable, tableBlock, at-table, leaves-behind, savedDisc, save, save-sound}
 use Rattle.history.proofs.Shown.{shows-table}
 
 -- ---- the invariant over a list
@@ -89,9 +89,9 @@ module _ (d : Disc) (l : List ℕ) (ok : Sound d) (long : length l ≡ ledgerLen
       let seven : Bool = not (isSome (newest d)) in
       skip-basic d (ledgerLent l) (test 7 seven ∷ []) ok (eq-eqb (length l) ledgerLength long) ∙ skip 7 seven [] (ap (λ (o : Option ℕ). not (isSome o)) n) ∙ none-left
 
-  mount-leaves : (b : ℕ) → newest d ≡ some b → after d l mount .ledger ≡ pack (filled (mapAt d b) b (recorded d) idle)
+  mount-leaves : (b : ℕ) → newest d ≡ some b → after d l mount .ledger ≡ pack (shownAt d b idle)
   unfolding after effect
-  mount-leaves b n = rw (mount-some b n) (ap (λ (o : Option ℕ). pack (filled (mapAt d (blockFound o)) (blockFound o) (recorded d) idle)) n)
+  mount-leaves b n = rw (mount-some b n) (ap (λ (o : Option ℕ). pack (shownAt d (blockFound o) idle)) n)
 
   -- mount shows the newest table
   pub mount-shows : (b : ℕ) → newest d ≡ some b → DoneShowing d l mount (pageFrom F d (mapAt d b))
@@ -108,10 +108,10 @@ module _ (d : Disc) (l : List ℕ) (ok : Sound d) (long : length l ≡ ledgerLen
   look-back-some k b t n e =
       skip-basic d (ledgerLent l) (walkTests d k) ok (eq-eqb (length l) ledgerLength long) ∙ skip-walk d k b t [] n e ∙ none-left
 
-  pub look-back-leaves : (k b t : ℕ) → newest d ≡ some b → walked d k ≡ Reached t → after d l (lookBack k) .ledger ≡ pack (filled (mapAt d t) t (recorded d) readOnly)
+  pub look-back-leaves : (k b t : ℕ) → newest d ≡ some b → walked d k ≡ Reached t → after d l (lookBack k) .ledger ≡ pack (shownAt d t readOnly)
   unfolding after effect
   look-back-leaves k b t n e =
-      rw (look-back-some k b t n e) (ap (λ (w : Walk). pack (filled (mapAt d (blockReached w)) (blockReached w) (recorded d) readOnly)) e)
+      rw (look-back-some k b t n e) (ap (λ (w : Walk). pack (shownAt d (blockReached w) readOnly)) e)
 
   look-back-tells : (k b t : ℕ) → newest d ≡ some b → walked d k ≡ Reached t → after d l (lookBack k) .answer ≡ t
   unfolding after effect
@@ -237,9 +237,9 @@ pub saved-disc : (d : Disc) (l : List ℕ) (ok : Sound d) (good : Proper (unpack
 unfolding after
 saved-disc d l ok good c s e = rw e (ap (puts d (recorded d)) (leaves-behind d l ok good c s))
 
-saved-block : (d : Disc) (l : List ℕ) (c : Call) (s : Saving d l c) → outcome d l c ≡ 0 → after d l c .answer ≡ target (unpack l) + length (s .between)
+saved-block : (d : Disc) (l : List ℕ) (ok : Sound d) (good : Proper (unpack l)) (c : Call) (s : Saving d l c) → outcome d l c ≡ 0 → after d l c .answer ≡ tableBlock d l ok good c s
 unfolding after
-saved-block d l c s e = rw e (ap (λ x. x .second) (s .leaves))
+saved-block d l ok good c s e = rw e (ap (λ x. x .second) (s .leaves))
 
 mount-clean : (d : Disc) (m : List ℕ) → Sound d → length m ≡ ledgerLength → (b : ℕ) → newest d ≡ some b → recorded d ≡ suc b → after d m mount .answer ≡ 1
 unfolding after effect
@@ -262,7 +262,7 @@ unfolding filled
 remounts d l good c is-save e m long =
     let v : Volume = unpack l in
     let s : Saving d l c = saving-done d l c is-save e in
-    let f : SaveDone d l (s .between) (savedStamp c) = s .done in
+    let f : SaveDone d l (s .first) (savedStamp c) = s .done in
     let ok : Sound d = f .sound-disc in
     let b : ℕ = recorded d + length (beforeTable d l ok good c s) in
     let d′ : Disc = savedDisc d l ok good c s in
@@ -270,7 +270,7 @@ remounts d l good c is-save e m long =
     let ok′ : Sound d′ = save-sound d l ok good c s in
     let made : Saved F d d′ (working F (mapOf v) (v .last)) b = save d l ok good c s in
     let n : newest d′ ≡ some b = newest-saved F (working F (mapOf v) (v .last)) b made in
-    let state : Volume = filled (mapAt d′ b) b (recorded d′) idle in
+    let state : Volume = shownAt d′ b idle in
     let proper : Proper state = proper-table d′ ok′ b idle (lit< tt) (made .a-table) in
     let left : unpack (after d′ m mount .ledger) ≡ state = ap unpack (mount-leaves d′ m ok′ long b n) ∙ unpack-pack state proper in
     let map : mapOf state ≡ mapOf v = map-filled (mapAt d′ b) b (recorded d′) idle ∙ made .its-map in
@@ -281,7 +281,7 @@ remounts d l good c is-save e m long =
       clean = ap (λ (x : Disc). after x m mount .answer) same ∙ mount-clean d′ m ok′ long b n (made .last-sector);
       same-map = ap mapOf (all (after d l c .disc) same) ∙ map;
       same-size = ap (λ (x : Volume). x .size) (all (after d l c .disc) same) ∙ ap length (made .its-map) ∙ counted;
-      that-block = ap (λ (x : Volume). x .last) (all (after d l c .disc) same) ∙ sym (saved-block d l c s e ∙ at-table d l ok good c s);
+      that-block = ap (λ (x : Volume). x .last) (all (after d l c .disc) same) ∙ sym (saved-block d l ok good c s e ∙ at-table d l ok good c s);
       one-back = λ used.
           let inside : v .last < recorded d = table-recorded d ok (v .last) (old-table used) in
           ap (λ (x : Disc). after x m (lookBack 1) .answer) same

@@ -8,9 +8,9 @@ use Rattle.timestamp.specs.Timestamp.{toldLength, valid, told}
 use Rattle.disc.specs.Disc.{Disc}
 use Rattle.volume.specs.Volume.{ledgerLength}
 use Rattle.vat.specs.Sector.{noStamp}
-use Rattle.recorder.specs.Calls.{Call, begin, mount, write, release, closePacket, commit, closeSession, read, lookBack, timeOf}
+use Rattle.recorder.specs.Calls.{Call, begin, mount, write, release, closePacket, commit, closeSession, read, lookBack, timeOf, stampOf}
 use Rattle.recorder.specs.Refusals.{outcome}
-use Rattle.recorder.specs.Effects.{stampOf, After, after}
+use Rattle.recorder.specs.Effects.{After, after}
 use Rattle.history.specs.History.{History, feed}
 use Rattle.history.specs.Events.{World, Event, calls, cuts, Allowed, AllAllowed, next, fed, runs, remembers, afterCall, begunHistory, mountedHistory}
 

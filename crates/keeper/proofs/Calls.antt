@@ -2,7 +2,6 @@
 -- roles kept up.
 -- Assumes nothing.
 use Prim.Native.Nat.{ℕ, _+_, _-_, _*_, _≤_, _<_}
-use native.Mathlib.Nat.{add-zero}
 use native.Mathlib.Omega.{arith}
 use mathlib.Core.Path.{_≡_, refl, sym, ap, ap₂, _∙_, subst}
 use mathlib.Core.Bool.{Bool, true, false, _&&_}
@@ -11,25 +10,27 @@ use mathlib.Core.Option.{Option, none, some}
 use lib.Dec.{eqb, ltb, leb, lit≤}
 use lib.ListN.{length, length-set}
 use Rattle.vat.specs.Table.{sectorLength, limit, unused}
-use Rattle.vat.specs.Sector.{noStamp}
-use Rattle.vat.proofs.Theorems.{Tells, tells}
+use Rattle.vat.specs.Sector.{noStamp, tableBytes}
 use Rattle.extent.specs.declared.Extent.{Extent}
 use Rattle.disc.specs.declared.Walk.{Walk}
 use Rattle.disc.specs.Disc.{Disc, lent, mostSectors, sized, Sector, recorded, blanks, kindAt, sectorAt}
 use Rattle.disc.specs.Tables.{tableAt, mapAt, blockFound, newest}
-use Rattle.disc.specs.Session.{closing, closingLength}
+use Rattle.disc.specs.Session.{closing}
+use Rattle.disc.specs.Save.{lastBlock}
 use Rattle.disc.proofs.Recording.{Sound, leading-le}
+use Rattle.disc.proofs.Told.{few-at}
 use Rattle.disc.proofs.Found.{newest-table, newest-below, none-recorded, none-newer}
+use Rattle.disc.proofs.Save.{ownSectors, save-count}
 use Rattle.volume.specs.Volume.{ledgerLength, idle, readOnly, unpack, pack, mapOf, begun, filled, wrote, released}
+use Rattle.volume.specs.declared.Volume.{Volume}
 use Rattle.volume.proofs.State.{proper-begun, long-unpack, long-filled, size-kept, recorded-kept, last-kept}
-use Rattle.recorder.specs.Calls.{Call, begin, mount, write, release, commit, closeSession, lookBack}
+use Rattle.recorder.specs.Calls.{Call, begin, mount, write, release, commit, closeSession, lookBack, stampOf}
 use Rattle.recorder.specs.Refusals.{first, links, target, blockOf, outcome}
-use Rattle.recorder.specs.Effects.{effect, blockReached, stampOf, After, left, after}
-use Rattle.recorder.proofs.Sectors.{length-closing}
-use Rattle.recorder.proofs.Done.{Fits, ledger-accepted, begin-done, mount-done, size-fits, WriteDone, write-done, release-done, SaveDone, commit-done, closing-done, look-back-done}
+use Rattle.recorder.specs.Effects.{effect, blockReached, After, left, after, shownAt}
+use Rattle.recorder.proofs.Done.{Fits, ledger-accepted, begin-done, mount-done, size-fits, WriteDone, write-done, release-done, saveOf, SaveDone, commit-done, closing-done, look-back-done}
 use Rattle.recorder.proofs.Answers.{walked-table}
-use Rattle.roles.specs.Roles.{inUse, unnumbered, tableRole}
-use Rattle.roles.specs.Keeping.{scanned, supersedeIf, letGo, marked, keptUp, rolesTests}
+use Rattle.roles.specs.Roles.{inUse, unnumbered}
+use Rattle.roles.specs.Keeping.{scanned, supersedeIf, letGo, marked, markedSave, keptUp, rolesTests}
 use Rattle.roles.proofs.Naming.{beyond-kept}
 use Rattle.keeper.proofs.Kept.{lengths-told}
 
@@ -43,25 +44,22 @@ module _ (d : Disc) (l : List ℕ) where
       size-kept (begun (recorded d)) (proper-begun (recorded d) (omega (arith, leading-le (d .kinds), ok .few)) .long) (lit≤ tt)
 
   -- filled from a table
-  map-few : (b : ℕ) → tableAt d b ≡ true → length (mapAt d b) ≤ limit
-  map-few b e = let t : Tells (sectorAt d b) b = tells (kindAt d b) (sectorAt d b) b e in omega (arith, t .counted, t .few)
-
-  table-few : (b mode : ℕ) → tableAt d b ≡ true → unpack (pack (filled (mapAt d b) b (recorded d) mode)) .size ≤ limit
+  table-few : (b mode : ℕ) → tableAt d b ≡ true → unpack (pack (shownAt d b mode)) .size ≤ limit
   unfolding filled
-  table-few b mode e = size-kept (filled (mapAt d b) b (recorded d) mode) (long-filled (mapAt d b) b (recorded d) mode (map-few b e)) (map-few b e)
+  table-few b mode e = size-kept (shownAt d b mode) (long-filled (mapAt d b) b (recorded d) mode (few-at d b e)) (few-at d b e)
 
   pub mount-few : outcome d l mount ≡ 0 → unpack (effect d l mount .ledger) .size ≤ limit
   unfolding effect
   mount-few z =
       let f = mount-done d l z .1 in
-      subst (λ (o : Option ℕ). unpack (pack (filled (mapAt d (blockFound o)) (blockFound o) (recorded d) idle)) .size ≤ limit) (sym (f .1))
+      subst (λ (o : Option ℕ). unpack (pack (shownAt d (blockFound o) idle)) .size ≤ limit) (sym (f .1))
       (table-few (f .0) idle (newest-table (tableAt d) (recorded d) (f .0) (f .1)))
 
   pub look-back-few : (k : ℕ) → outcome d l (lookBack k) ≡ 0 → unpack (effect d l (lookBack k) .ledger) .size ≤ limit
   unfolding effect
   look-back-few k z =
       let f = look-back-done d l k z .1 in
-      subst (λ (w : Walk). unpack (pack (filled (mapAt d (blockReached w)) (blockReached w) (recorded d) readOnly)) .size ≤ limit) (sym (f .1))
+      subst (λ (w : Walk). unpack (pack (shownAt d (blockReached w) readOnly)) .size ≤ limit) (sym (f .1))
       (table-few (f .0) readOnly (walked-table d k (f .0) (f .1)))
 
   pub write-few : (n : ℕ) (block : List ℕ) → outcome d l (write (some n) block) ≡ 0 → unpack (effect d l (write (some n) block) .ledger) .size ≤ limit
@@ -122,11 +120,11 @@ module _ (d : Disc) (l : List ℕ) where
         let found : newest d ≡ some t = f .1 .1 in
         let below : t < recorded d = newest-below (tableAt d) (recorded d) t found in
         let small : t < length (d .kinds) = omega (arith, leading-le (d .kinds)) in
-        let few : length (mapAt d t) ≤ limit = map-few d l t (newest-table (tableAt d) (recorded d) t found) in
+        let few : length (mapAt d t) ≤ limit = few-at d t (newest-table (tableAt d) (recorded d) t found) in
         let last-is : unpack m .last ≡ t =
         ap (λ (x : List ℕ). unpack x .last) (ledger-left d l mount z e)
-        ∙ ap (λ (o : Option ℕ). unpack (pack (filled (mapAt d (blockFound o)) (blockFound o) (recorded d) idle)) .last) found
-        ∙ last-kept (filled (mapAt d t) t (recorded d) idle) (long-filled (mapAt d t) t (recorded d) idle few) (omega (arith, f .0 .few)) in
+        ∙ ap (λ (o : Option ℕ). unpack (pack (shownAt d (blockFound o) idle)) .last) found
+        ∙ last-kept (shownAt d t idle) (long-filled (mapAt d t) t (recorded d) idle few) (omega (arith, f .0 .few)) in
         subst (λ (n : ℕ). Ends d (n + 1)) (sym last-is) (omega arith, λ b h. none-newer d (f .0) b (rw found h))
 
     pub look-back-ends : (j : ℕ) → outcome d l (lookBack j) ≡ 0 → left a i k m b ≡ after d l (lookBack j) → Ends d (unpack m .recorded)
@@ -135,64 +133,71 @@ module _ (d : Disc) (l : List ℕ) where
         let f = look-back-done d l j z in
         let t : ℕ = f .1 .0 in
         let within : recorded d ≤ length (d .kinds) = leading-le (d .kinds) in
-        let few : length (mapAt d t) ≤ limit = map-few d l t (walked-table d j t (f .1 .1)) in
+        let few : length (mapAt d t) ≤ limit = few-at d t (walked-table d j t (f .1 .1)) in
         let recorded-is : unpack m .recorded ≡ recorded d =
         ap (λ (x : List ℕ). unpack x .recorded) (ledger-left d l (lookBack j) z e)
-        ∙ ap (λ (w : Walk). unpack (pack (filled (mapAt d (blockReached w)) (blockReached w) (recorded d) readOnly)) .recorded) (f .1 .1)
-        ∙ recorded-kept (filled (mapAt d t) t (recorded d) readOnly) (long-filled (mapAt d t) t (recorded d) readOnly few) (omega (arith, f .0 .few)) in
+        ∙ ap (λ (w : Walk). unpack (pack (shownAt d (blockReached w) readOnly)) .recorded) (f .1 .1)
+        ∙ recorded-kept (shownAt d t readOnly) (long-filled (mapAt d t) t (recorded d) readOnly few) (omega (arith, f .0 .few)) in
         subst (Ends d) (sym recorded-is) (within, none-recorded d (f .0))
 
--- the answer of a call that records is its last block
-pub record Placed (d : Disc) (l : List ℕ) (between a : ℕ) : Type 0 where
-  pub place : a ≡ recorded d + links (unpack l) + between
+-- a call that records starts at the count of what was recorded, and its answer is its last block
+pub record Placed (d : Disc) (l : List ℕ) (between count a : ℕ) : Type 0 where
+  pub own : unpack l .recorded ≡ recorded d
+  pub place : a + 1 ≡ recorded d + links (unpack l) + between + count
   pub within : a < length (d .kinds)
   pub few : length (d .kinds) ≤ mostSectors
 
 module _ (d : Disc) (l : List ℕ) where
-  placed : (between a : ℕ) → Sound d → Fits d (unpack l) → links (unpack l) + between + 1 ≤ blanks d → a ≡ target (unpack l) + between → Placed d l between a
-  placed between a ok fit room at =
+  placed : (between count a : ℕ) → Sound d → Fits d (unpack l) → links (unpack l) + (between + count) ≤ blanks d → a + 1 ≡ target (unpack l) + between + count → Placed d l between count a
+  placed between count a ok fit room at =
       record {
+        own = fit .same-recorded;
         place = omega (arith, fit .same-recorded);
         within = omega (arith, fit .same-recorded, leading-le (d .kinds));
         few = ok .few;
       }
 
+  save-placed : (first : List Sector) (stamp : List ℕ) (a : ℕ) → SaveDone d l first stamp → a ≡ lastBlock (target (unpack l) + length first) (saveOf d l first stamp)
+      → Placed d l (length first) (length (saveOf d l first stamp)) a
+  save-placed first stamp a f at =
+      let v : Volume = unpack l in
+      let count : length (saveOf d l first stamp) ≡ length (ownSectors d (tableBytes (mapOf v) (v .last)) (v .last)) + 1 =
+      save-count d (tableBytes (mapOf v) (v .last)) (v .last) stamp (target v + length first) in
+      placed (length first) (length (saveOf d l first stamp)) a (f .sound-disc) (f .fit) (f .room) (omega (arith, at, count))
+
   module _ {a : ℕ} {i k m b : List ℕ} where
-    pub write-placed : (n : Option ℕ) (block : List ℕ) → outcome d l (write n block) ≡ 0 → left a i k m b ≡ after d l (write n block) → Placed d l 0 a
+    pub write-placed : (n : Option ℕ) (block : List ℕ) → outcome d l (write n block) ≡ 0 → left a i k m b ≡ after d l (write n block) → Placed d l 0 1 a
     unfolding effect
     write-placed n block z e =
         let f : WriteDone d l n block = write-done d l n block z in
-        placed 0 a (f .sound-disc) (f .fit) (omega (arith, f .room)) (answered d l (write n block) z e ∙ sym (add-zero (target (unpack l))))
+        let at : a ≡ target (unpack l) = answered d l (write n block) z e in
+        placed 0 1 a (f .sound-disc) (f .fit) (omega (arith, f .room)) (omega (arith, at))
 
-    pub commit-placed : (stamp : Option (List ℕ)) → outcome d l (commit stamp) ≡ 0 → left a i k m b ≡ after d l (commit stamp) → Placed d l 0 a
+    pub commit-placed : (stamp : Option (List ℕ)) → outcome d l (commit stamp) ≡ 0 → left a i k m b ≡ after d l (commit stamp) → Placed d l 0 (length (saveOf d l [] (stampOf stamp))) a
     unfolding effect
-    commit-placed stamp z e =
-        let f : SaveDone d l [] (stampOf stamp) = commit-done d l stamp z .saving in
-        placed 0 a (f .sound-disc) (f .fit) (f .room) (answered d l (commit stamp) z e)
+    commit-placed stamp z e = save-placed [] (stampOf stamp) a (commit-done d l stamp z .saving) (answered d l (commit stamp) z e)
 
     pub closing-placed : (main reserve : Extent) (start : ℕ) → outcome d l (closeSession main reserve start) ≡ 0 → left a i k m b ≡ after d l (closeSession main reserve start)
-        → Placed d l closingLength a
+        → let first : List Sector = closing main reserve start (target (unpack l)) in Placed d l (length first) (length (saveOf d l first noStamp)) a
     unfolding effect
     closing-placed main reserve start z e =
-        let between : List Sector = closing main reserve start (target (unpack l)) in
-        let f : SaveDone d l between noStamp = closing-done d l main reserve start z .saving in
-        subst (λ (n : ℕ). Placed d l n a) (length-closing main reserve start (target (unpack l)))
-        (placed (length between) a (f .sound-disc) (f .fit) (f .room) (answered d l (closeSession main reserve start) z e))
+        save-placed (closing main reserve start (target (unpack l))) noStamp a (closing-done d l main reserve start z .saving) (answered d l (closeSession main reserve start) z e)
 
--- from it and the count of links, which was taken before the call, the first
-module _ (d : Disc) (l : List ℕ) {a n : ℕ} where
-  pub block-start : Placed d l 0 a → n ≡ links (unpack l) → (n ≤ a) × (a - n ≡ recorded d)
-  block-start p e = (omega (arith, p .place), omega (arith, p .place))
+-- from the counts that were taken before the call: what it recorded, run by run
+module _ (d : Disc) (roles l : List ℕ) {a r n between count : ℕ} (p : Placed d l between count a) (own : r ≡ unpack l .recorded) (links-are : n ≡ links (unpack l)) where
+  pub runs : a + 1 ≡ r + n + between + count
+  runs = omega (arith, p .place, p .own)
 
-  pub closing-start : Placed d l closingLength a → n ≡ links (unpack l) → (closingLength ≤ a) × (n ≤ a - closingLength) × (a - closingLength - n ≡ recorded d)
-  closing-start p e = (omega (arith, p .place), omega (arith, p .place), omega (arith, p .place))
+  pub low : a < mostSectors
+  low = omega (arith, p .within, p .few)
 
-module _ (d : Disc) (roles l : List ℕ) {a n at between : ℕ} (p : Placed d l between a) (links-are : n ≡ links (unpack l)) (here : at ≡ recorded d) where
-  pub markable : first (rolesTests true d roles) ≡ 0 → (at + n + between < length roles) × (length roles ≤ mostSectors)
-  markable h = let t = lengths-told d roles h in (omega (arith, p .place, p .within, t .1), omega (arith, p .few, t .1))
+  module _ {m c : ℕ} (between-is : m ≡ between) (count-is : c ≡ count) where
+    pub markable : first (rolesTests true d roles) ≡ 0 → (r + n + m + c ≤ length roles) × (length roles ≤ mostSectors)
+    markable h = let t = lengths-told d roles h in (omega (arith, runs, p .within, t .1), omega (arith, p .few, t .1))
 
-  pub marked-there : (role : ℕ) {rs : List ℕ} → rs ≡ marked at n between role roles → rs ≡ marked (recorded d) (links (unpack l)) between role roles
-  marked-there role q = q ∙ ap₂ (λ (x y : ℕ). marked x y between role roles) here links-are
+    pub marked-there : (role : ℕ) {rs : List ℕ} → rs ≡ marked r n m c role roles → rs ≡ marked (recorded d) (links (unpack l)) between count role roles
+    marked-there role q =
+        q ∙ ap₂ (λ (x y : ℕ). marked x y m c role roles) (own ∙ p .own) links-are ∙ ap₂ (λ (x y : ℕ). marked (recorded d) (links (unpack l)) x y role roles) between-is count-is
 
 -- ---- the roles kept up
 
@@ -219,24 +224,24 @@ module _ (d : Disc) (roles l : List ℕ) {a : ℕ} {i k m b rs : List ℕ} where
   release-kept n e p q = let-go-left (release n) e (blockOf (unpack l) n) p roles refl q
 
   pub write-kept : (n : ℕ) (block : List ℕ) {name : ℕ} {ss : List ℕ} → left a i k m b ≡ after d l (write (some n) block) → name ≡ blockOf (unpack l) n
-      → ss ≡ marked (recorded d) (links (unpack l)) 0 inUse roles → rs ≡ letGo (lent i k) m name ss → rs ≡ keptUp d roles l (write (some n) block)
+      → ss ≡ marked (recorded d) (links (unpack l)) 0 1 inUse roles → rs ≡ letGo (lent i k) m name ss → rs ≡ keptUp d roles l (write (some n) block)
   unfolding keptUp
-  write-kept n block e p r q = let-go-left (write (some n) block) e (blockOf (unpack l) n) p (marked (recorded d) (links (unpack l)) 0 inUse roles) r q
+  write-kept n block e p r q = let-go-left (write (some n) block) e (blockOf (unpack l) n) p (marked (recorded d) (links (unpack l)) 0 1 inUse roles) r q
 
   -- a write without a number lets go of none: no block lies there
   pub unnumbered-kept : (block : List ℕ) → left a i k m b ≡ after d l (write none block) → length k ≡ length (d .kinds) → length (d .kinds) ≤ mostSectors
-      → rs ≡ marked (recorded d) (links (unpack l)) 0 unnumbered roles → rs ≡ keptUp d roles l (write none block)
+      → rs ≡ marked (recorded d) (links (unpack l)) 0 1 unnumbered roles → rs ≡ keptUp d roles l (write none block)
   unfolding keptUp letGo
   unnumbered-kept block e long few q =
-      let ss : List ℕ = marked (recorded d) (links (unpack l)) 0 unnumbered roles in
+      let ss : List ℕ = marked (recorded d) (links (unpack l)) 0 1 unnumbered roles in
       let-go-left (write none block) e unused refl ss q
       (ap (λ (t : Bool). supersedeIf t unused rs) (sym (beyond-kept (lent i k) (mapOf (unpack m)) unused (omega (arith, long)))))
 
 module _ (d : Disc) (roles l : List ℕ) {rs : List ℕ} where
-  pub commit-kept : (stamp : Option (List ℕ)) → rs ≡ marked (recorded d) (links (unpack l)) 0 tableRole roles → rs ≡ keptUp d roles l (commit stamp)
+  pub commit-kept : (stamp : Option (List ℕ)) → rs ≡ markedSave d (unpack l) [] (stampOf stamp) roles → rs ≡ keptUp d roles l (commit stamp)
   unfolding keptUp
   commit-kept stamp q = q
 
-  pub closing-kept : (main reserve : Extent) (start : ℕ) → rs ≡ marked (recorded d) (links (unpack l)) closingLength tableRole roles → rs ≡ keptUp d roles l (closeSession main reserve start)
+  pub closing-kept : (main reserve : Extent) (start : ℕ) → rs ≡ markedSave d (unpack l) (closing main reserve start (target (unpack l))) noStamp roles → rs ≡ keptUp d roles l (closeSession main reserve start)
   unfolding keptUp
   closing-kept main reserve start q = q

@@ -38,6 +38,16 @@ fn lengths(image: &[u8], kinds: &[u8], roles: &[u8]) -> u32
     0
 }
 
+// How many sectors are recorded before a call. A ledger of another length counts none: the log refuses it.
+fn recorded_ahead(ledger: &[u8]) -> u32
+    ensures { λ r. ⌜ (length (now (ledger .entry)) ≡ ledgerLength → r ≡ unpack (now (ledger .entry)) .recorded) ⌝ }
+{
+    if ledger.len() != LEDGER {
+        return 0;
+    }
+    volume::ledger::recorded(ledger)
+}
+
 // The links that a call is about to record. A ledger of another length has none: the log refuses it.
 fn links_ahead(ledger: &[u8]) -> u32
     ensures { λ r. ⌜ (length (now (ledger .entry)) ≡ ledgerLength → r ≡ links (unpack (now (ledger .entry)))) ⌝ }
@@ -108,14 +118,14 @@ pub fn write(
     if outcome != 0 {
         return log::refusal(outcome);
     }
+    let at = recorded_ahead(ledger);
     let links = links_ahead(ledger);
     let replaced = named_by(ledger, v);
     let answer = log::write(image, kinds, ledger, v, block);
     if REFUSED <= answer {
         return answer;
     }
-    let b = answer as u32;
-    roles::mark(roles, b - links, links, 0, IN_USE);
+    roles::mark(roles, at, links, 0, 1, IN_USE);
     roles::let_go(image, kinds, roles, ledger, replaced);
     answer
 }
@@ -133,13 +143,13 @@ pub fn write_unnumbered(
     if outcome != 0 {
         return log::refusal(outcome);
     }
+    let at = recorded_ahead(ledger);
     let links = links_ahead(ledger);
     let answer = log::write_unnumbered(image, kinds, ledger, block);
     if REFUSED <= answer {
         return answer;
     }
-    let b = answer as u32;
-    roles::mark(roles, b - links, links, 0, UNNUMBERED);
+    roles::mark(roles, at, links, 0, 1, UNNUMBERED);
     answer
 }
 
@@ -176,13 +186,14 @@ pub fn commit(image: &mut [u8], kinds: &mut [u8], roles: &mut [u8], ledger: &mut
     if outcome != 0 {
         return log::refusal(outcome);
     }
+    let at = recorded_ahead(ledger);
     let links = links_ahead(ledger);
     let answer = log::commit(image, kinds, ledger);
     if REFUSED <= answer {
         return answer;
     }
-    let b = answer as u32;
-    roles::mark(roles, b - links, links, 0, TABLE);
+    let before = at + links;
+    roles::mark(roles, at, links, 0, (answer as u32) + 1 - before, TABLE);
     answer
 }
 
@@ -199,13 +210,14 @@ pub fn commit_at(
     if outcome != 0 {
         return log::refusal(outcome);
     }
+    let at = recorded_ahead(ledger);
     let links = links_ahead(ledger);
     let answer = log::commit_at(image, kinds, ledger, stamp);
     if REFUSED <= answer {
         return answer;
     }
-    let b = answer as u32;
-    roles::mark(roles, b - links, links, 0, TABLE);
+    let before = at + links;
+    roles::mark(roles, at, links, 0, (answer as u32) + 1 - before, TABLE);
     answer
 }
 
@@ -224,13 +236,21 @@ pub fn close_session(
     if outcome != 0 {
         return log::refusal(outcome);
     }
+    let at = recorded_ahead(ledger);
     let links = links_ahead(ledger);
     let answer = log::close_session(image, kinds, ledger, main, reserve, start);
     if REFUSED <= answer {
         return answer;
     }
-    let b = answer as u32;
-    roles::mark(roles, b - CLOSING - links, links, CLOSING, TABLE);
+    let before = at + links + CLOSING;
+    roles::mark(
+        roles,
+        at,
+        links,
+        CLOSING,
+        (answer as u32) + 1 - before,
+        TABLE,
+    );
     answer
 }
 

@@ -38,13 +38,22 @@ read-put n s at x h f =
     read-le n x (putLe n s at x) (drop (at + length (le n x)) s) at
     (drop-sets (le n x) s at (rw length-le h)) f
 
--- a field is read from its own bytes alone
-pub read-agrees : (n : ℕ) (s t : List ℕ) (at : ℕ) → ((k : ℕ) → at ≤ k → k < at + n → getD s k 0 ≡ getD t k 0) → readLe n s at ≡ readLe n t at
+-- a field is read from its own bytes alone, wherever they stand
+pub read-shift : (n : ℕ) (s t : List ℕ) (a b : ℕ) → ((k : ℕ) → k < n → getD s (a + k) 0 ≡ getD t (b + k) 0) → readLe n s a ≡ readLe n t b
 unfolding readLe
-read-agrees zero s t at same = refl
-read-agrees (suc n) s t at same =
-    ap₂ (λ (a b : ℕ). a + 256 * b) (same at (omega arith) (omega arith))
-    (read-agrees n s t (at + 1) (λ k low high. same k (omega arith) (omega arith)))
+read-shift zero s t a b same = refl
+read-shift (suc n) s t a b same =
+    let first : getD s a 0 ≡ getD t b 0 =
+    ap (λ (k : ℕ). getD s k 0) (sym (add-zero a)) ∙ same 0 (omega arith) ∙ ap (λ (k : ℕ). getD t k 0) (add-zero b) in
+    ap₂ (λ (x y : ℕ). x + 256 * y) first
+    (read-shift n s t (a + 1) (b + 1)
+    (λ k h.
+    let p : a + 1 + k ≡ a + (k + 1) = omega arith in
+    let q : b + 1 + k ≡ b + (k + 1) = omega arith in
+    ap (λ (i : ℕ). getD s i 0) p ∙ same (k + 1) (omega arith) ∙ ap (λ (i : ℕ). getD t i 0) (sym q)))
+
+pub read-agrees : (n : ℕ) (s t : List ℕ) (at : ℕ) → ((k : ℕ) → at ≤ k → k < at + n → getD s k 0 ≡ getD t k 0) → readLe n s at ≡ readLe n t at
+read-agrees n s t at same = read-shift n s t at at (λ k h. same (at + k) (omega arith) (omega arith))
 
 -- a field behind the first bytes
 pub read-drop : (n : ℕ) (s : List ℕ) (at k : ℕ) → readLe n (drop at s) k ≡ readLe n s (at + k)

@@ -6,15 +6,21 @@ use native.Mathlib.Numerals.{add-one}
 use native.Mathlib.Omega.{arith}
 use mathlib.Core.Path.{_≡_, refl, sym, ap, ap₂, _∙_}
 use mathlib.Core.Bool.{Bool, true, _&&_, and-assoc}
-use mathlib.Core.List.{List, [], _∷_, _++_, append-assoc}
+use mathlib.Core.List.{List, [], _∷_, _++_, append-assoc, append-nil}
 use lib.Dec.{eqb}
-use lib.ListN.{length, take, drop, set, getD, length-append}
-use lib.Seq.{sets, drop-cons, drop-at, drop-drop, getD-drop, take-add}
+use lib.ListN.{length, take, drop, set, getD, length-append, drop-of-length-le}
+use lib.Seq.{sets, sets-eq, drop-cons, drop-at, drop-drop, getD-drop, take-add}
 use borrow.Author.Tests.{eq-eqb}
 use Rattle.le.specs.Bytes.{total, holdsText}
 use Rattle.le.specs.Field.{le, readLe, putLe, leadingWords, words, leWords}
 use Rattle.le.proofs.Bytes.{sets-append}
-use Rattle.le.proofs.Fields.{length-le, read-le, read-drop}
+use Rattle.le.proofs.Fields.{length-le, read-le, read-shift, read-drop}
+
+-- a whole buffer that is overwritten
+pub sets-all : (vs l : List ℕ) → length vs ≡ length l → sets l 0 vs ≡ vs
+sets-all vs l h =
+    let all : length l ≤ 0 + length vs = omega arith in
+    sets-eq vs l 0 (omega arith) ∙ ap (λ (r : List ℕ). vs ++ r) (drop-of-length-le l all) ∙ append-nil vs
 
 -- ---- what is left, with its first element taken
 
@@ -85,6 +91,19 @@ pub length-words : (n : ℕ) (s : List ℕ) (at : ℕ) → length (words n s at)
 length-words zero s at = ap length (words-none s at)
 length-words (suc n) s at = ap length (words-step n s at) ∙ ap suc (length-words n s (at + 4))
 
+-- fields are read from their own bytes alone, wherever they stand
+pub words-shift : (n : ℕ) (s t : List ℕ) (a b : ℕ) → ((k : ℕ) → k < 4 * n → getD s (a + k) 0 ≡ getD t (b + k) 0) → words n s a ≡ words n t b
+words-shift zero s t a b same = words-none s a ∙ sym (words-none t b)
+words-shift (suc n) s t a b same =
+    words-step n s a
+    ∙ ap₂ {C = List ℕ} (λ (x : ℕ) (xs : List ℕ). x ∷ xs) (read-shift 4 s t a b (λ k h. same k (omega arith)))
+    (words-shift n s t (a + 4) (b + 4)
+    (λ k h.
+    let p : a + 4 + k ≡ a + (4 + k) = omega arith in
+    let q : b + 4 + k ≡ b + (4 + k) = omega arith in
+    ap (λ (i : ℕ). getD s i 0) p ∙ same (4 + k) (omega arith) ∙ ap (λ (i : ℕ). getD t i 0) (sym q)))
+    ∙ sym (words-step n t b)
+
 -- field i of a run of fields
 pub getD-words : (n : ℕ) (s : List ℕ) (at i d : ℕ) → i < n → getD (words n s at) i d ≡ readLe 4 s (at + 4 * i)
 getD-words zero s at i d h = absurd (not-suc-le-zero h)
@@ -104,6 +123,10 @@ pub byte-at : (s : List ℕ) → AllBytes s → (i : ℕ) → getD s i 0 < 256
 byte-at [] a i = omega arith
 byte-at (x ∷ xs) a zero = a .0
 byte-at (x ∷ xs) a (suc i) = byte-at xs (a .1) i
+
+pub all-bytes : (s : List ℕ) → ((i : ℕ) → getD s i 0 < 256) → AllBytes s
+all-bytes [] h = tt
+all-bytes (x ∷ xs) h = (h 0, all-bytes xs (λ i. h (suc i)))
 
 pub le-read : (n : ℕ) (s : List ℕ) (at : ℕ) → AllBytes s → at + n ≤ length s → le n (readLe n s at) ≡ take n (drop at s)
 unfolding le readLe

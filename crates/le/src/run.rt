@@ -63,6 +63,16 @@ pub fn put_text(s: &mut [u8], at: usize, text: &[u8])
     }
 }
 
+// A block of 2,048 bytes, by way of an array that nothing else can overlap: so the compiler moves the bytes in one go, and leaves the array out.
+pub fn put_block(s: &mut [u8], at: usize, block: &[u8])
+    requires { ⌜ (at + 2048 ≤ length (now s)) × (length (now block) ≡ 2048) ⌝ }
+    ensures { λ _. ⌜ now (s .exit) ≡ sets (now (s .entry)) at (now (block .entry)) ⌝ }
+{
+    let mut held = [0u8; 2048];
+    put_text(&mut held, 0, &block[0..2048]);
+    put_text(s, at, &held);
+}
+
 pub fn put_words(s: &mut [u8], at: usize, xs: &[u32])
     requires { ⌜ at + 4 * length (now xs) ≤ length (now s) ⌝ }
     ensures { λ _. ⌜ now (s .exit) ≡ sets (now (s .entry)) at (leWords (now (xs .entry))) ⌝ }

@@ -142,7 +142,7 @@ pub fn read(image: &[u8], kinds: &[u8], ledger: &[u8], v: u32, block: &mut [u8])
     }
     let at = SECTOR * (volume::ledger::entry(ledger, v) as usize);
     let end = at + SECTOR;
-    le::run::put_text(block, 0, &image[at..end]);
+    le::run::put_block(block, 0, &image[at..end]);
     0
 }
 

@@ -12,13 +12,14 @@ use Rattle.disc.specs.declared.Walk.the-variants.{Reached}
 use Rattle.disc.specs.Disc.{Disc, Sector, recorded}
 use Rattle.disc.specs.Tables.{tableAt, previousAt, newest, blockFound}
 use Rattle.disc.specs.Session.{closing}
+use Rattle.disc.specs.Save.{lastBlock}
 use Rattle.disc.proofs.Recording.{leading-le}
 use Rattle.disc.proofs.Found.{table-recorded, newest-table, walk-table}
 use Rattle.volume.specs.Volume.{unpack}
-use Rattle.recorder.specs.Calls.{Call, begin, mount, write, release, closePacket, commit, closeSession, read, lookBack, timeOf, bufferOf}
+use Rattle.recorder.specs.Calls.{Call, begin, mount, write, release, closePacket, commit, closeSession, read, lookBack, timeOf, bufferOf, stampOf}
 use Rattle.recorder.specs.Refusals.{target, walkFrom, walked, outcome}
-use Rattle.recorder.specs.Effects.{effect, blockReached, cleanNumber, stampOf, settled, after, secondNumber}
-use Rattle.recorder.proofs.Done.{links-few, write-done, SaveDone, commit-done, closing-done, look-back-done}
+use Rattle.recorder.specs.Effects.{effect, blockReached, cleanNumber, settled, after, secondNumber}
+use Rattle.recorder.proofs.Done.{links-few, write-done, saveOf, SaveDone, commit-done, closing-done, look-back-done}
 
 pub settled-done : (d : Disc) (l : List ℕ) (c : Call) (n : ℕ) → settled d l (bufferOf c) n (effect d l c) .answer < 4294967296 → n ≡ 0
 settled-done d l c zero h = refl
@@ -46,8 +47,9 @@ clean-small : (t : Bool) → cleanNumber t < 4294967296
 clean-small true = omega arith
 clean-small false = omega arith
 
-save-small : (d : Disc) (l : List ℕ) (between : List Sector) (stamp : List ℕ) → SaveDone d l between stamp → target (unpack l) + length between < 4294967296
-save-small d l between stamp f = omega (arith, f .room, f .fit .same-recorded, leading-le (d .kinds), f .sound-disc .few)
+save-small : (d : Disc) (l : List ℕ) (first : List Sector) (stamp : List ℕ) → SaveDone d l first stamp
+    → lastBlock (target (unpack l) + length first) (saveOf d l first stamp) < 4294967296
+save-small d l first stamp f = omega (arith, f .room, f .fit .same-recorded, leading-le (d .kinds), f .sound-disc .few)
 
 second-small : (d : Disc) (l : List ℕ) (c : Call) → outcome d l c ≡ 0 → effect d l c .second < 4294967296
 unfolding effect

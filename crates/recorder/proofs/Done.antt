@@ -2,6 +2,7 @@
 -- Assumes nothing.
 use Prim.Native.Nat.{ℕ, zero, suc, _+_, _-_, _*_, _≤_, _<_}
 use native.Mathlib.Omega.{arith}
+use native.Mathlib.Nat.{add-zero, zero-add}
 use mathlib.Core.Path.{_≡_, refl, sym, ap, _∙_, subst}
 use mathlib.Core.Bool.{Bool, true, false, _&&_, _||_, not}
 use mathlib.Core.List.{List, [], _∷_, _++_}
@@ -14,23 +15,24 @@ use Rattle.le.specs.Bytes.{every}
 use Rattle.le.proofs.Rows.{and-left, and-right}
 use Rattle.timestamp.specs.Timestamp.{stampLength, toldLength, valid}
 use Rattle.vat.specs.Table.{sectorLength, limit, unused, unusedOrBelow, wholeLength, isTable}
-use Rattle.vat.specs.Sector.{noStamp}
-use Rattle.vat.proofs.Theorems.{tells}
+use Rattle.vat.specs.Sector.{noStamp, tableBytes}
 use Rattle.extent.specs.declared.Extent.{Extent}
 use Rattle.anchor.specs.Anchor.{farthestStart, anchorTagged}
-use Rattle.disc.specs.Disc.{Disc, sized, inOrder, recorded, blanks, kindAt, sectorAt, Sector}
+use Rattle.disc.specs.Disc.{Disc, lent, sized, inOrder, recorded, blanks, kindAt, sectorAt, Sector}
 use Rattle.disc.specs.declared.Walk.{Walk}
 use Rattle.disc.specs.declared.Walk.the-variants.{Reached, Broken, Ended}
-use Rattle.disc.specs.Tables.{tableAt, newest}
+use Rattle.disc.specs.Tables.{below, tableAt, newest}
 use Rattle.disc.specs.Session.{closing, closingLength, sessionClosed}
-use Rattle.disc.proofs.Recording.{sized-tells, Sound, sound, sound-sized, sound-order}
+use Rattle.disc.specs.Save.{saveSectors}
+use Rattle.disc.proofs.Recording.{sized-tells, Sound, sound, sound-sized, sound-order, AllWhole}
+use Rattle.disc.proofs.Told.{recognised-at}
 use Rattle.disc.proofs.Found.{sector-end, table-within}
+use Rattle.disc.proofs.Save.{one-sector}
 use Rattle.volume.specs.declared.Volume.{Volume}
 use Rattle.volume.specs.Volume.{ledgerLength, idle, packetOpen, readOnly, mapOf, unpack, isUnused, fits, grown, sizeWith}
-use Rattle.recorder.specs.Calls.{Call, begin, mount, write, release, closePacket, commit, closeSession, read, lookBack, timeOf}
+use Rattle.recorder.specs.Calls.{Call, begin, mount, write, release, closePacket, commit, closeSession, read, lookBack, timeOf, stampOf}
 use Rattle.recorder.specs.Refusals.{Test, test, orElse, first, linkCount, linksIf, links, target, reserve, basic, ledgerLent, blockLent, stampLong, stampLent, answerLent, unfit, gate, forbiddenAt, numberTests, writeTests, stampWrong, commitTests, closingTests, blockOf, notInUse, numberedTests, isSome, walked, isBroken, isEnded, walkTests, timeBack, timeWrong, tests, outcome}
-use Rattle.recorder.specs.Effects.{stampOf}
-use Rattle.recorder.proofs.Sectors.{AllWhole, closing-whole, length-closing}
+use Rattle.recorder.proofs.Sectors.{closing-whole, length-closing}
 
 -- ---- lists of tests
 
@@ -283,11 +285,11 @@ read-done d l n block e =
 
 -- a table that is shown lies within the image, and within its sector
 pub shown-fits : (d : Disc) (b : ℕ) → Sound d → tableAt d b ≡ true
-    → (sectorLength * b + sectorLength ≤ length (d .image)) × (wholeLength (take sectorLength (drop (sectorLength * b) (d .image))) < sectorLength)
+    → (sectorLength * b + sectorLength ≤ length (d .image)) × (wholeLength (sectorAt (lent (d .image) []) b) < sectorLength)
 unfolding sectorAt
 shown-fits d b s e = (
   sector-end d (sized-tells d (sound-sized d s)) b (table-within d b e),
-  tells (kindAt d b) (sectorAt d b) b e .below,
+  recognised-at d b e .frame .below,
 )
 
 none-found : (o : Option ℕ) → isSome o ≡ false → o ≡ none
@@ -335,7 +337,7 @@ pub record WriteDone (d : Disc) (l : List ℕ) (n : Option ℕ) (block : List �
   pub not-looking : eqb (unpack l .mode) readOnly ≡ false
   pub writable : Writable (unpack l) n
   pub room : links (unpack l) + 1 + reserve (length (d .kinds)) ≤ blanks d
-  pub no-table : isTable 1 block (target (unpack l)) ≡ false
+  pub no-table : isTable (below d (target (unpack l))) block (target (unpack l)) ≡ false
 
 neither : (a b : Bool) → (a || b) ≡ false → a ≡ false
 neither true b e = e
@@ -356,7 +358,7 @@ write-done d l n block e =
     let v : Volume = unpack l in
     let needed : ℕ = links v + 1 + reserve (length (d .kinds)) in
     let fourteen : Bool = ltb (blanks d) needed in
-    let fifteen : Bool = forbiddenAt (target v) block in
+    let fifteen : Bool = forbiddenAt d (target v) block in
     let behind : List Test = test 14 fourteen ∷ test 15 fifteen ∷ [] in
     let rest : List Test = writeTests d v n block in
     let b : Basic d (blockLent l block) (gate d l ++ rest) = basic-passed d (blockLent l block) (gate d l ++ rest) e in
@@ -369,7 +371,7 @@ write-done d l n block e =
       not-looking = w .not-looking;
       writable = number .0;
       room = ltb-false (blanks d) needed (passed 13 fourteen (test 15 fifteen ∷ []) (number .1));
-      no-table = neither (isTable 1 block (target v)) (anchorTagged block (target v)) (passed 14 fifteen [] (later 13 fourteen (test 15 fifteen ∷ []) (number .1)));
+      no-table = neither (isTable (below d (target v)) block (target v)) (anchorTagged block (target v)) (passed 14 fifteen [] (later 13 fourteen (test 15 fifteen ∷ []) (number .1)));
     }
 
 in-use : (v : Volume) (n : ℕ) → notInUse v n ≡ false → n < v .size
@@ -390,8 +392,8 @@ named b [] i e = go (ltb unused b)
 named b (x ∷ xs) zero e = and-left (unusedOrBelow b x) (every (unusedOrBelow b) xs) e
 named b (x ∷ xs) (suc i) e = named b xs i (and-right (unusedOrBelow b x) (every (unusedOrBelow b) xs) e)
 
-below : (b x : ℕ) → (x ≡ unused → ⊥) → unusedOrBelow b x ≡ true → x < b
-below b x u e = go (ltb x b) refl e
+is-below : (b x : ℕ) → (x ≡ unused → ⊥) → unusedOrBelow b x ≡ true → x < b
+is-below b x u e = go (ltb x b) refl e
   where
     go : (t : Bool) → ltb x b ≡ t → (t || eqb x unused) ≡ true → x < b
     go true h e = ltb-true x b h
@@ -410,7 +412,7 @@ entry-recorded d v n fit e =
     let same : getD (mapOf v) n unused ≡ getD (v .entries) n unused = getD-take (v .size) (v .entries) n unused inside in
     let ok : unusedOrBelow (v .recorded) (getD (v .entries) n unused) ≡ true =
     ap (unusedOrBelow (v .recorded)) (sym same) ∙ named (v .recorded) (mapOf v) n (fit .entries-below) in
-    (inside, subst (λ (r : ℕ). getD (v .entries) n unused < r) (fit .same-recorded) (below (v .recorded) (getD (v .entries) n unused) (not-unused v n e) ok))
+    (inside, subst (λ (r : ℕ). getD (v .entries) n unused < r) (fit .same-recorded) (is-below (v .recorded) (getD (v .entries) n unused) (not-unused v n e) ok))
 
 -- release and close packet: a working state; of a release the number is below size
 pub release-done : (d : Disc) (l : List ℕ) (n : ℕ) → outcome d l (release n) ≡ 0 → Sound d × Working d l (test 10 (notInUse (unpack l) n) ∷ []) × (n < unpack l .size)
@@ -427,14 +429,20 @@ close-done d l e =
     let b : Basic d (ledgerLent l) (gate d l) = basic-passed d (ledgerLent l) (gate d l) e in
     (b .sound-disc, working-passed d l [] (b .rest-passed))
 
--- a save, with what it records between its links and its table, and the timestamp of the table
-pub record SaveDone (d : Disc) (l : List ℕ) (between : List Sector) (stamp : List ℕ) : Type 0 where
+-- the sectors of a save of the working state, behind its links and what it puts first
+abbrev pub saveOf : Disc → List ℕ → List Sector → List ℕ → List Sector
+saveOf d l first stamp =
+    let v : Volume = unpack l in
+    saveSectors d (tableBytes (mapOf v) (v .last)) (v .last) stamp (target v + length first)
+
+-- a save, with what it puts first, and the timestamp of the table
+pub record SaveDone (d : Disc) (l : List ℕ) (first : List Sector) (stamp : List ℕ) : Type 0 where
   pub sound-disc : Sound d
   pub timely : length stamp ≡ stampLength
   pub fit : Fits d (unpack l)
   pub not-looking : eqb (unpack l .mode) readOnly ≡ false
-  pub whole : AllWhole between
-  pub room : links (unpack l) + length between + 1 ≤ blanks d
+  pub whole : AllWhole first
+  pub room : links (unpack l) + (length first + length (saveOf d l first stamp)) ≤ blanks d
 
 stamp-long : (stamp : Option (List ℕ)) → stampLong stamp ≡ true → length (stampOf stamp) ≡ stampLength
 stamp-long none e = refl
@@ -447,7 +455,9 @@ pub record CommitDone (d : Disc) (l : List ℕ) (stamp : Option (List ℕ)) : Ty
 pub commit-done : (d : Disc) (l : List ℕ) (stamp : Option (List ℕ)) → outcome d l (commit stamp) ≡ 0 → CommitDone d l stamp
 unfolding outcome tests
 commit-done d l stamp e =
-    let needed : ℕ = links (unpack l) + 0 + 1 in
+    let v : Volume = unpack l in
+    let save : List Sector = saveSectors d (tableBytes (mapOf v) (v .last)) (v .last) (stampOf stamp) (target v) in
+    let needed : ℕ = links v + length save in
     let sixteen : Bool = stampWrong stamp in
     let fourteen : Bool = ltb (blanks d) needed in
     let rest : List Test = commitTests d (unpack l) stamp in
@@ -462,7 +472,9 @@ commit-done d l stamp e =
             fit = w .fit;
             not-looking = w .not-looking;
             whole = tt;
-            room = ltb-false (blanks d) needed (passed 13 fourteen [] (later 15 sixteen (test 14 fourteen ∷ []) (w .rest-passed)));
+            room =
+                rw (add-zero (target v), zero-add (length save))
+                (ltb-false (blanks d) needed (passed 13 fourteen [] (later 15 sixteen (test 14 fourteen ∷ []) (w .rest-passed))));
           };
     }
 
@@ -474,7 +486,9 @@ pub closing-done : (d : Disc) (l : List ℕ) (main reserve : Extent) (start : �
 unfolding outcome tests
 closing-done d l main reserve start e =
     let v : Volume = unpack l in
-    let needed : ℕ = links v + closingLength + 1 in
+    let needed : ℕ = links v + (closingLength + 1) in
+    let first : List Sector = closing main reserve start (target v) in
+    let table : List ℕ = tableBytes (mapOf v) (v .last) in
     let eighteen : Bool = ltb farthestStart start in
     let fourteen : Bool = ltb (blanks d) needed in
     let rest : List Test = closingTests d v start in
@@ -490,7 +504,7 @@ closing-done d l main reserve start e =
             fit = w .fit;
             not-looking = w .not-looking;
             whole = closing-whole main reserve start (target v);
-            room = rw (length-closing main reserve start (target v)) enough;
+            room = omega (arith, length-closing main reserve start (target v), one-sector d table (v .last) noStamp (target v + length first), enough);
           };
     }
 

@@ -4,6 +4,7 @@ use mathlib.Core.Bool.{Bool, true, false}
 use mathlib.Core.List.{List, []}
 use mathlib.Core.Option.{Option, none, some}
 use Rattle.extent.specs.declared.Extent.{Extent}
+use Rattle.vat.specs.Sector.{noStamp}
 
 pub data Call : Type 0 where
   begin : Call
@@ -17,7 +18,12 @@ pub data Call : Type 0 where
   lookBack : ℕ → Call
   timeOf : ℕ → List ℕ → Call
 
--- That buffer: "write and read are lent a block too", a commit its timestamp, and a time its answer.
+-- The timestamp that a commit records: "as access, modification and attribute time", or zeros without one.
+abbrev pub stampOf : Option (List ℕ) → List ℕ
+stampOf none = noStamp
+stampOf (some stamp) = stamp
+
+-- The buffer: "write and read are lent a block too", a commit its timestamp, and a time its answer.
 abbrev pub stampBuffer : Option (List ℕ) → List ℕ
 stampBuffer none = []
 stampBuffer (some stamp) = stamp

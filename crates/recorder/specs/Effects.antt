@@ -3,19 +3,20 @@
 use Prim.Native.Nat.{ℕ, zero, suc, _+_, _*_}
 use mathlib.Core.Bool.{Bool, true, false}
 use mathlib.Core.List.{List, [], _∷_, _++_}
-use mathlib.Core.Option.{Option, none, some}
 use lib.Dec.{eqb}
 use lib.ListN.{length, replicate}
+use Rattle.extent.specs.declared.Extent.{Extent}
 use Rattle.timestamp.specs.Timestamp.{told}
-use Rattle.vat.specs.Sector.{noStamp, sector}
+use Rattle.vat.specs.Sector.{noStamp, tableBytes}
 use Rattle.disc.specs.Disc.{Disc, lent, Sector, link, plain, recorded, sectorAt, puts}
 use Rattle.disc.specs.declared.Walk.{Walk}
 use Rattle.disc.specs.declared.Walk.the-variants.{Reached, Broken, Ended}
 use Rattle.disc.specs.Tables.{mapAt, newest, blockFound}
 use Rattle.disc.specs.Session.{closing}
+use Rattle.disc.specs.Save.{saveSectors, lastBlock}
 use Rattle.volume.specs.declared.Volume.{Volume}
 use Rattle.volume.specs.Volume.{idle, readOnly, unpack, pack, mapOf, begun, filled, wrote, released, closed, committed}
-use Rattle.recorder.specs.Calls.{Call, begin, mount, write, release, closePacket, commit, closeSession, read, lookBack, timeOf, stampBuffer, bufferOf}
+use Rattle.recorder.specs.Calls.{Call, begin, mount, write, release, closePacket, commit, closeSession, read, lookBack, timeOf, stampOf, stampBuffer, bufferOf}
 use Rattle.recorder.specs.Refusals.{links, target, blockOf, walked, timeBack, outcome}
 
 pub record Effect : Type 0 where
@@ -39,28 +40,36 @@ abbrev pub cleanNumber : Bool → ℕ
 cleanNumber true = 1
 cleanNumber false = 0
 
--- The timestamp that a commit records: "as access, modification and attribute time", or zeros without one.
-abbrev pub stampOf : Option (List ℕ) → List ℕ
-stampOf none = noStamp
-stampOf (some stamp) = stamp
+-- The state that shows the table at block b: its map and that block, what is recorded, and the mode.
+abbrev pub shownAt : Disc → ℕ → ℕ → Volume
+shownAt d b mode = filled (mapAt d b) b (recorded d) mode
 
--- A save: links, the sectors between them and the table, of which a commit has none, and the table sector, which names the ledger's last table as previous
--- and becomes the last table itself. Of a closing "the second number and ledger are as after a commit".
-abbrev pub saved : Volume → List Sector → List ℕ → List ℕ → Effect
-saved v between stamp buffer =
-    let b : ℕ = target v + length between in
+-- A save of a map with a previous table: links, what a closing puts first, of which a commit has none, and the table's sectors, the last of which is the
+-- table and becomes the ledger's last. Of a closing "the second number and ledger are as after a commit".
+abbrev pub saved : Disc → Volume → List ℕ → ℕ → List Sector → List ℕ → List ℕ → Effect
+saved d v map previous first stamp buffer =
+    let at : ℕ = target v + length first in
+    let save : List Sector = saveSectors d (tableBytes map previous) previous stamp at in
+    let b : ℕ = lastBlock at save in
     record {
       second = b;
-      sectors = (replicate (links v) link ++ between) ++ (plain (sector (mapOf v) (v .last) stamp b) ∷ []);
+      sectors = replicate (links v) link ++ (first ++ save);
       ledger = pack (committed b v);
       buffer = buffer;
     }
+
+-- A commit's, and a closing's, of the working map with the ledger's last table.
+abbrev pub commits : Disc → Volume → List ℕ → List ℕ → Effect
+commits d v stamp buffer = saved d v (mapOf v) (v .last) [] stamp buffer
+
+abbrev pub closes : Disc → Volume → Extent → Extent → ℕ → Effect
+closes d v main reserve start = saved d v (mapOf v) (v .last) (closing main reserve start (target v)) noStamp []
 
 unfoldable pub effect : Disc → List ℕ → Call → Effect
 effect d l begin = settles 0 (pack (begun (recorded d)))
 effect d l mount =
     let b : ℕ = blockFound (newest d) in
-    settles (cleanNumber (eqb (b + 1) (recorded d))) (pack (filled (mapAt d b) b (recorded d) idle))
+    settles (cleanNumber (eqb (b + 1) (recorded d))) (pack (shownAt d b idle))
 effect d l (write n block) =
     let v : Volume = unpack l in
     record {
@@ -71,15 +80,13 @@ effect d l (write n block) =
     }
 effect d l (release n) = settles 0 (pack (released n (unpack l)))
 effect d l closePacket = settles 0 (pack (closed (unpack l)))
-effect d l (commit stamp) = saved (unpack l) [] (stampOf stamp) (stampBuffer stamp)
-effect d l (closeSession main reserve start) =
-    let v : Volume = unpack l in
-    saved v (closing main reserve start (target v)) noStamp []
+effect d l (commit stamp) = commits d (unpack l) (stampOf stamp) (stampBuffer stamp)
+effect d l (closeSession main reserve start) = closes d (unpack l) main reserve start
 effect d l (read n block) =
     record { second = 0; sectors = []; ledger = l; buffer = sectorAt d (blockOf (unpack l) n) }
 effect d l (lookBack k) =
     let b : ℕ = blockReached (walked d k) in
-    settles b (pack (filled (mapAt d b) b (recorded d) readOnly))
+    settles b (pack (shownAt d b readOnly))
 effect d l (timeOf k answer) = record { second = 0; sectors = []; ledger = l; buffer = told (timeBack d k) }
 
 -- All that a call leaves: the answer, "outcome × 4,294,967,296 + second number", and every lent byte.

@@ -9,15 +9,17 @@ use lib.Dec.{eqb, ltb, leb}
 use lib.ListN.{length, getD}
 use Rattle.timestamp.specs.Timestamp.{stampLength, toldLength, valid}
 use Rattle.vat.specs.Table.{sectorLength, limit, unused, isTable}
+use Rattle.vat.specs.Sector.{tableBytes}
 use Rattle.anchor.specs.Anchor.{farthestStart, anchorTagged}
 use Rattle.disc.specs.Disc.{Disc, sized, inOrder, blanks, kindAt}
 use Rattle.disc.specs.declared.Walk.{Walk}
 use Rattle.disc.specs.declared.Walk.the-variants.{Reached, Broken, Ended}
-use Rattle.disc.specs.Tables.{tableAt, previousAt, timeAt, newest, walk}
+use Rattle.disc.specs.Tables.{below, tableAt, previousAt, timeAt, newest, walk}
 use Rattle.disc.specs.Session.{closingLength, sessionClosed}
+use Rattle.disc.specs.Save.{saveSectors}
 use Rattle.volume.specs.declared.Volume.{Volume}
-use Rattle.volume.specs.Volume.{ledgerLength, idle, readOnly, unpack, fits}
-use Rattle.recorder.specs.Calls.{Call, begin, mount, write, release, closePacket, commit, closeSession, read, lookBack, timeOf}
+use Rattle.volume.specs.Volume.{ledgerLength, idle, readOnly, unpack, mapOf, fits}
+use Rattle.recorder.specs.Calls.{Call, begin, mount, write, release, closePacket, commit, closeSession, read, lookBack, timeOf, stampOf}
 
 pub record Test : Type 0 where
   pub number : ℕ
@@ -87,9 +89,9 @@ unfit d l = test 4 (not (fits d (unpack l)))
 abbrev pub gate : Disc → List ℕ → List Test
 gate d l = unfit d l ∷ test 5 (eqb (unpack l .mode) readOnly) ∷ test 17 (sessionClosed d) ∷ []
 
--- 15, what no write may put at block b: a table sector, and "every block with such a tag" as a closing's pointer has.
-abbrev pub forbiddenAt : ℕ → List ℕ → Bool
-forbiddenAt b block = isTable 1 block b || anchorTagged block b
+-- 15, what no write may put at block b of this disc: a table sector, and "every block with such a tag" as a closing's pointer has.
+abbrev pub forbiddenAt : Disc → ℕ → List ℕ → Bool
+forbiddenAt d b block = isTable (below d b) block b || anchorTagged block b
 
 -- Write's own tests: the number, if it has one, the room, the lent block. "13 comes directly before 12": "a number at or above the limit gives 13, even
 -- above size".
@@ -99,7 +101,7 @@ numberTests v (some n) = test 13 (leb limit n) ∷ test 12 (ltb (v .size) n) ∷
 
 abbrev pub blockTests : Disc → Volume → List ℕ → List Test
 blockTests d v block =
-    test 14 (ltb (blanks d) (links v + 1 + reserve (length (d .kinds)))) ∷ test 15 (forbiddenAt (target v) block) ∷ []
+    test 14 (ltb (blanks d) (links v + 1 + reserve (length (d .kinds)))) ∷ test 15 (forbiddenAt d (target v) block) ∷ []
 
 abbrev pub writeTests : Disc → Volume → Option ℕ → List ℕ → List Test
 writeTests d v n block = numberTests v n ++ blockTests d v block
@@ -109,17 +111,21 @@ abbrev pub stampWrong : Option (List ℕ) → Bool
 stampWrong none = false
 stampWrong (some stamp) = not (valid stamp)
 
--- 14 of a save that records so many sectors between its links and its table: commit "needs links + 1 blank sectors", and closing "links + 257".
+-- 14 of a save that records so many sectors behind its links.
 abbrev pub noRoom : Disc → Volume → ℕ → Test
-noRoom d v between = test 14 (ltb (blanks d) (links v + between + 1))
+noRoom d v recording = test 14 (ltb (blanks d) (links v + recording))
 
--- A commit's own tests: the timestamp, if it has one, and the room.
+-- A commit's own tests: the timestamp, if it has one, and the room for the sectors of its save, of which there is one where the ICB holds the table: then
+-- commit "needs links + 1 blank sectors".
 abbrev pub commitTests : Disc → Volume → Option (List ℕ) → List Test
-commitTests d v stamp = test 16 (stampWrong stamp) ∷ noRoom d v 0 ∷ []
+commitTests d v stamp =
+    test 16 (stampWrong stamp)
+    ∷ noRoom d v (length (saveSectors d (tableBytes (mapOf v) (v .last)) (v .last) (stampOf stamp) (target v)))
+    ∷ []
 
--- A closing's: 18, "the partition start exceeds 400,000", and the room.
+-- A closing's: 18, "the partition start exceeds 400,000", and the room: it "needs links + 257".
 abbrev pub closingTests : Disc → Volume → ℕ → List Test
-closingTests d v start = test 18 (ltb farthestStart start) ∷ noRoom d v closingLength ∷ []
+closingTests d v start = test 18 (ltb farthestStart start) ∷ noRoom d v (closingLength + 1) ∷ []
 
 -- The block that number n names. 10: "v not below size, or .. an unused entry".
 abbrev pub blockOf : Volume → ℕ → ℕ

@@ -12,17 +12,17 @@ use mathlib.Core.List.{List, [], _∷_, _++_}
 use lib.Dec.{eqb}
 use lib.ListN.{length, replicate, length-set, length-append, length-replicate}
 use borrow.Author.Tests.{eqb-true, eq-eqb}
+use Rattle.vat.specs.Sector.{noStamp}
 use Rattle.disc.specs.Disc.{Disc, Sector, link, plain, torn, sized, recorded, puts}
-use Rattle.disc.specs.Session.{closingLength}
+use Rattle.disc.specs.Session.{closing}
 use Rattle.disc.proofs.Recording.{length-stored, leading-le}
 use Rattle.volume.specs.Volume.{unpack, mapOf}
-use Rattle.recorder.specs.Calls.{Call, begin, mount, write, release, closePacket, commit, closeSession, read, lookBack, timeOf, bufferOf, restores, mayRecord}
+use Rattle.recorder.specs.Calls.{Call, begin, mount, write, release, closePacket, commit, closeSession, read, lookBack, timeOf, stampOf, bufferOf, restores, mayRecord}
 use Rattle.recorder.specs.Refusals.{Test, test, first, links, target, blockOf, tests, outcome}
 use Rattle.recorder.specs.Effects.{effect, settled, after}
-use Rattle.recorder.proofs.Done.{write-done, commit-done, closing-done}
-use Rattle.recorder.proofs.Sectors.{length-closing}
+use Rattle.recorder.proofs.Done.{write-done, saveOf, SaveDone, commit-done, closing-done}
 use Rattle.roles.specs.Roles.{superseded, unnumbered, tableRole, linkRole, roleAt}
-use Rattle.roles.specs.Keeping.{supersedeIf, letGo, marked, writtenRole, namedBefore, scanned, keptUp, rolesTests, outcomeRoles, AfterRoles, rolesIf, afterRoles}
+use Rattle.roles.specs.Keeping.{supersedeIf, letGo, marked, markedSave, writtenRole, namedBefore, scanned, keptUp, rolesTests, outcomeRoles, AfterRoles, rolesIf, afterRoles}
 use Rattle.roles.proofs.Roles.{length-tabulate}
 
 -- ---- the tests
@@ -104,13 +104,14 @@ length-let-go d l b roles = go (eqb (roleAt d (mapOf (unpack l)) [] b) supersede
     go true = length-set roles b superseded
     go false = refl
 
-length-marked : (at links between role : ℕ) (roles : List ℕ) → at + (links + (between + 1)) ≤ length roles → length (marked at links between role roles) ≡ length roles
+length-marked : (at links between count role : ℕ) (roles : List ℕ) → at + (links + (between + count)) ≤ length roles
+    → length (marked at links between count role roles) ≡ length roles
 unfolding marked
-length-marked at links between role roles room =
-    let marks : List ℕ = replicate links linkRole ++ (replicate between unnumbered ++ (role ∷ [])) in
-    let n : length marks ≡ links + (between + 1) =
-    length-append (replicate links linkRole) (replicate between unnumbered ++ (role ∷ []))
-    ∙ rw (length-replicate links linkRole, length-append (replicate between unnumbered) (role ∷ []), length-replicate between unnumbered) refl in
+length-marked at links between count role roles room =
+    let marks : List ℕ = replicate links linkRole ++ (replicate between unnumbered ++ replicate count role) in
+    let n : length marks ≡ links + (between + count) =
+    length-append (replicate links linkRole) (replicate between unnumbered ++ replicate count role)
+    ∙ rw (length-replicate links linkRole, length-append (replicate between unnumbered) (replicate count role), length-replicate between unnumbered, length-replicate count role) refl in
     length-stored roles at marks (omega (arith, n))
 
 length-put : (ss : List Sector) (d : Disc) (b : ℕ) → length (puts d b ss .kinds) ≡ length (d .kinds)
@@ -129,20 +130,21 @@ length-after d l c = go (outcome d l c)
     go (suc n) = refl
 
 module _ (d : Disc) (roles l : List ℕ) (h : length roles ≡ length (d .kinds)) where
+  save-length : (first : List Sector) (stamp : List ℕ) → SaveDone d l first stamp → length (markedSave d (unpack l) first stamp roles) ≡ length (d .kinds)
+  save-length first stamp f =
+      length-marked (recorded d) (links (unpack l)) (length first) (length (saveOf d l first stamp)) tableRole roles (omega (arith, f .room, leading-le (d .kinds), h)) ∙ h
+
   length-kept : (c : Call) → outcome d l c ≡ 0 → length (keptUp d roles l c) ≡ length (d .kinds)
   unfolding keptUp scanned
   length-kept begin e = length-tabulate _ (length (after d l begin .disc .kinds)) ∙ length-after d l begin
   length-kept mount e = length-tabulate _ (length (after d l mount .disc .kinds)) ∙ length-after d l mount
   length-kept (write n block) e =
-      length-let-go (after d l (write n block) .disc) (after d l (write n block) .ledger) (namedBefore (unpack l) n) (marked (recorded d) (links (unpack l)) 0 (writtenRole n) roles)
-      ∙ length-marked (recorded d) (links (unpack l)) 0 (writtenRole n) roles (omega (arith, write-done d l n block e .room, leading-le (d .kinds), h)) ∙ h
+      length-let-go (after d l (write n block) .disc) (after d l (write n block) .ledger) (namedBefore (unpack l) n) (marked (recorded d) (links (unpack l)) 0 1 (writtenRole n) roles)
+      ∙ length-marked (recorded d) (links (unpack l)) 0 1 (writtenRole n) roles (omega (arith, write-done d l n block e .room, leading-le (d .kinds), h)) ∙ h
   length-kept (release n) e = length-let-go (after d l (release n) .disc) (after d l (release n) .ledger) (blockOf (unpack l) n) roles ∙ h
   length-kept closePacket e = h
-  length-kept (commit stamp) e =
-      length-marked (recorded d) (links (unpack l)) 0 tableRole roles (omega (arith, commit-done d l stamp e .saving .room, leading-le (d .kinds), h)) ∙ h
-  length-kept (closeSession main reserve start) e =
-      length-marked (recorded d) (links (unpack l)) closingLength tableRole roles
-      (omega (arith, closing-done d l main reserve start e .saving .room, length-closing main reserve start (target (unpack l)), leading-le (d .kinds), h)) ∙ h
+  length-kept (commit stamp) e = save-length [] (stampOf stamp) (commit-done d l stamp e .saving)
+  length-kept (closeSession main reserve start) e = save-length (closing main reserve start (target (unpack l))) noStamp (closing-done d l main reserve start e .saving)
   length-kept (read n block) e = h
   length-kept (lookBack k) e = length-tabulate _ (length (after d l (lookBack k) .disc .kinds)) ∙ length-after d l (lookBack k)
   length-kept (timeOf k answer) e = h

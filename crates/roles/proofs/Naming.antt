@@ -122,20 +122,21 @@ module _ (d : Disc) (map : List ℕ) (b : ℕ) where
 
 -- ---- what a call recorded
 
--- the links, the sectors between and the last one, each behind the other
-pub marked-runs : (at links between role : ℕ) (xs : List ℕ) → at + links + between < length xs
-    → stored (stored (stored xs at (replicate links linkRole)) (at + links) (replicate between unnumbered)) (at + links + between) (role ∷ [])
-    ≡ marked at links between role xs
+-- the links, the sectors between and those of the role, each run behind the other
+pub marked-runs : (at links between count role : ℕ) (xs : List ℕ) → at + links + between + count ≤ length xs
+    → stored (stored (stored xs at (replicate links linkRole)) (at + links) (replicate between unnumbered)) (at + links + between) (replicate count role)
+    ≡ marked at links between count role xs
 unfolding marked
-marked-runs at links between role xs h =
+marked-runs at links between count role xs h =
     let first : List ℕ = replicate links linkRole in
     let second : List ℕ = replicate between unnumbered in
+    let third : List ℕ = replicate count role in
     let m : length first ≡ links = length-replicate {A = ℕ} links linkRole in
     let n : length second ≡ between = length-replicate {A = ℕ} between unnumbered in
     let room : at + length first ≤ length xs = omega arith in
     let linked : List ℕ = stored xs at first in
     let still : length linked ≡ length xs = length-stored xs at first room in
-    sym (stored-append first (second ++ (role ∷ [])) xs at room
-    ∙ ap (λ (k : ℕ). stored linked (at + k) (second ++ (role ∷ []))) m
-    ∙ stored-append second (role ∷ []) linked (at + links) (omega arith)
-    ∙ ap (λ (k : ℕ). stored (stored linked (at + links) second) (at + links + k) (role ∷ [])) n)
+    sym (stored-append first (second ++ third) xs at room
+    ∙ ap (λ (k : ℕ). stored linked (at + k) (second ++ third)) m
+    ∙ stored-append second third linked (at + links) (omega arith)
+    ∙ ap (λ (k : ℕ). stored (stored linked (at + links) second) (at + links + k) third) n)

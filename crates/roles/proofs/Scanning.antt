@@ -8,10 +8,10 @@ use mathlib.Core.List.{[]}
 use lib.Dec.{eqb, ltb}
 use lib.ListN.{set}
 use borrow.Author.Tests.{eqb-true, eqb-false, ltb-true, ltb-false, lt-ltb, le-ltb}
-use Rattle.vat.proofs.Theorems.{recognised}
-use Rattle.disc.specs.Disc.{Disc, kindAt, sectorAt}
+use Rattle.disc.specs.Disc.{Disc, kindAt}
 use Rattle.disc.specs.Tables.{tableAt}
 use Rattle.disc.proofs.Order.{and-false}
+use Rattle.disc.proofs.Told.{data-kind}
 use Rattle.roles.specs.Roles.{superseded, tableRole, names, roleOfKind, roleOfData, roleAt, tabulate}
 use Rattle.roles.proofs.Roles.{tabulate-same, set-tabulate}
 
@@ -50,7 +50,7 @@ module _ (d : Disc) where
   pub table-passed : (m n : ℕ) → n < m → tableAt d n ≡ true → set (tabulate (passedTo d n) m) n tableRole ≡ tabulate (passedTo d (n + 1)) m
   table-passed m n h e =
       let here : passedTo d (n + 1) n ≡ tableRole =
-      ap₂ (λ (k : ℕ) (t : Bool). roleOfKind k (roleOfData t false false)) (recognised (kindAt d n) (sectorAt d n) n e .data-kind)
+      ap₂ (λ (k : ℕ) (t : Bool). roleOfKind k (roleOfData t false false)) (data-kind d n e)
       (ap₂ (λ (t u : Bool). t && u) e (lt-ltb n (n + 1) (omega arith))) in
       set-tabulate (passedTo d n) (passedTo d (n + 1)) m n tableRole h here (λ b low other. elsewhere n b other)
 

@@ -1,18 +1,20 @@
 -- The roles kept up (document 02, R-7: "Each call that alters disc or ledger is lent these bytes too"): what each call makes of them, and all that it
 -- then leaves.
-use Prim.Native.Nat.{ℕ, zero, suc}
+use Prim.Native.Nat.{ℕ, zero, suc, _+_}
 use mathlib.Core.Bool.{Bool, true, false, _||_, not}
 use mathlib.Core.List.{List, [], _∷_, _++_}
 use mathlib.Core.Option.{Option, none, some}
 use lib.Dec.{eqb}
 use lib.ListN.{length, set, replicate}
 use Rattle.vat.specs.Table.{unused}
-use Rattle.disc.specs.Disc.{Disc, sized, recorded, stored}
-use Rattle.disc.specs.Session.{closingLength}
+use Rattle.vat.specs.Sector.{noStamp, tableBytes}
+use Rattle.disc.specs.Disc.{Disc, sized, recorded, Sector, stored}
+use Rattle.disc.specs.Session.{closing}
+use Rattle.disc.specs.Save.{saveSectors}
 use Rattle.volume.specs.declared.Volume.{Volume}
 use Rattle.volume.specs.Volume.{unpack, mapOf}
-use Rattle.recorder.specs.Calls.{Call, begin, mount, write, release, closePacket, commit, closeSession, read, lookBack, timeOf, bufferOf, restores, mayRecord}
-use Rattle.recorder.specs.Refusals.{Test, test, first, links, blockOf, tests}
+use Rattle.recorder.specs.Calls.{Call, begin, mount, write, release, closePacket, commit, closeSession, read, lookBack, timeOf, stampOf, bufferOf, restores, mayRecord}
+use Rattle.recorder.specs.Refusals.{Test, test, first, links, target, blockOf, tests}
 use Rattle.recorder.specs.Effects.{effect, After, left, settled, after}
 use Rattle.roles.specs.Roles.{inUse, superseded, unnumbered, tableRole, linkRole, roleAt, rolesOf}
 
@@ -29,10 +31,17 @@ supersedeIf false b roles = roles
 unfoldable pub letGo : Disc → List ℕ → ℕ → List ℕ → List ℕ
 letGo d l b roles = supersedeIf (eqb (roleAt d (mapOf (unpack l)) [] b) superseded) b roles
 
--- What a call records: links, the sectors of a closing before its table, and a block or a table. "A closing's sectors before its table are without a
--- number."
-unfoldable pub marked : ℕ → ℕ → ℕ → ℕ → List ℕ → List ℕ
-marked at links between role roles = stored roles at (replicate links linkRole ++ (replicate between unnumbered ++ (role ∷ [])))
+-- What a call records: links, the sectors of a closing before its save, and so many of one role: a block, or the sectors of a save. "A closing's sectors
+-- before its table are without a number."
+unfoldable pub marked : ℕ → ℕ → ℕ → ℕ → ℕ → List ℕ → List ℕ
+marked at links between count role roles =
+    stored roles at (replicate links linkRole ++ (replicate between unnumbered ++ replicate count role))
+
+-- What a save records, with what it puts first: its own sectors are all of its table.
+abbrev pub markedSave : Disc → Volume → List Sector → List ℕ → List ℕ → List ℕ
+markedSave d v first stamp roles =
+    let save : List Sector = saveSectors d (tableBytes (mapOf v) (v .last)) (v .last) stamp (target v + length first) in
+    marked (recorded d) (links v) (length first) (length save) tableRole roles
 
 -- A write with a number and without one: the role of its block, and the block that its number named before.
 abbrev pub writtenRole : Option ℕ → ℕ
@@ -50,11 +59,13 @@ keptUp d roles l mount = let a : After = after d l mount in scanned (a .disc) (a
 keptUp d roles l (write n block) =
     let v : Volume = unpack l in
     let a : After = after d l (write n block) in
-    letGo (a .disc) (a .ledger) (namedBefore v n) (marked (recorded d) (links v) 0 (writtenRole n) roles)
+    letGo (a .disc) (a .ledger) (namedBefore v n) (marked (recorded d) (links v) 0 1 (writtenRole n) roles)
 keptUp d roles l (release n) = let a : After = after d l (release n) in letGo (a .disc) (a .ledger) (blockOf (unpack l) n) roles
 keptUp d roles l closePacket = roles
-keptUp d roles l (commit stamp) = marked (recorded d) (links (unpack l)) 0 tableRole roles
-keptUp d roles l (closeSession main reserve start) = marked (recorded d) (links (unpack l)) closingLength tableRole roles
+keptUp d roles l (commit stamp) = markedSave d (unpack l) [] (stampOf stamp) roles
+keptUp d roles l (closeSession main reserve start) =
+    let v : Volume = unpack l in
+    markedSave d v (closing main reserve start (target v)) noStamp roles
 keptUp d roles l (read n block) = roles
 keptUp d roles l (lookBack k) = let a : After = after d l (lookBack k) in scanned (a .disc) (a .ledger)
 keptUp d roles l (timeOf k answer) = roles

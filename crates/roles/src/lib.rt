@@ -62,8 +62,7 @@ fn is_table(image: &[u8], kinds: &[u8], b: u32) -> bool
     ensures { λ r. ⌜ r ≡ tableAt (lent (now (image .entry)) (now (kinds .entry))) b ⌝ }
 {
     let place = b as usize;
-    let kind = kinds[place];
-    if kind != 1 {
+    if kinds[place] != 1 {
         return false;
     }
     let at = SECTOR * place;
@@ -72,7 +71,7 @@ fn is_table(image: &[u8], kinds: &[u8], b: u32) -> bool
     if !vat::table::tagged(s) {
         return false;
     }
-    vat::table::is_table(kind, s, b)
+    vat::table::table_held(s, b)
 }
 
 // The tables, all of which stand below `end`: the roles where the map is empty.
@@ -182,14 +181,14 @@ fn fill(roles: &mut [u8], at: usize, n: usize, role: u8)
     }
 }
 
-// What a call recorded, from block `at` on.
-pub fn mark(roles: &mut [u8], at: u32, links: u32, between: u32, role: u8)
-    requires { ⌜ (at + links + between < length (now roles)) × (length (now roles) ≤ 360000) ⌝ }
-    ensures { λ _. ⌜ now (roles .exit) ≡ marked at links between role (now (roles .entry)) ⌝ }
+// What a call recorded, from block `at` on: links, those without a number, and so many of the role.
+pub fn mark(roles: &mut [u8], at: u32, links: u32, between: u32, count: u32, role: u8)
+    requires { ⌜ (at + links + between + count ≤ length (now roles)) × (length (now roles) ≤ 360000) ⌝ }
+    ensures { λ _. ⌜ now (roles .exit) ≡ marked at links between count role (now (roles .entry)) ⌝ }
 {
     let behind = (at + links) as usize;
     let last = behind + (between as usize);
     fill(roles, at as usize, links as usize, LINK);
     fill(roles, behind, between as usize, UNNUMBERED);
-    fill(roles, last, 1, role);
+    fill(roles, last, count as usize, role);
 }

@@ -9,7 +9,7 @@ use lib.Seq.{sets, length-sets}
 use Rattle.le.specs.Field.{Row, row, lay}
 use Rattle.le.proofs.Rows.{length-lay, lay-append, read-laid}
 use Rattle.tag.specs.Tag.{crcLength, seal}
-use Rattle.vat.specs.Table.{sectorLength, entryRows, lengthRows}
+use Rattle.vat.specs.Table.{sectorLength, tagVersion, entryRows, lengthRows}
 use Rattle.vat.specs.Sector.{ownRows, stationAt, stationName}
 use Rattle.extent.specs.declared.Extent.{Extent}
 use Rattle.extent.specs.Extents.{descriptorsLength, descriptors, totalLength}
@@ -20,7 +20,7 @@ abbrev pub body : List Extent → List ℕ
 body es = sets (sets (replicate sectorLength 0) descriptorsAt (descriptors es)) stationAt stationName
 
 abbrev pub header : List Extent → ℕ → List Row
-header es b = entryRows fileType b ++ (lengthRows 0 (descriptorsLength (length es)) (totalLength es) ++ (ownRows 0 ++ fileRows es))
+header es b = entryRows tagVersion fileType b ++ (lengthRows 0 (descriptorsLength (length es)) (totalLength es) ++ (ownRows 0 ++ fileRows es))
 
 unfoldable pub laidOver : List Extent → ℕ → List ℕ
 laidOver es b = lay (body es) (header es b)
@@ -45,13 +45,13 @@ unfolding laidOver lengthRows ownRows fileRows
 crc-length es b few =
     let m : ℕ = descriptorsLength (length es) in
     let n : ℕ = totalLength es in
-    read-laid (entryRows fileType b ++ (row 168 4 0 ∷ row 172 4 m ∷ row 56 8 n ∷ [])) (ownRows 0 ++ fileRows es) (row 10 2 (160 + m)) (body es) tt (omega (arith, length-body es)) (omega arith)
+    read-laid (entryRows tagVersion fileType b ++ (row 168 4 0 ∷ row 172 4 m ∷ row 56 8 n ∷ [])) (ownRows 0 ++ fileRows es) (row 10 2 (160 + m)) (body es) tt (omega (arith, length-body es)) (omega arith)
 
 -- the rows laid part by part
 pub header-laid : (es : List Extent) (b : ℕ)
-    → lay (lay (lay (lay (body es) (entryRows fileType b)) (lengthRows 0 (descriptorsLength (length es)) (totalLength es))) (ownRows 0)) (fileRows es) ≡ laidOver es b
+    → lay (lay (lay (lay (body es) (entryRows tagVersion fileType b)) (lengthRows 0 (descriptorsLength (length es)) (totalLength es))) (ownRows 0)) (fileRows es) ≡ laidOver es b
 unfolding laidOver
 header-laid es b =
     let sizes : List Row = lengthRows 0 (descriptorsLength (length es)) (totalLength es) in
-    let s : List ℕ = lay (body es) (entryRows fileType b) in
-    rw (lay-append (entryRows fileType b) (sizes ++ (ownRows 0 ++ fileRows es)) (body es), lay-append sizes (ownRows 0 ++ fileRows es) s, lay-append (ownRows 0) (fileRows es) (lay s sizes))
+    let s : List ℕ = lay (body es) (entryRows tagVersion fileType b) in
+    rw (lay-append (entryRows tagVersion fileType b) (sizes ++ (ownRows 0 ++ fileRows es)) (body es), lay-append sizes (ownRows 0 ++ fileRows es) s, lay-append (ownRows 0) (fileRows es) (lay s sizes))

@@ -19,7 +19,7 @@ use Rattle.le.proofs.Bytes.{drop-sets, drop-sets-after}
 use Rattle.le.proofs.Rows.{and-left, and-right, length-lay, holds-lay, holds-spared, holds-append, drop-lay}
 use Rattle.tag.specs.Tag.{sealed}
 use Rattle.tag.proofs.Sums.{sealRows, seal-lays, sealed-seal}
-use Rattle.vat.specs.Table.{sectorLength, unused, entryRows, lengthRows, allocationType}
+use Rattle.vat.specs.Table.{sectorLength, unused, tagVersion, entryRows, lengthRows, allocationType}
 use Rattle.vat.specs.Sector.{ownRows, stationAt, stationName}
 use Rattle.vat.proofs.Frame.{lengths}
 use Rattle.extent.specs.declared.Extent.{Extent}
@@ -87,7 +87,7 @@ recognised kinds s b e =
     let d : ℕ = descriptorsLength m in
     let n : ℕ = totalLength (extentsOf s) in
     let p : Bool = eqb (length s) sectorLength in
-    let q : Bool = holds s (entryRows fileType b) in
+    let q : Bool = holds s (entryRows tagVersion fileType b) in
     let r : Bool = eqb (allocationType s) 0 in
     let t : Bool = leb 1 m in
     let u : Bool = leb m mostExtents in
@@ -165,16 +165,16 @@ module _ (kinds : List ℕ) (es : List Extent) (b : ℕ) (small : b < 4294967296
   abbrev sizes : List Row
   sizes = lengthRows 0 (descriptorsLength (length es)) (totalLength es)
 
-  rows-held : holds (entry es b) (entryRows fileType b) ≡ true
+  rows-held : holds (entry es b) (entryRows tagVersion fileType b) ≡ true
   rows-held =
       let s : List ℕ = entry es b in
-      and-left (holds s (entryRows fileType b)) (holds s (sizes ++ (ownRows 0 ++ fileRows es))) (sym (holds-append (entryRows fileType b) (sizes ++ (ownRows 0 ++ fileRows es)) s) ∙ held)
+      and-left (holds s (entryRows tagVersion fileType b)) (holds s (sizes ++ (ownRows 0 ++ fileRows es))) (sym (holds-append (entryRows tagVersion fileType b) (sizes ++ (ownRows 0 ++ fileRows es)) s) ∙ held)
 
   rest-held : (holds (entry es b) sizes && holds (entry es b) (ownRows 0 ++ fileRows es)) ≡ true
   rest-held =
       let s : List ℕ = entry es b in
       sym (holds-append sizes (ownRows 0 ++ fileRows es) s)
-      ∙ and-right (holds s (entryRows fileType b)) (holds s (sizes ++ (ownRows 0 ++ fileRows es))) (sym (holds-append (entryRows fileType b) (sizes ++ (ownRows 0 ++ fileRows es)) s) ∙ held)
+      ∙ and-right (holds s (entryRows tagVersion fileType b)) (holds s (sizes ++ (ownRows 0 ++ fileRows es))) (sym (holds-append (entryRows tagVersion fileType b) (sizes ++ (ownRows 0 ++ fileRows es)) s) ∙ held)
 
   sizes-held : holds (entry es b) sizes ≡ true
   sizes-held = and-left (holds (entry es b) sizes) (holds (entry es b) (ownRows 0 ++ fileRows es)) rest-held

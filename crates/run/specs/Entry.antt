@@ -9,7 +9,7 @@ use lib.Seq.{sets}
 use Rattle.le.specs.Bytes.{every}
 use Rattle.le.specs.Field.{Row, row, le, readLe, holds, lay}
 use Rattle.tag.specs.Tag.{sealed, seal}
-use Rattle.vat.specs.Table.{sectorLength, tableStart, entryRows, lengthRows, allocationType}
+use Rattle.vat.specs.Table.{sectorLength, tableStart, tagVersion, entryRows, lengthRows, allocationType}
 use Rattle.vat.specs.Sector.{ownRows, stationAt, stationName}
 use Rattle.extent.specs.declared.Extent.{Extent}
 use Rattle.extent.specs.Extents.{extent, descriptorsLength, extentsFrom, descriptors, totalLength}
@@ -57,7 +57,7 @@ unfoldable pub isEntry : List ℕ → List ℕ → ℕ → Bool
 isEntry kinds s b =
     let m : ℕ = extentCount s in
     eqb (length s) sectorLength
-    && (holds s (entryRows fileType b)
+    && (holds s (entryRows tagVersion fileType b)
     && (eqb (allocationType s) 0
     && (leb 1 m
     && (leb m mostExtents
@@ -92,7 +92,7 @@ fileRows es =
 unfoldable pub entry : List Extent → ℕ → List ℕ
 entry es b =
     seal (lay (sets (sets (replicate sectorLength 0) descriptorsAt (descriptors es)) stationAt stationName)
-    (entryRows fileType b ++ (lengthRows 0 (descriptorsLength (length es)) (totalLength es) ++ (ownRows 0 ++ fileRows es))))
+    (entryRows tagVersion fileType b ++ (lengthRows 0 (descriptorsLength (length es)) (totalLength es) ++ (ownRows 0 ++ fileRows es))))
 
 -- The extents that words of 32 bits tell, length and block by turns.
 unfoldable pub paired : List ℕ → List Extent

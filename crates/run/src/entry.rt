@@ -2,6 +2,7 @@
 use extent::Extent;
 use vat::table::ATTRIBUTES_AT;
 use vat::table::SECTOR;
+use vat::table::TAG_VERSION;
 ghost use mathlib.Core.Path.{_≡_};
 ghost use Prim.Native.Nat.{_+_, _*_, _≤_, _<_};
 ghost use lib.ListN.{length};
@@ -93,7 +94,7 @@ pub fn is_entry(kinds: &[u8], s: &[u8], b: u32) -> bool
     requires { ⌜ (length (now s) ≡ sectorLength) × (b ≤ length (now kinds)) ⌝ }
     ensures { λ r. ⌜ r ≡ isEntry (now (kinds .entry)) (now (s .entry)) b ⌝ }
 {
-    if !vat::table::entry_held(s, FILE_TYPE, b) {
+    if !vat::table::entry_held(s, TAG_VERSION, FILE_TYPE, b) {
         return false;
     }
     if (le::read16(s, 34) & 7) != 0 {

@@ -1,6 +1,7 @@
 // The sector that is recorded as the entry of a run.
 use crate::entry::FILE_TYPE;
 use vat::table::ATTRIBUTES_AT;
+use vat::table::TAG_VERSION;
 ghost use mathlib.Core.Path.{_≡_};
 ghost use Prim.Native.Nat.{_*_, _%_, _≤_};
 ghost use lib.ListN.{length};
@@ -54,7 +55,7 @@ pub fn record(s: &mut [u8], words: &[u32], b: u32)
     le::run::clear(s);
     le::run::put_words(s, ATTRIBUTES_AT, words);
     vat::sector::put_name(s);
-    vat::sector::put_entry(s, FILE_TYPE, b);
+    vat::sector::put_entry(s, TAG_VERSION, FILE_TYPE, b);
     vat::sector::put_lengths(s, 4 * (words.len() as u32), total_length(words));
     vat::sector::put_own(s, 0);
     put_file(s, words);

@@ -13,8 +13,9 @@ use lib.Arith.{lt-of-le-ne}
 use borrow.Author.Tests.{eq-eqb, ne-eqb, eqb-true, eqb-false}
 use Rattle.le.specs.Bytes.{every}
 use Rattle.le.proofs.Rows.{and-left}
-use Rattle.vat.specs.Table.{limit, unused}
+use Rattle.vat.specs.Table.{limit, unused, Lower}
 use Rattle.disc.specs.Disc.{Disc, recorded, Sector, link, plain, stored, puts}
+use Rattle.disc.specs.Tables.{below}
 use Rattle.disc.proofs.Recording.{Sound, leading-le}
 use Rattle.volume.specs.declared.Volume.{Volume}
 use Rattle.volume.specs.Volume.{unpack, pack, mapOf, isUnused, wrote, released, closed}
@@ -29,7 +30,7 @@ use Rattle.roles.specs.Keeping.{letGo, marked, writtenRole, keptUp}
 use Rattle.roles.proofs.Roles.{names-snoc, names-last, names-other}
 use Rattle.history.specs.Events.{World, calls}
 use Rattle.history.proofs.Log.{none-some}
-use Rattle.history.proofs.Growth.{all-below-of, links-no-tables, behind-counted}
+use Rattle.history.proofs.Growth.{all-below-of, links-no-tables, links-below, behind-counted}
 use Rattle.history.proofs.Saving.{enough}
 use Rattle.history.proofs.Steps.{Good, event-step}
 use Rattle.history.proofs.Theorem.{started}
@@ -133,14 +134,16 @@ module _ (d : Disc) (l roles apart : List ℕ) (k : Kept d l roles apart) where
 
     -- the roles with those of the links and of the block
     marks : (m a : List ℕ) → ((b : ℕ) → b < recorded d → (names (mapOf (unpack l)) b ≡ names m b) × (names apart b ≡ names a b))
-        → roleOfSector m a (target (unpack l)) (plain block) ≡ writtenRole n → marked (recorded d) (links (unpack l)) 0 (writtenRole n) roles ≡ rolesOf written m a
+        → roleOfSector (below d (target (unpack l))) m a (target (unpack l)) (plain block) ≡ writtenRole n → marked (recorded d) (links (unpack l)) 0 1 (writtenRole n) roles ≡ rolesOf written m a
     unfolding marked
     marks m a same role =
         let ss : List Sector = replicate (links (unpack l)) link in
         let sound : Sound d = done-write .sound-disc in
-        let laid : rolesFrom m a (recorded d) (behind ss block) ≡ replicate (links (unpack l)) linkRole ++ (writtenRole n ∷ []) =
-        roles-append m a ss (plain block ∷ []) (recorded d)
-        ∙ ap₂ (λ (x : List ℕ) (y : ℕ). x ++ (y ∷ [])) (links-roles m a (links (unpack l)) (recorded d)) (ap (λ (b : ℕ). roleOfSector m a b (plain block)) here ∙ role) in
+        let reads : below (puts d (recorded d) ss) (recorded d + length ss) ≡ below d (recorded d + length ss) = links-below d sound (links (unpack l)) (recorded d + length ss) in
+        let its-role : roleOfSector (below (puts d (recorded d) ss) (recorded d + length ss)) m a (recorded d + length ss) (plain block) ≡ writtenRole n =
+        ap (λ (lower : Lower). roleOfSector lower m a (recorded d + length ss) (plain block)) reads ∙ ap (λ (b : ℕ). roleOfSector (below d b) m a b (plain block)) here ∙ role in
+        let laid : rolesFrom d m a (recorded d) (behind ss block) ≡ replicate (links (unpack l)) linkRole ++ (writtenRole n ∷ []) =
+        roles-append d m a ss (plain block ∷ []) (recorded d) ∙ ap₂ (λ (x : List ℕ) (y : ℕ). x ++ (y ∷ [])) (links-roles d m a (links (unpack l)) (recorded d)) its-role in
         ap₂ (λ (x y : List ℕ). stored x (recorded d) y) (k .roles-are ∙ same-roles d sound (mapOf (unpack l)) m apart a same) (sym laid)
         ∙ puts-roles m a (behind ss block) d sound (omega (arith, length-behind ss block, fits-in)) (behind-whole ss block (links-whole (links (unpack l))) (done-write .block-long))
 
@@ -159,17 +162,17 @@ module _ (d : Disc) (l roles apart : List ℕ) (k : Kept d l roles apart) where
       let last : recorded d′ ≡ suc b = one-more none block e in
       let few : b < unused = small none block e in
       let fresh : names m b ≡ false = not-named (f .fit) b above few in
-      let its-role : roleOfSector m (b ∷ apart) b (plain block) ≡ unnumbered = unnumbered-role m (b ∷ apart) b block (f .no-table) (fresh, ap (λ (t : Bool). t || names apart b) (eq-eqb b b refl)) in
+      let its-role : roleOfSector (below d b) m (b ∷ apart) b (plain block) ≡ unnumbered = unnumbered-role (below d b) m (b ∷ apart) b block (f .no-table) (fresh, ap (λ (t : Bool). t || names apart b) (eq-eqb b b refl)) in
       let same : (i : ℕ) → i < recorded d → (names m i ≡ names m i) × (names apart i ≡ names (b ∷ apart) i) =
       λ i h. (refl, ap (λ (t : Bool). t || names apart i) (sym (ne-eqb b i (λ z. omega arith)))) in
-      subst (λ (x : After). Kept (x .disc) (x .ledger) (letGo (x .disc) (x .ledger) unused (marked (recorded d) (links v) 0 unnumbered roles)) (x .answer ∷ apart)) (sym (after-is d l (write none block) 0 e))
+      subst (λ (x : After). Kept (x .disc) (x .ledger) (letGo (x .disc) (x .ledger) unused (marked (recorded d) (links v) 0 1 unnumbered roles)) (x .answer ∷ apart)) (sym (after-is d l (write none block) 0 e))
       (record {
         good = good;
         free = λ i h.
             let since : (i < recorded d′) × (names m i ≡ false) = free-since (f .fit) (recorded d′) (omega arith) (omega arith) i (eqb b i) (λ z. let at : b ≡ i = eqb-true b i z in (omega arith, omega arith)) h in
             (since .0, ap (λ (x : List ℕ). names x i) map ∙ since .1);
         roles-are =
-            lets-go d′ l′ m (b ∷ apart) (marked (recorded d) (links v) 0 unnumbered roles) unused (marks none block e m (b ∷ apart) same its-role)
+            lets-go d′ l′ m (b ∷ apart) (marked (recorded d) (links v) 0 1 unnumbered roles) unused (marks none block e m (b ∷ apart) same its-role)
             (λ i low other. ap (λ (x : List ℕ). names x i) (sym map)) (λ low. absurd (omega (arith, good .sound-disc .few)));
       })
 
@@ -218,17 +221,17 @@ module _ (d : Disc) (l roles apart : List ℕ) (k : Kept d l roles apart) where
         let good : Good (record { disc = d′; ledger = some l′ }) = good-after d l (write (some n) block) (k .good) refl e in
         let above : recorded d ≤ b = omega (arith, here (some n) block e) in
         let last : recorded d′ ≡ suc b = one-more (some n) block e in
-        let its-role : roleOfSector named apart b (plain block) ≡ inUse = rw (f .no-table, names-last m b) in
+        let its-role : roleOfSector (below d b) named apart b (plain block) ≡ inUse = rw (f .no-table, names-last m b) in
         let same : (i : ℕ) → i < recorded d → (names m i ≡ names named i) × (names apart i ≡ names apart i) =
         λ i h. (sym (names-other m b i (λ z. omega arith)), refl) in
-        subst (λ (x : After). Kept (x .disc) (x .ledger) (letGo (x .disc) (x .ledger) old (marked (recorded d) (links v) 0 inUse roles)) apart) (sym (after-is d l (write (some n) block) 0 e))
+        subst (λ (x : After). Kept (x .disc) (x .ledger) (letGo (x .disc) (x .ledger) old (marked (recorded d) (links v) 0 1 inUse roles)) apart) (sym (after-is d l (write (some n) block) 0 e))
         (record {
           good = good;
           free = λ i h.
               let before : (i < recorded d) × (names m i ≡ false) = k .free i h in
               (omega arith, ap (λ (x : List ℕ). names x i) noted-map ∙ names-grown t m n b i (λ z. omega arith) (before .1));
           roles-are =
-              lets-go d′ l′ named apart (marked (recorded d) (links v) 0 inUse roles) old (marks (some n) block e named apart same its-role)
+              lets-go d′ l′ named apart (marked (recorded d) (links v) 0 1 inUse roles) old (marks (some n) block e named apart same its-role)
               (λ i low other. moved t refl i other ∙ ap (λ (x : List ℕ). names x i) (sym noted-map))
               (λ low.
               let is-named : names m old ≡ true = named-before t refl (omega (arith, good .sound-disc .few)) in

@@ -1,34 +1,47 @@
 -- A save keeps what holds of disc, ledger and roles: a commit, and a closing, whose sectors before its table are without a number.
 -- Assumes nothing.
-use Prim.Native.Nat.{ℕ, suc, _+_, _-_, _≤_, _<_}
+use Prim.Native.Nat.{ℕ, zero, suc, _+_, _-_, _≤_, _<_}
 use native.Mathlib.Omega.{arith}
-use mathlib.Core.Path.{_≡_, refl, sym, ap, ap₂, _∙_, subst, subst₂}
+use native.Mathlib.Numerals.{add-one}
+use mathlib.Core.Path.{_≡_, refl, sym, ap, ap₂, _∙_, subst}
 use mathlib.Core.Bool.{Bool, true, false, _||_}
 use mathlib.Core.List.{List, [], _∷_, _++_, append-assoc}
 use mathlib.Core.Option.{Option, some}
 use lib.ListN.{length, replicate, length-replicate}
-use Rattle.vat.specs.Table.{unused, isTable}
+use Rattle.vat.specs.Table.{unused, Lower}
 use Rattle.extent.specs.declared.Extent.{Extent}
+use Rattle.vat.specs.Sector.{noStamp}
 use Rattle.disc.specs.Disc.{Disc, recorded, Sector, link, plain, stored, puts}
+use Rattle.disc.specs.Tables.{below}
 use Rattle.disc.specs.Session.{closingLength, closing}
 use Rattle.disc.proofs.Recording.{Sound}
+use Rattle.disc.proofs.Save.{save-count, one-sector}
 use Rattle.volume.specs.declared.Volume.{Volume}
 use Rattle.volume.specs.Volume.{unpack, pack, mapOf, committed}
 use Rattle.volume.proofs.State.{Proper, proper-committed}
-use Rattle.recorder.specs.Calls.{Call, commit, closeSession, onlyTells}
+use Rattle.recorder.specs.Calls.{Call, commit, closeSession, bufferOf, onlyTells}
 use Rattle.recorder.specs.Refusals.{links, target, outcome}
-use Rattle.recorder.specs.Effects.{Effect, effect, After, after}
-use Rattle.recorder.proofs.Done.{Fits, commit-done, closing-done}
+use Rattle.recorder.specs.Effects.{Effect, saved, effect, After, after}
+use Rattle.recorder.proofs.Done.{Fits, saveOf, commit-done, closing-done}
 use Rattle.recorder.proofs.Sectors.{behind, length-behind, behind-whole, length-closing}
 use Rattle.roles.specs.Roles.{unnumbered, tableRole, linkRole, names, rolesOf}
-use Rattle.roles.specs.Keeping.{marked, keptUp}
+use Rattle.roles.specs.Keeping.{marked, markedSave, keptUp}
 use Rattle.roles.proofs.Roles.{names-none, names-append}
+use Rattle.history.specs.Times.{savedStamp}
 use Rattle.history.proofs.Steps.{Good}
-use Rattle.history.proofs.Saving.{Saving, commit-saving, closing-saving, tableSector, beforeTable, length-before, before-whole, room, small, at-table, read-back, sector-long, savedDisc, save}
+use Rattle.history.proofs.Saving.{Saving, commit-saving, closing-saving, table, own, tableSector, beforeTable, before-whole, room, small, tableBlock, at-table, leaves-behind, read-back, sector-long, savedDisc, save}
 use Rattle.space.specs.Space.{blocksFrom}
 use Rattle.space.proofs.Named.{run-named, run-within}
 use Rattle.space.proofs.Sectors.{roleOfSector, rolesFrom, puts-roles, roles-append, links-roles, closing-roles, same-roles}
 use Rattle.space.proofs.Calls.{Kept, DoneKept, after-is, good-after, packed-map, not-named, free-since}
+
+one-more : (n x : ℕ) → replicate n x ++ (x ∷ []) ≡ replicate (suc n) x
+one-more zero x = refl
+one-more (suc n) x = ap (λ (l : List ℕ). x ∷ l) (one-more n x)
+
+none-roles : (d : Disc) (m a : List ℕ) (b : ℕ) (ss : List Sector) → length ss ≡ 0 → rolesFrom d m a b ss ≡ replicate (length ss) tableRole
+none-roles d m a b [] e = refl
+none-roles d m a b (s ∷ ss) e = absurd (omega arith)
 
 module _ (d : Disc) (l roles apart : List ℕ) (k : Kept d l roles apart) where
   sound : Sound d
@@ -45,38 +58,60 @@ module _ (d : Disc) (l roles apart : List ℕ) (k : Kept d l roles apart) where
       go true e = absurd (let low : r ≤ i = above i e in omega arith)
       go false e = ap (λ (t : Bool). t || names apart i) (sym e)
 
-  module _ (c : Call) (s : Saving d l c) (new : List ℕ) (within : (i : ℕ) → names new i ≡ true → (target (unpack l) ≤ i) × (i < target (unpack l) + length (s .between))) (unnamed : rolesFrom (mapOf (unpack l)) (new ++ apart) (target (unpack l)) (s .between) ≡ replicate (length (s .between)) unnumbered) where
+  module _ (c : Call) (s : Saving d l c) (new : List ℕ) (within : (i : ℕ) → names new i ≡ true → (target (unpack l) ≤ i) × (i < target (unpack l) + length (s .first))) (unnamed : (x : Disc) → rolesFrom x (mapOf (unpack l)) (new ++ apart) (target (unpack l)) (s .first) ≡ replicate (length (s .first)) unnumbered) where
+    -- the sectors of the save, and how many its table has before its ICB
+    abbrev save-sectors : List Sector
+    save-sectors = saveOf d l (s .first) (savedStamp c)
+
+    own-sectors : length save-sectors ≡ length (own d l sound good c s) + 1
+    own-sectors = save-count d (table d l sound good c s) (unpack l .last) (savedStamp c) (target (unpack l) + length (s .first))
+
+    -- these are none
+    own-roles : (x : Disc) (b : ℕ) → rolesFrom x (mapOf (unpack l)) (new ++ apart) b (own d l sound good c s) ≡ replicate (length (own d l sound good c s)) tableRole
+    own-roles x b =
+        none-roles x (mapOf (unpack l)) (new ++ apart) b (own d l sound good c s)
+        (omega (arith, own-sectors, one-sector d (table d l sound good c s) (unpack l .last) (savedStamp c) (target (unpack l) + length (s .first))))
+
+    abbrev savedBy : Effect
+    savedBy = saved d (unpack l) (mapOf (unpack l)) (unpack l .last) (s .first) (savedStamp c) (bufferOf c)
+
     -- the roles of all that the save records
-    laid : rolesFrom (mapOf (unpack l)) (new ++ apart) (recorded d) (behind (beforeTable d l sound good c s) (tableSector d l sound good c s))
-        ≡ replicate (links (unpack l)) linkRole ++ (replicate (length (s .between)) unnumbered ++ (tableRole ∷ []))
-    unfolding tableSector
+    laid : rolesFrom d (mapOf (unpack l)) (new ++ apart) (recorded d) (behind (beforeTable d l sound good c s) (tableSector d l sound good c s))
+        ≡ replicate (links (unpack l)) linkRole ++ (replicate (length (s .first)) unnumbered ++ replicate (length save-sectors) tableRole)
     laid =
         let v : Volume = unpack l in
         let m : List ℕ = mapOf v in
         let a : List ℕ = new ++ apart in
         let r : ℕ = recorded d in
         let ls : List Sector = replicate (links v) link in
+        let os : List Sector = own d l sound good c s in
         let before : List Sector = beforeTable d l sound good c s in
-        let table : List ℕ = tableSector d l sound good c s in
+        let icb : List ℕ = tableSector d l sound good c s in
         let from : r + length ls ≡ target v = omega (arith, length-replicate {A = Sector} (links v) link, s .done .fit .same-recorded) in
-        let first : rolesFrom m a r before ≡ replicate (links v) linkRole ++ replicate (length (s .between)) unnumbered =
-        roles-append m a ls (s .between) r ∙ ap₂ (λ (x y : List ℕ). x ++ y) (links-roles m a (links v) r) (ap (λ (b : ℕ). rolesFrom m a b (s .between)) from ∙ unnamed) in
-        let is-table : isTable 1 table (r + length before) ≡ true = subst (λ (b : ℕ). isTable 1 table b ≡ true) (at-table d l sound good c s) (read-back d l sound good c s .is-table) in
-        let last : roleOfSector m a (r + length before) (plain table) ≡ tableRole = rw is-table in
-        roles-append m a before (plain table ∷ []) r
-        ∙ ap₂ (λ (x : List ℕ) (y : ℕ). x ++ (y ∷ [])) first last
-        ∙ append-assoc (replicate (links v) linkRole) (replicate (length (s .between)) unnumbered) (tableRole ∷ [])
+        let linked : Disc = puts d r ls in
+        let behind-links : rolesFrom linked m a (r + length ls) (s .first ++ os) ≡ replicate (length (s .first)) unnumbered ++ replicate (length os) tableRole =
+        ap (λ (b : ℕ). rolesFrom linked m a b (s .first ++ os)) from
+        ∙ roles-append linked m a (s .first) os (target v)
+        ∙ ap₂ (λ (x y : List ℕ). x ++ y) (unnamed linked) (own-roles (puts linked (target v) (s .first)) (target v + length (s .first))) in
+        let lower : Lower = below (puts d r before) (r + length before) in
+        let last : roleOfSector lower m a (r + length before) (plain icb) ≡ tableRole = rw (read-back d l sound good c s lower .is-table) in
+        roles-append d m a before (plain icb ∷ []) r
+        ∙ ap₂ (λ (x : List ℕ) (y : ℕ). x ++ (y ∷ [])) (roles-append d m a ls (s .first ++ os) r ∙ ap₂ (λ (x y : List ℕ). x ++ y) (links-roles d m a (links v) r) behind-links) last
+        ∙ append-assoc (replicate (links v) linkRole) (replicate (length (s .first)) unnumbered ++ replicate (length os) tableRole) (tableRole ∷ [])
+        ∙ ap (λ (x : List ℕ). replicate (links v) linkRole ++ x)
+        (append-assoc (replicate (length (s .first)) unnumbered) (replicate (length os) tableRole) (tableRole ∷ [])
+        ∙ ap (λ (x : List ℕ). replicate (length (s .first)) unnumbered ++ x) (one-more (length os) tableRole ∙ ap (λ (n : ℕ). replicate n tableRole) (sym (own-sectors ∙ add-one (length os)))))
 
     save-kept : onlyTells c ≡ false → outcome d l c ≡ 0
-        → Kept (after d l c .disc) (after d l c .ledger) (marked (recorded d) (links (unpack l)) (length (s .between)) tableRole roles) (new ++ apart)
-    unfolding marked tableSector committed
+        → Kept (after d l c .disc) (after d l c .ledger) (markedSave d (unpack l) (s .first) (savedStamp c) roles) (new ++ apart)
+    unfolding marked committed
     save-kept t e =
         let v : Volume = unpack l in
         let m : List ℕ = mapOf v in
         let a : List ℕ = new ++ apart in
-        let b : ℕ = target v + length (s .between) in
+        let b : ℕ = tableBlock d l sound good c s in
         let before : List Sector = beforeTable d l sound good c s in
-        let table : List ℕ = tableSector d l sound good c s in
+        let icb : List ℕ = tableSector d l sound good c s in
         let d′ : Disc = savedDisc d l sound good c s in
         let fit : Fits d v = s .done .fit in
         let from : recorded d ≤ target v = omega (arith, fit .same-recorded) in
@@ -86,25 +121,29 @@ module _ (d : Disc) (l roles apart : List ℕ) (k : Kept d l roles apart) where
         let same : (i : ℕ) → i < recorded d → (names m i ≡ names m i) × (names apart i ≡ names a i) =
         λ i h. (refl, since-new new (target v) i (λ j z. within j z .0) (omega arith)) in
         let left : Good (record { disc = puts d (recorded d) (effect d l c .sectors); ledger = some (effect d l c .ledger) }) = good-after d l c (k .good) t e in
-        let few : recorded d′ < unused = omega (arith, at-table d l sound good c s, length-before d l sound good c s, s .done .room, sound .few) in
-        subst (λ (x : After). Kept (x .disc) (x .ledger) (marked (recorded d) (links v) (length (s .between)) tableRole roles) a) (sym (after-is d l c 0 e))
-        (subst (λ (x : Effect). Kept (puts d (recorded d) (x .sectors)) (x .ledger) (marked (recorded d) (links v) (length (s .between)) tableRole roles) a) (sym (s .leaves))
+        let few : recorded d′ < unused = omega (arith, last, at-table d l sound good c s, room d l sound good c s, sound .few) in
+        let records : savedBy .sectors ≡ behind before icb = ap (λ (x : Effect). x .sectors) (sym (s .leaves)) ∙ leaves-behind d l sound good c s in
+        subst (λ (x : After). Kept (x .disc) (x .ledger) (markedSave d v (s .first) (savedStamp c) roles) a) (sym (after-is d l c 0 e))
+        (subst (λ (x : Effect). Kept (puts d (recorded d) (x .sectors)) (x .ledger) (markedSave d v (s .first) (savedStamp c) roles) a) (sym (s .leaves))
+        (subst (λ (ss : List Sector). Kept (puts d (recorded d) ss) (pack (committed b v)) (markedSave d v (s .first) (savedStamp c) roles) a) (sym records)
         (record {
-          good = subst (λ (x : Effect). Good (record { disc = puts d (recorded d) (x .sectors); ledger = some (x .ledger) })) (s .leaves) left;
+          good =
+              subst (λ (ss : List Sector). Good (record { disc = puts d (recorded d) ss; ledger = some (pack (committed b v)) })) records
+              (subst (λ (x : Effect). Good (record { disc = puts d (recorded d) (x .sectors); ledger = some (x .ledger) })) (s .leaves) left);
           free = λ i h.
               let since : (i < recorded d′) × (names m i ≡ false) =
-              free-since d l roles apart k fit (recorded d′) (omega arith) few i (names new i) (λ z. let w : (target v ≤ i) × (i < b) = within i z in (omega arith, omega arith)) (sym (names-append new apart i) ∙ h) in
+              free-since d l roles apart k fit (recorded d′) (omega arith) few i (names new i) (λ z. let w : (target v ≤ i) × (i < target v + length (s .first)) = within i z in (omega arith, omega arith)) (sym (names-append new apart i) ∙ h) in
               (since .0, ap (λ (x : List ℕ). names x i) map ∙ since .1);
           roles-are =
               ap₂ (λ (x y : List ℕ). stored x (recorded d) y) (k .roles-are ∙ same-roles d sound m m apart a same) (sym laid)
-              ∙ puts-roles m a (behind before table) d sound (omega (arith, length-behind before table, room d l sound good c s)) (behind-whole before table (before-whole d l sound good c s) (sector-long d l sound good c s))
+              ∙ puts-roles m a (behind before icb) d sound (omega (arith, length-behind before icb, room d l sound good c s)) (behind-whole before icb (before-whole d l sound good c s) (sector-long d l sound good c s))
               ∙ ap (λ (x : List ℕ). rolesOf d′ x a) (sym map);
-        }))
+        })))
 
   pub commit-kept : (stamp : Option (List ℕ)) → outcome d l (commit stamp) ≡ 0 → DoneKept d l roles apart (commit stamp)
   unfolding keptUp
   commit-kept stamp e =
-      save-kept (commit stamp) (commit-saving d l stamp (commit-done d l stamp e)) [] (λ i z. absurd (mathlib.Core.Bool.false≢true (sym (names-none i) ∙ z))) refl refl e
+      save-kept (commit stamp) (commit-saving d l stamp (commit-done d l stamp e)) [] (λ i z. absurd (mathlib.Core.Bool.false≢true (sym (names-none i) ∙ z))) (λ x. refl) refl e
 
   pub closing-kept : (main reserve : Extent) (start : ℕ) → outcome d l (closeSession main reserve start) ≡ 0 → DoneKept d l roles apart (closeSession main reserve start)
   unfolding keptUp
@@ -116,14 +155,15 @@ module _ (d : Disc) (l roles apart : List ℕ) (k : Kept d l roles apart) where
       let s : Saving d l c = closing-saving d l main reserve start (closing-done d l main reserve start e) in
       let count : length between ≡ closingLength = length-closing main reserve start t in
       let new : List ℕ = blocksFrom t closingLength in
-      let second : after d l c .answer ≡ t + length between = ap (λ (x : After). x .answer) (after-is d l c 0 e) ∙ ap (λ (x : Effect). x .second) (s .leaves) in
+      let second : after d l c .answer ≡ tableBlock d l sound good c s = ap (λ (x : After). x .answer) (after-is d l c 0 e) ∙ ap (λ (x : Effect). x .second) (s .leaves) in
+      let alone : length (saveOf d l between noStamp) ≡ 1 = one-sector d (table d l sound good c s) (v .last) noStamp (t + length between) in
       let back : after d l c .answer - closingLength ≡ t = omega arith in
       let fit : Fits d v = s .done .fit in
       let small-enough : t + closingLength < unused = omega (arith, at-table d l sound good c s, small d l sound good c s) in
       let apart-here : (i : ℕ) → t ≤ i → i < t + closingLength → (names (mapOf v) i ≡ false) × (names (new ++ apart) i ≡ true) =
       λ i low high.
       (not-named d l roles apart k fit i (omega arith) (omega arith), names-append new apart i ∙ ap (λ (x : Bool). x || names apart i) (run-named closingLength t i low high)) in
-      subst₂ (λ (n b : ℕ). Kept (after d l c .disc) (after d l c .ledger) (marked (recorded d) (links v) n tableRole roles) (blocksFrom b closingLength ++ apart)) count (sym back)
+      subst (λ (b : ℕ). Kept (after d l c .disc) (after d l c .ledger) (markedSave d v between noStamp roles) (blocksFrom b closingLength ++ apart)) (sym back)
       (save-kept c s new
       (λ i z. let w : (t ≤ i) × (i < t + closingLength) = run-within closingLength t i z in (w .0, omega arith))
-      (closing-roles (mapOf v) (new ++ apart) main reserve start t apart-here ∙ ap (λ (n : ℕ). replicate n unnumbered) (sym count)) refl e)
+      (λ x. closing-roles x (mapOf v) (new ++ apart) main reserve start t apart-here ∙ ap (λ (n : ℕ). replicate n unnumbered) (sym count)) refl e)

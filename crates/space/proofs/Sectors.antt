@@ -11,39 +11,39 @@ use lib.Dec.{eqb, ltb}
 use lib.ListN.{length, set, replicate}
 use lib.Seq.{set-out}
 use borrow.Author.Tests.{ltb-true, ltb-false, eqb-true, eqb-false}
-use Rattle.vat.specs.Table.{sectorLength, isTable}
+use Rattle.vat.specs.Table.{sectorLength, Lower, isTable, tagVersion}
 use Rattle.extent.specs.declared.Extent.{Extent}
 use Rattle.anchor.specs.Anchor.{anchor}
 use Rattle.anchor.proofs.Theorems.{anchor-no-table, zeros-no-table}
 use Rattle.disc.specs.Disc.{Disc, recorded, kindAt, Sector, link, plain, torn, stored, put, puts}
-use Rattle.disc.specs.Tables.{tableAt}
+use Rattle.disc.specs.Tables.{below, tableAt}
 use Rattle.disc.specs.Session.{zeroSectors, zeroSector, closingLength, closing}
-use Rattle.disc.proofs.Recording.{Sound, Whole, Recorded, put-recorded, plain-here, blank-kind}
+use Rattle.disc.proofs.Recording.{Sound, Whole, Recorded, put-recorded, blank-kind, AllWhole}
 use Rattle.volume.specs.Volume.{unpack, mapOf}
-use Rattle.recorder.proofs.Sectors.{AllWhole}
 use Rattle.roles.specs.Roles.{superseded, unnumbered, linkRole, unreadable, names, roleOfKind, roleOfData, roleAt, tabulate, rolesOf}
 use Rattle.roles.specs.Keeping.{supersedeIf, letGo}
+use Rattle.history.proofs.Growth.{extends-of, table-next}
 use Rattle.roles.proofs.Roles.{length-tabulate, tabulate-same, set-tabulate, names-none, role-names, role-blank, stored-none, stored-cons}
 
 -- ---- one sector
 
--- the role of a sector that is recorded at block b
-abbrev pub roleOfSector : List ℕ → List ℕ → ℕ → Sector → ℕ
-roleOfSector m a b link = linkRole
-roleOfSector m a b (plain s) = roleOfData (isTable 1 s b) (names m b) (names a b)
-roleOfSector m a b (torn s) = unreadable
+-- the role of a sector that is recorded at block b, where this can be read below it
+abbrev pub roleOfSector : Lower → List ℕ → List ℕ → ℕ → Sector → ℕ
+roleOfSector lower m a b link = linkRole
+roleOfSector lower m a b (plain s) = roleOfData (isTable lower s b) (names m b) (names a b)
+roleOfSector lower m a b (torn s) = unreadable
 
 -- a block that is no table, without a number
-pub unnumbered-role : (m a : List ℕ) (b : ℕ) (s : List ℕ) → isTable 1 s b ≡ false → (names m b ≡ false) × (names a b ≡ true) → roleOfSector m a b (plain s) ≡ unnumbered
-unnumbered-role m a b s no-table apart = rw (no-table, apart .0, apart .1)
+pub unnumbered-role : (lower : Lower) (m a : List ℕ) (b : ℕ) (s : List ℕ) → isTable lower s b ≡ false → (names m b ≡ false) × (names a b ≡ true) → roleOfSector lower m a b (plain s) ≡ unnumbered
+unnumbered-role lower m a b s no-table apart = rw (no-table, apart .0, apart .1)
 
 module _ (d : Disc) (ok : Sound d) (room : recorded d < length (d .kinds)) (m a : List ℕ) where
-  role-here : (s : Sector) → Whole s → roleAt (put d (recorded d) s) m a (recorded d) ≡ roleOfSector m a (recorded d) s
+  role-here : (s : Sector) → Whole s → roleAt (put d (recorded d) s) m a (recorded d) ≡ roleOfSector (below d (recorded d)) m a (recorded d) s
   unfolding roleAt
   role-here link w = rw (put-recorded d ok room link w .its-kind)
   role-here (plain s) w =
       let b : ℕ = recorded d in
-      ap₂ (λ (k : ℕ) (t : List ℕ). roleOfKind k (roleOfData (isTable k t b) (names m b) (names a b))) (put-recorded d ok room (plain s) w .its-kind) (plain-here d ok room s w)
+      ap₂ (λ (k : ℕ) (t : Bool). roleOfKind k (roleOfData t (names m b) (names a b))) (put-recorded d ok room (plain s) w .its-kind) (table-next d ok room s w)
   role-here (torn s) w = rw (put-recorded d ok room (torn s) w .its-kind)
 
   role-elsewhere : (s : Sector) → Whole s → (i : ℕ) → (i ≡ recorded d → ⊥) → roleAt d m a i ≡ roleAt (put d (recorded d) s) m a i
@@ -59,26 +59,27 @@ module _ (d : Disc) (ok : Sound d) (room : recorded d < length (d .kinds)) (m a 
       go : (t : Bool) → ltb i (recorded d) ≡ t → roleAt d m a i ≡ roleAt d′ m a i
       go true e =
           let low : i < recorded d = ltb-true i (recorded d) e in
-          sym (ap₂ (λ (k : ℕ) (t : List ℕ). roleOfKind k (roleOfData (isTable k t i) (names m i) (names a i))) (r .kinds-kept i low) (r .sectors-kept i low))
+          sym (ap₂ (λ (k : ℕ) (t : Bool). roleOfKind k (roleOfData t (names m i) (names a i))) (r .kinds-kept i low) (extends-of r .tables i low))
       go false e =
           let high : recorded d ≤ i = ltb-false i (recorded d) e in
           role-blank d m a i (blank-kind (d .kinds) (recorded d) i (ok .blank) high)
           ∙ sym (role-blank d′ m a i (blank-kind (d′ .kinds) (recorded d′) i (r .still-sound .blank) (omega (arith, r .one-more))))
 
-  put-role : (s : Sector) → Whole s → set (rolesOf d m a) (recorded d) (roleOfSector m a (recorded d) s) ≡ rolesOf (put d (recorded d) s) m a
+  put-role : (s : Sector) → Whole s → set (rolesOf d m a) (recorded d) (roleOfSector (below d (recorded d)) m a (recorded d) s) ≡ rolesOf (put d (recorded d) s) m a
   put-role s w =
       let d′ : Disc = put d (recorded d) s in
-      set-tabulate (roleAt d m a) (roleAt d′ m a) (length (d .kinds)) (recorded d) (roleOfSector m a (recorded d) s) room (role-here s w) (λ i low other. role-elsewhere s w i other)
+      set-tabulate (roleAt d m a) (roleAt d′ m a) (length (d .kinds)) (recorded d) (roleOfSector (below d (recorded d)) m a (recorded d) s) room (role-here s w) (λ i low other. role-elsewhere s w i other)
       ∙ ap (tabulate (roleAt d′ m a)) (sym (put-recorded d ok room s w .same-length))
 
 -- ---- a list of sectors
 
-abbrev pub rolesFrom : List ℕ → List ℕ → ℕ → List Sector → List ℕ
-rolesFrom m a b [] = []
-rolesFrom m a b (s ∷ ss) = roleOfSector m a b s ∷ rolesFrom m a (b + 1) ss
+-- the roles of sectors that are recorded from block b on
+abbrev pub rolesFrom : Disc → List ℕ → List ℕ → ℕ → List Sector → List ℕ
+rolesFrom d m a b [] = []
+rolesFrom d m a b (s ∷ ss) = roleOfSector (below d b) m a b s ∷ rolesFrom (put d b s) m a (b + 1) ss
 
 pub puts-roles : (m a : List ℕ) (ss : List Sector) (d : Disc) → Sound d → recorded d + length ss ≤ length (d .kinds) → AllWhole ss
-    → stored (rolesOf d m a) (recorded d) (rolesFrom m a (recorded d) ss) ≡ rolesOf (puts d (recorded d) ss) m a
+    → stored (rolesOf d m a) (recorded d) (rolesFrom d m a (recorded d) ss) ≡ rolesOf (puts d (recorded d) ss) m a
 unfolding puts
 puts-roles m a [] d ok room w = stored-none (rolesOf d m a) (recorded d)
 puts-roles m a (s ∷ ss) d ok room w =
@@ -86,35 +87,41 @@ puts-roles m a (s ∷ ss) d ok room w =
     let d₁ : Disc = put d (recorded d) s in
     let r : Recorded d d₁ s = put-recorded d ok here s (w .0) in
     let next : recorded d₁ ≡ recorded d + 1 = r .one-more ∙ sym (add-one (recorded d)) in
-    let rest : stored (rolesOf d₁ m a) (recorded d₁) (rolesFrom m a (recorded d₁) ss) ≡ rolesOf (puts d₁ (recorded d₁) ss) m a =
+    let rest : stored (rolesOf d₁ m a) (recorded d₁) (rolesFrom d₁ m a (recorded d₁) ss) ≡ rolesOf (puts d₁ (recorded d₁) ss) m a =
     puts-roles m a ss d₁ (r .still-sound) (omega (arith, r .one-more, r .same-length)) (w .1) in
-    sym (stored-cons (rolesOf d m a) (recorded d) (roleOfSector m a (recorded d) s) (rolesFrom m a (recorded d + 1) ss) (omega (arith, length-tabulate (roleAt d m a) (length (d .kinds)))))
-    ∙ ap (λ (t : List ℕ). stored t (recorded d + 1) (rolesFrom m a (recorded d + 1) ss)) (put-role d ok here m a s (w .0))
-    ∙ subst (λ (b : ℕ). stored (rolesOf d₁ m a) b (rolesFrom m a b ss) ≡ rolesOf (puts d₁ b ss) m a) next rest
+    sym (stored-cons (rolesOf d m a) (recorded d) (roleOfSector (below d (recorded d)) m a (recorded d) s) (rolesFrom d₁ m a (recorded d + 1) ss) (omega (arith, length-tabulate (roleAt d m a) (length (d .kinds)))))
+    ∙ ap (λ (t : List ℕ). stored t (recorded d + 1) (rolesFrom d₁ m a (recorded d + 1) ss)) (put-role d ok here m a s (w .0))
+    ∙ subst (λ (b : ℕ). stored (rolesOf d₁ m a) b (rolesFrom d₁ m a b ss) ≡ rolesOf (puts d₁ b ss) m a) next rest
 
-pub roles-append : (m a : List ℕ) (ss ts : List Sector) (b : ℕ) → rolesFrom m a b (ss ++ ts) ≡ rolesFrom m a b ss ++ rolesFrom m a (b + length ss) ts
-roles-append m a [] ts b = ap (λ (k : ℕ). rolesFrom m a k ts) (sym (add-zero b))
-roles-append m a (s ∷ ss) ts b =
+pub roles-append : (d : Disc) (m a : List ℕ) (ss ts : List Sector) (b : ℕ) → rolesFrom d m a b (ss ++ ts) ≡ rolesFrom d m a b ss ++ rolesFrom (puts d b ss) m a (b + length ss) ts
+unfolding puts
+roles-append d m a [] ts b = ap (λ (k : ℕ). rolesFrom d m a k ts) (sym (add-zero b))
+roles-append d m a (s ∷ ss) ts b =
     let next : b + 1 + length ss ≡ b + suc (length ss) = omega arith in
-    ap (λ (t : List ℕ). roleOfSector m a b s ∷ t) (roles-append m a ss ts (b + 1) ∙ ap (λ (k : ℕ). rolesFrom m a (b + 1) ss ++ rolesFrom m a k ts) next)
+    let d₁ : Disc = put d b s in
+    ap (λ (t : List ℕ). roleOfSector (below d b) m a b s ∷ t)
+    (roles-append d₁ m a ss ts (b + 1) ∙ ap (λ (k : ℕ). rolesFrom d₁ m a (b + 1) ss ++ rolesFrom (puts d₁ (b + 1) ss) m a k ts) next)
 
-pub links-roles : (m a : List ℕ) (n b : ℕ) → rolesFrom m a b (replicate n link) ≡ replicate n linkRole
-links-roles m a zero b = refl
-links-roles m a (suc n) b = ap (λ (t : List ℕ). linkRole ∷ t) (links-roles m a n (b + 1))
+pub links-roles : (d : Disc) (m a : List ℕ) (n b : ℕ) → rolesFrom d m a b (replicate n link) ≡ replicate n linkRole
+links-roles d m a zero b = refl
+links-roles d m a (suc n) b = ap (λ (t : List ℕ). linkRole ∷ t) (links-roles (put d b link) m a n (b + 1))
 
 -- what closing records before its table is without a number
-zeros-roles : (m a : List ℕ) (n b : ℕ) → ((i : ℕ) → b ≤ i → i < b + n → (names m i ≡ false) × (names a i ≡ true)) → rolesFrom m a b (replicate n zeroSector) ≡ replicate n unnumbered
-zeros-roles m a zero b apart = refl
-zeros-roles m a (suc n) b apart =
+zeros-roles : (d : Disc) (m a : List ℕ) (n b : ℕ) → ((i : ℕ) → b ≤ i → i < b + n → (names m i ≡ false) × (names a i ≡ true))
+    → rolesFrom d m a b (replicate n zeroSector) ≡ replicate n unnumbered
+zeros-roles d m a zero b apart = refl
+zeros-roles d m a (suc n) b apart =
     let here : (names m b ≡ false) × (names a b ≡ true) = apart b (omega arith) (omega arith) in
-    ap₂ (λ (x : ℕ) (t : List ℕ). x ∷ t) (unnumbered-role m a b (replicate sectorLength 0) (zeros-no-table 1 b) here) (zeros-roles m a n (b + 1) (λ i low high. apart i (omega arith) (omega arith)))
+    ap₂ (λ (x : ℕ) (t : List ℕ). x ∷ t) (unnumbered-role (below d b) m a b (replicate sectorLength 0) (zeros-no-table (below d b) b) here)
+    (zeros-roles (put d b zeroSector) m a n (b + 1) (λ i low high. apart i (omega arith) (omega arith)))
 
-pub closing-roles : (m a : List ℕ) (main reserve : Extent) (start b : ℕ) → ((i : ℕ) → b ≤ i → i < b + closingLength → (names m i ≡ false) × (names a i ≡ true))
-    → rolesFrom m a b (closing main reserve start b) ≡ replicate closingLength unnumbered
+pub closing-roles : (d : Disc) (m a : List ℕ) (main reserve : Extent) (start b : ℕ) → ((i : ℕ) → b ≤ i → i < b + closingLength → (names m i ≡ false) × (names a i ≡ true))
+    → rolesFrom d m a b (closing main reserve start b) ≡ replicate closingLength unnumbered
 unfolding closing
-closing-roles m a main reserve start b apart =
-    ap₂ (λ (x : ℕ) (t : List ℕ). x ∷ t) (unnumbered-role m a b (anchor main reserve (start + b)) (anchor-no-table main reserve (start + b) 1 b) (apart b (omega arith) (omega arith)))
-    (zeros-roles m a zeroSectors (b + 1) (λ i low high. apart i (omega arith) (omega arith)))
+closing-roles d m a main reserve start b apart =
+    let pointer : List ℕ = anchor tagVersion main reserve (start + b) in
+    ap₂ (λ (x : ℕ) (t : List ℕ). x ∷ t) (unnumbered-role (below d b) m a b pointer (anchor-no-table tagVersion main reserve (start + b) (below d b) b) (apart b (omega arith) (omega arith)))
+    (zeros-roles (put d b (plain pointer)) m a zeroSectors (b + 1) (λ i low high. apart i (omega arith) (omega arith)))
 
 -- ---- other names
 

@@ -8,7 +8,7 @@ use mathlib.Core.Path.{_≡_, refl, sym, _∙_}
 use lib.Dec.{T, eqb, eqb→eq}
 use lib.ListN.{replicate}
 use Rattle.vat.specs.Table.{unused}
-use Rattle.vat.specs.Sector.{noStamp, sector}
+use Rattle.vat.specs.Sector.{noStamp, tableBytes, sector}
 use Rattle.disc.specs.Disc.{Disc, plain, torn, puts}
 use Rattle.volume.specs.Volume.{pack}
 use Rattle.recorder.specs.Calls.{Call, begin, mount, write, release, closePacket, commit, lookBack}
@@ -61,7 +61,7 @@ worked-rows = tt
 unfoldable pub scratched : Lent
 scratched =
     record {
-      disc = puts (blank 20) 0 (torn (block 5) ∷ plain (block 6) ∷ plain (sector (0 ∷ 1 ∷ []) unused noStamp 2) ∷ []);
+      disc = puts (blank 20) 0 (torn (block 5) ∷ plain (block 6) ∷ plain (sector (tableBytes (0 ∷ 1 ∷ []) unused) noStamp 2) ∷ []);
       roles = replicate 20 9;
       ledger = full;
     }

@@ -1,19 +1,22 @@
 -- What the recogniser's functions need of its definition, on plain values.
 -- Assumes nothing.
-use Prim.Native.Nat.{ℕ, zero, suc, _+_, _-_, _%_, _≤_, _<_}
+use Prim.Native.Nat.{ℕ, zero, suc, _+_, _-_, _/_, _%_, _≤_, _<_}
 use native.Mathlib.Nat.{not-suc-le-zero}
+use native.Mathlib.Numerals.{add-one}
 use native.Mathlib.Omega.{arith}
-use mathlib.Core.Path.{_≡_}
-use mathlib.Core.Bool.{Bool, true, _&&_, and-assoc}
+use mathlib.Core.Path.{_≡_, refl, sym, ap, _∙_}
+use mathlib.Core.Bool.{Bool, true, false, not, _&&_, _||_, and-assoc, or-true, or-false}
 use mathlib.Core.List.{List}
-use lib.Dec.{eqb, ltb}
-use borrow.Author.Tests.{eqb-true, ltb-true}
+use lib.Dec.{eqb, ltb, leb}
+use lib.ListN.{length, drop, length-drop}
+use lib.Seq.{length-take-le}
+use borrow.Author.Tests.{eq-eqb, ne-eqb, eqb-true, ltb-true, lt-ltb, le-ltb, le-leb, leb-true, leb-false}
 use Rattle.le.specs.Bytes.{every, holdsText}
 use Rattle.le.specs.Field.{readLe, words, holds}
 use Rattle.le.proofs.Rows.{and-left, and-right}
 use Rattle.le.proofs.Runs.{words-step}
 use Rattle.tag.specs.Tag.{crcLength}
-use Rattle.vat.specs.Table.{sectorLength, limit, tableLength, regidAt, entryRows, plainRows, lengthRows, tableRows, embedded, tableName, attributeLength, entryCount, wholeLength, previousOf, unusedOrBelow, placed, framed}
+use Rattle.vat.specs.Table.{sectorLength, limit, unused, unusedOrBelow, Lower, tableStart, entryRows, plainRows, lengthRows, embedded, attributeLength, describedLength, wholeLength, placed, framed, tableOf, tableLength, regidAt, tableName, entryCount, previousOf, enclosed}
 
 -- one of the fields that are left is taken
 pub word-taken : (held : Bool) (f : ℕ → Bool) (left : ℕ) (s : List ℕ) (at : ℕ) → 0 < left
@@ -23,6 +26,27 @@ word-taken held f zero s at h = absurd (not-suc-le-zero h)
 word-taken held f (suc left) s at h =
     let e : suc left - 1 ≡ left = omega arith in
     rw (e, words-step left s at) (and-assoc held (f (readLe 4 s at)) (every f (words left s (at + 4))))
+
+-- the count up to a block tells whether a sector at block b may name it
+pub none-named : (b x : ℕ) → x ≡ unused → leb 0 b ≡ unusedOrBelow b x
+none-named b x e = le-leb 0 b (omega arith) ∙ sym (ap (λ (t : Bool). ltb x b || t) (eq-eqb x unused e) ∙ or-true (ltb x b))
+
+pub block-named : (b x : ℕ) → (x ≡ unused → ⊥) → leb (x + 1) b ≡ unusedOrBelow b x
+block-named b x n = rw (ne-eqb x unused n, or-false (ltb x b)) (ap (λ (y : ℕ). leb y b) (add-one x))
+
+-- one entry more, none so far beyond
+pub none-beyond : (broken : Bool) (b y : ℕ) → not (broken || ltb b y) ≡ (not broken && leb y b)
+none-beyond true b y = refl
+none-beyond false b y = go (leb y b) refl
+  where
+    go : (t : Bool) → leb y b ≡ t → not (ltb b y) ≡ leb y b
+    go true e = ap not (le-ltb b y (leb-true y b e)) ∙ sym e
+    go false e = ap not (lt-ltb b y (leb-false y b e)) ∙ sym e
+
+-- without its tag identifier a sector is framed as no table
+pub untagged-frame : (s : List ℕ) (b : ℕ) → eqb (readLe 2 s 0) 261 ≡ false → framed s b ≡ false
+unfolding framed holds plainRows
+untagged-frame s b e = rw e
 
 -- what the rows of the lengths say, one by one
 pub record Lengths (s : List ℕ) (a d i : ℕ) : Type 0 where
@@ -48,13 +72,13 @@ lengths s a d i e =
     }
 
 -- a file entry tells its block
-pub located : (s : List ℕ) (t b : ℕ) → holds s (entryRows t b) ≡ true → readLe 4 s 12 ≡ b
+pub located : (s : List ℕ) (version t b : ℕ) → holds s (entryRows version t b) ≡ true → readLe 4 s 12 ≡ b
 unfolding holds
-located s t b e =
+located s version t b e =
     let tail : Bool = eqb (readLe 2 s 20) 4 && (eqb (readLe 1 s 27) t && true) in
     let at : Bool = eqb (readLe 4 s 12) b in
     let three : Bool = eqb (readLe 1 s 5) 0 in
-    let two : Bool = eqb (readLe 2 s 2) 2 in
+    let two : Bool = eqb (readLe 2 s 2) version in
     eqb-true (readLe 4 s 12) b
     (and-left at tail (and-right three (at && tail) (and-right two (three && (at && tail)) (and-right (eqb (readLe 2 s 0) 261) (two && (three && (at && tail))) e))))
 
@@ -62,35 +86,84 @@ located s t b e =
 pub placed-below : (s : List ℕ) → placed s ≡ true → wholeLength s < sectorLength
 placed-below s e = ltb-true (wholeLength s) sectorLength (and-right (eqb (attributeLength s % 4) 0) (ltb (wholeLength s) sectorLength) e)
 
--- below one sector there is room for 458 entries at most
-pub few-entries : (s : List ℕ) → wholeLength s < sectorLength → entryCount s ≤ limit
-few-entries s h = omega arith
-
 -- what a framed sector tells, one by one
 pub record Framed (s : List ℕ) (b : ℕ) : Type 0 where
   pub plain : holds s (plainRows b) ≡ true
   pub aligned : attributeLength s % 4 ≡ 0
   pub below : wholeLength s < sectorLength
-  pub sized : Lengths s (attributeLength s) (tableLength (entryCount s)) (tableLength (entryCount s))
-  pub backward : unusedOrBelow b (previousOf s) ≡ true
+  pub sized : Lengths s (attributeLength s) (describedLength s) (describedLength s)
 
 pub framed-tells : (s : List ℕ) (b : ℕ) → framed s b ≡ true → Framed s b
 unfolding framed
 framed-tells s b e =
     let a : ℕ = attributeLength s in
-    let n : ℕ = entryCount s in
+    let n : ℕ = describedLength s in
     let plain : Bool = holds s (plainRows b) in
-    let sizes : Bool = holds s (tableRows a n) in
-    let named : Bool = holdsText s (regidAt a n + 1) tableName in
-    let back : Bool = unusedOrBelow b (previousOf s) in
-    let e₁ : (embedded s && (placed s && (sizes && (named && back)))) ≡ true = and-right plain (embedded s && (placed s && (sizes && (named && back)))) e in
-    let e₂ : (placed s && (sizes && (named && back))) ≡ true = and-right (embedded s) (placed s && (sizes && (named && back))) e₁ in
-    let e₃ : (sizes && (named && back)) ≡ true = and-right (placed s) (sizes && (named && back)) e₂ in
-    let put : placed s ≡ true = and-left (placed s) (sizes && (named && back)) e₂ in
+    let sizes : Bool = holds s (lengthRows a n n) in
+    let e₁ : (embedded s && (placed s && sizes)) ≡ true = and-right plain (embedded s && (placed s && sizes)) e in
+    let e₂ : (placed s && sizes) ≡ true = and-right (embedded s) (placed s && sizes) e₁ in
+    let put : placed s ≡ true = and-left (placed s) sizes e₂ in
     record {
-      plain = and-left plain (embedded s && (placed s && (sizes && (named && back)))) e;
+      plain = and-left plain (embedded s && (placed s && sizes)) e;
       aligned = eqb-true (a % 4) 0 (and-left (eqb (a % 4) 0) (ltb (wholeLength s) sectorLength) put);
       below = placed-below s put;
-      sized = lengths s a (tableLength n) (tableLength n) (and-left sizes (named && back) e₃);
-      backward = and-right named back (and-right sizes (named && back) e₃);
+      sized = lengths s a n n (and-right (placed s) sizes e₂);
     }
+
+-- ---- the table's bytes
+
+-- there are as many as the sector tells, and so room for 458 entries at most
+module _ (lower : Lower) (s : List ℕ) (whole : length s ≡ sectorLength) (below : wholeLength s < sectorLength) where
+  pub table-long : length (tableOf lower s) ≡ describedLength s
+  unfolding tableOf
+  table-long =
+      length-take-le (describedLength s) (drop (tableStart (attributeLength s)) s) (rw (length-drop (tableStart (attributeLength s)) s) (omega arith))
+
+  pub table-short : length (tableOf lower s) < sectorLength
+  table-short = omega (arith, table-long)
+
+  pub few-entries : entryCount (tableOf lower s) ≤ limit
+  unfolding entryCount
+  few-entries = omega (arith, table-long)
+
+-- the entries lie within them, and of 36 bytes or more the end too
+pub entries-within : (t : List ℕ) → regidAt (entryCount t) ≤ length t
+unfolding entryCount
+entries-within t = omega arith
+
+pub ends-within : (t : List ℕ) → 36 ≤ length t → regidAt (entryCount t) + 36 ≤ length t
+unfolding entryCount
+ends-within t h = omega arith
+
+-- what an enclosed table tells
+pub record Enclosed (t : List ℕ) (b : ℕ) : Type 0 where
+  pub long : length t ≡ tableLength (entryCount t)
+  pub backward : unusedOrBelow b (previousOf t) ≡ true
+
+pub enclosed-tells : (t : List ℕ) (b : ℕ) → enclosed t b ≡ true → Enclosed t b
+unfolding enclosed
+enclosed-tells t b e =
+    let n : ℕ = entryCount t in
+    let long : Bool = eqb (length t) (tableLength n) in
+    let named : Bool = holdsText t (regidAt n + 1) tableName in
+    let back : Bool = unusedOrBelow b (previousOf t) in
+    record {
+      long = eqb-true (length t) (tableLength n) (and-left long (named && back) e);
+      backward = and-right named back (and-right long (named && back) e);
+    }
+
+-- whether a table is enclosed, test by test, with the entry count that its length tells
+module _ (t : List ℕ) (b n : ℕ) (count : n ≡ (length t - 36) / 4) where
+  pub counted : entryCount t ≡ n
+  unfolding entryCount
+  counted = sym count
+
+  pub wrong-length : (length t ≡ tableLength n → ⊥) → enclosed t b ≡ false
+  unfolding enclosed
+  wrong-length other =
+      let rest : Bool = holdsText t (regidAt (entryCount t) + 1) tableName && unusedOrBelow b (previousOf t) in
+      ap (λ (p : Bool). p && rest) (ne-eqb (length t) (tableLength (entryCount t)) (λ e. other (e ∙ ap tableLength counted)))
+
+  pub right-length : length t ≡ tableLength n → enclosed t b ≡ (holdsText t (regidAt n + 1) tableName && unusedOrBelow b (readLe 4 t (regidAt n + 32)))
+  unfolding enclosed previousOf
+  right-length whole = rw (counted, eq-eqb (length t) (tableLength n) whole)

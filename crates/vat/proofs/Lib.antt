@@ -1,3 +1,5 @@
 pub mod Frame
 pub mod Record
 pub mod Theorems
+pub mod Joined
+pub mod Made

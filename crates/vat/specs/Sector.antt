@@ -6,7 +6,7 @@ use lib.Seq.{sets}
 use Rattle.le.specs.Field.{Row, row, le, leWords, lay}
 use Rattle.tag.specs.Tag.{seal}
 use Rattle.timestamp.specs.Timestamp.{stampLength}
-use Rattle.vat.specs.Table.{sectorLength, unused, tableStart, plainRows, tableRows, tableName, modifiedAt}
+use Rattle.vat.specs.Table.{sectorLength, unused, tableStart, plainRows, lengthRows, tableName, modifiedAt}
 
 -- "table regid flags 0, suffix hex 50 01 and six zeros".
 unfoldable pub tableRegid : List ℕ
@@ -47,9 +47,10 @@ abbrev pub noStamp : List ℕ
 noStamp = replicate stampLength 0
 
 -- The table, the name and the times over zeros: "Everything else is zero, up to byte 2047."
-unfoldable pub body : List ℕ → ℕ → List ℕ → List ℕ
-body map previous stamp = timed stamp (sets (sets (replicate sectorLength 0) (tableStart 0) (tableBytes map previous)) stationAt stationName)
+unfoldable pub body : List ℕ → List ℕ → List ℕ
+body table stamp = timed stamp (sets (sets (replicate sectorLength 0) (tableStart 0) table) stationAt stationName)
 
--- The sector for a map, a previous table, a timestamp and the block b that it is recorded at. "Our commit [..] records none" of the attributes.
-unfoldable pub sector : List ℕ → ℕ → List ℕ → ℕ → List ℕ
-sector map previous stamp b = seal (lay (body map previous stamp) (plainRows b ++ (tableRows 0 (length map) ++ ownRows 3)))
+-- The sector for a table's bytes, a timestamp and the block b that it is recorded at: "descriptor length = table length", "information length = table
+-- length". "Our commit [..] records none" of the attributes.
+unfoldable pub sector : List ℕ → List ℕ → ℕ → List ℕ
+sector table stamp b = seal (lay (body table stamp) (plainRows b ++ (lengthRows 0 (length table) (length table) ++ ownRows 3)))

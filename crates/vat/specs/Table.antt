@@ -1,8 +1,9 @@
--- A table sector (ECMA-167 4/14.9, UDF 1.50 2.2.10; document 01, 'The table sector at block b', and document 02 for attributes and times): the ICB of
--- the virtual allocation table, with the table embedded behind extended attributes. What such a sector holds, and which sectors are such.
+-- A table of the virtual allocation table (ECMA-167 4/14.9, UDF 1.50 2.2.10; document 01, 'The table sector at block b', and document 02 for attributes
+-- and times), in three steps: its ICB, the table's bytes, which stand behind the ICB's extended attributes, and what these bytes hold.
 use Prim.Native.Nat.{ℕ, _+_, _-_, _*_, _/_, _%_}
 use mathlib.Core.Bool.{Bool, _&&_, _||_}
 use mathlib.Core.List.{List, [], _∷_, _++_}
+use mathlib.Core.Option.{Option}
 use lib.Dec.{eqb, ltb}
 use lib.ListN.{length, take, drop}
 use Rattle.le.specs.Bytes.{every, holdsText}
@@ -22,22 +23,30 @@ limit = 458
 abbrev pub unused : ℕ
 unused = 0xFFFFFFFF
 
+-- A block that a sector at block b may name: it is "FFFFFFFF or less than b".
+abbrev pub unusedOrBelow : ℕ → ℕ → Bool
+unusedOrBelow b x = ltb x b || eqb x unused
+
+-- What can be read below a block, by its number: the bytes of a sector. A table that its ICB holds asks nothing of it.
+abbrev pub Lower : Type 0
+Lower = ℕ → Option (List ℕ)
+
+-- ---- the ICB
+
 -- "The table [..] starts at 176 + attribute length"; between them the attributes, of which nothing is asked.
 abbrev pub tableStart : ℕ → ℕ
 tableStart a = 176 + a
 
--- "Table: entries of 32 bits, a 32-byte regid, the previous table's block (32 bits)." "The table length is 4 × N + 36 exactly."
-abbrev pub tableLength : ℕ → ℕ
-tableLength n = 4 * n + 36
+-- "descriptor version 2", of every tag that is recorded, and of a file entry that is recognised.
+abbrev pub tagVersion : ℕ
+tagVersion = 2
 
-abbrev pub regidAt : ℕ → ℕ → ℕ
-regidAt a n = tableStart a + 4 * n
-
--- Rows that every file entry has: its file type t and its block b settle them. "Its tag, sums and location hold as a table sector's do" (document 02, R-6).
-abbrev pub entryRows : ℕ → ℕ → List Row
-entryRows t b =
+-- Rows that every file entry has: its version, its file type t and its block b settle them. "Its tag, sums and location hold as a table sector's do"
+-- (document 02, R-6).
+abbrev pub entryRows : ℕ → ℕ → ℕ → List Row
+entryRows version t b =
     row 0 2 261  -- tag identifier
-    ∷ row 2 2 2  -- descriptor version
+    ∷ row 2 2 version  -- descriptor version
     ∷ row 5 1 0  -- zero
     ∷ row 12 4 b  -- tag location
     ∷ row 20 2 4  -- strategy
@@ -46,7 +55,7 @@ entryRows t b =
 
 -- Rows whose number the format or the block b settles.
 unfoldable pub plainRows : ℕ → List Row
-plainRows b = entryRows 0 b ++ (row 48 2 0 ∷ [])  -- link count
+plainRows b = entryRows tagVersion 0 b ++ (row 48 2 0 ∷ [])  -- link count
 
 -- The lengths of a file entry: of its attributes, of its descriptors and of what it holds.
 unfoldable pub lengthRows : ℕ → ℕ → ℕ → List Row
@@ -64,33 +73,26 @@ allocationType s = readLe 2 s 34 % 8
 abbrev pub embedded : List ℕ → Bool
 embedded s = eqb (allocationType s) 3
 
--- Of n entries: "descriptor length = table length", "information length = table length".
-abbrev pub tableRows : ℕ → ℕ → List Row
-tableRows a n = lengthRows a (tableLength n) (tableLength n)
-
--- "Regid bytes 1 to 23 hold the text `*UDF Virtual Alloc Tbl` and one zero."
-unfoldable pub tableName : List ℕ
-tableName =
-    42 ∷ 85 ∷ 68 ∷ 70 ∷ 32 ∷ 86 ∷ 105 ∷ 114 ∷ 116 ∷ 117 ∷ 97 ∷ 108 ∷ 32 ∷ 65 ∷ 108 ∷ 108 ∷ 111 ∷ 99 ∷ 32 ∷ 84 ∷ 98 ∷ 108 ∷ 0 ∷ []
-
--- The attribute length, at byte 168.
+-- The attribute length, at byte 168, and the descriptor length, at byte 172: of what stands behind the attributes.
 unfoldable pub attributeLength : List ℕ → ℕ
 attributeLength s = readLe 4 s 168
 
--- "Entry count N = (length − 36) / 4", of the descriptor length at byte 172.
-unfoldable pub entryCount : List ℕ → ℕ
-entryCount s = (readLe 4 s 172 - 36) / 4
+unfoldable pub describedLength : List ℕ → ℕ
+describedLength s = readLe 4 s 172
 
 -- "ICB and file together", with the attributes between them, of the lengths that the sector tells.
 abbrev pub wholeLength : List ℕ → ℕ
-wholeLength s = tableStart (attributeLength s) + tableLength (entryCount s)
+wholeLength s = tableStart (attributeLength s) + describedLength s
 
--- The table's entries, and the previous table's block.
-unfoldable pub entriesOf : List ℕ → List ℕ
-entriesOf s = words (entryCount s) s (tableStart (attributeLength s))
+-- The attribute length is "a multiple of 4", "and the whole must stay below one sector".
+abbrev pub placed : List ℕ → Bool
+placed s = eqb (attributeLength s % 4) 0 && ltb (wholeLength s) sectorLength
 
-unfoldable pub previousOf : List ℕ → ℕ
-previousOf s = readLe 4 s (regidAt (attributeLength s) (entryCount s) + 32)
+-- The ICB of a table, but for the sums: "descriptor length = table length", "information length = table length".
+unfoldable pub framed : List ℕ → ℕ → Bool
+framed s b =
+    let n : ℕ = describedLength s in
+    holds s (plainRows b) && (embedded s && (placed s && holds s (lengthRows (attributeLength s) n n)))
 
 -- The modification time, at byte 84: a timestamp, of which the recognition asks nothing.
 abbrev pub modifiedAt : ℕ
@@ -99,24 +101,50 @@ modifiedAt = 84
 unfoldable pub modifiedOf : List ℕ → List ℕ
 modifiedOf s = take stampLength (drop modifiedAt s)
 
--- A block that a sector at block b may name: it is "FFFFFFFF or less than b".
-abbrev pub unusedOrBelow : ℕ → ℕ → Bool
-unusedOrBelow b x = ltb x b || eqb x unused
+-- ---- the table's bytes
 
--- The attribute length is "a multiple of 4", "and the whole must stay below one sector".
-abbrev pub placed : List ℕ → Bool
-placed s = eqb (attributeLength s % 4) 0 && ltb (wholeLength s) sectorLength
+-- Those behind the attributes, as many as the ICB tells.
+unfoldable pub tableOf : Lower → List ℕ → List ℕ
+tableOf lower s = take (describedLength s) (drop (tableStart (attributeLength s)) s)
 
--- All but the entries and the two sums.
-unfoldable pub framed : List ℕ → ℕ → Bool
-framed s b =
-    let a : ℕ = attributeLength s in
-    let n : ℕ = entryCount s in
-    holds s (plainRows b)
-    && (embedded s && (placed s && (holds s (tableRows a n) && (holdsText s (regidAt a n + 1) tableName && unusedOrBelow b (previousOf s)))))
+-- ---- what they hold
 
--- The sector s of the kind given is a table sector at block b. The costly CRC comes last.
-unfoldable pub isTable : ℕ → List ℕ → ℕ → Bool
-isTable kind s b =
-    eqb kind 1
-    && (eqb (length s) sectorLength && (framed s b && (every (unusedOrBelow b) (entriesOf s) && sealed s)))
+-- "Table: entries of 32 bits, a 32-byte regid, the previous table's block (32 bits)." "The table length is 4 × N + 36 exactly."
+abbrev pub tableLength : ℕ → ℕ
+tableLength n = 4 * n + 36
+
+-- Where the regid of a table of n entries stands.
+abbrev pub regidAt : ℕ → ℕ
+regidAt n = 4 * n
+
+-- "Regid bytes 1 to 23 hold the text `*UDF Virtual Alloc Tbl` and one zero."
+unfoldable pub tableName : List ℕ
+tableName =
+    42 ∷ 85 ∷ 68 ∷ 70 ∷ 32 ∷ 86 ∷ 105 ∷ 114 ∷ 116 ∷ 117 ∷ 97 ∷ 108 ∷ 32 ∷ 65 ∷ 108 ∷ 108 ∷ 111 ∷ 99 ∷ 32 ∷ 84 ∷ 98 ∷ 108 ∷ 0 ∷ []
+
+-- "Entry count N = (length − 36) / 4".
+unfoldable pub entryCount : List ℕ → ℕ
+entryCount t = (length t - 36) / 4
+
+-- The table's entries, and the previous table's block.
+unfoldable pub entriesOf : List ℕ → List ℕ
+entriesOf t = words (entryCount t) t 0
+
+unfoldable pub previousOf : List ℕ → ℕ
+previousOf t = readLe 4 t (regidAt (entryCount t) + 32)
+
+-- All but the entries: the table's length, its regid, and its previous table.
+unfoldable pub enclosed : List ℕ → ℕ → Bool
+enclosed t b =
+    let n : ℕ = entryCount t in
+    eqb (length t) (tableLength n) && (holdsText t (regidAt n + 1) tableName && unusedOrBelow b (previousOf t))
+
+-- "Each entry and the previous block is FFFFFFFF or less than b."
+unfoldable pub listed : List ℕ → ℕ → Bool
+listed t b = enclosed t b && every (unusedOrBelow b) (entriesOf t)
+
+-- ---- a table
+
+-- The sector s at block b is a table's, where this can be read below it. The costly CRC comes last.
+unfoldable pub isTable : Lower → List ℕ → ℕ → Bool
+isTable lower s b = eqb (length s) sectorLength && (framed s b && (listed (tableOf lower s) b && sealed s))

@@ -1,12 +1,13 @@
 // Runs the CRC, the table sector, timestamps, a closing's pointer and the entry of a run on outside vectors, and prints what it finds. What must come stands in
 // the file `stdout`; an independent program, tests/vectors.py, makes it.
 use extent::Extent;
+use vat::table::TAG_VERSION;
 use vat::table::UNUSED;
 use vat::table::entry_count;
 use vat::table::is_table;
 use vat::table::placed;
 use vat::table::previous;
-use vat::table::table_start;
+use vat::table::table;
 ghost use Prim.Native.Nat.{_≤_};
 ghost use mathlib.Core.Path.{_≡_};
 ghost use lib.ListN.{length};
@@ -60,14 +61,14 @@ fn show_test(kind: u8, s: &[u8], b: u32) {
     io::print_decimal(STDOUT, kind as u64);
     say(b" at ");
     io::print_decimal(STDOUT, b as u64);
-    if is_table(kind, s, b) {
+    if (kind == 1) & is_table(s, b) {
         say(b": table\n");
     } else {
         say(b": none\n");
     }
 }
 
-// What a sector of 2048 bytes holds: its count, its entries and its previous table.
+// The table of a sector of 2048 bytes.
 fn show_map(s: &[u8]) {
     if s.len() != 2048 {
         return;
@@ -75,18 +76,28 @@ fn show_map(s: &[u8]) {
     if !placed(s) {
         return;
     }
-    let n = entry_count(s);
-    let first = table_start(s);
+    show_table(table(s));
+}
+
+// What a table's bytes hold: their count, their entries and their previous table.
+fn show_table(t: &[u8]) {
+    if t.len() < 36 {
+        return;
+    }
+    if t.len() >= 2048 {
+        return;
+    }
+    let n = entry_count(t);
     say(b"count ");
     io::print_decimal(STDOUT, n as u64);
     let mut i = 0;
     while i < n {
         say(b" ");
-        io::print_hex(STDOUT, le::read32(s, first + 4 * (i as usize)) as u64, 8);
+        io::print_hex(STDOUT, le::read32(t, 4 * (i as usize)) as u64, 8);
         i += 1;
     }
     say(b" previous ");
-    io::print_hex(STDOUT, previous(s) as u64, 8);
+    io::print_hex(STDOUT, previous(t) as u64, 8);
     say(b"\n");
 }
 
@@ -323,7 +334,7 @@ fn pointer() {
         location: 240,
     };
     ramp(&mut sector);
-    anchor::record(&mut sector, main, reserve, 401491);
+    anchor::record(&mut sector, TAG_VERSION, main, reserve, 401491);
     show_rows(&sector);
     show_tag(&sector, 1491);
     show_tag(&sector, 1490);

@@ -91,18 +91,19 @@ set-seam [] ys y z (suc i) h = absurd (let e : _≡_ {A = ℕ} 0 1 = cc in omega
 set-seam (x ∷ xs) ys y z zero h = absurd (let e : _≡_ {A = ℕ} 0 1 = cc in omega arith)
 set-seam (x ∷ xs) ys y z (suc i) h = ap {B = List ℕ} (λ l. x ∷ l) (set-seam xs ys y z i (let e : suc (length xs) ≡ suc i = h in omega arith))
 
-pub fill-turn : (s : List ℕ) (at n i : ℕ) → i < n
-    → set (words i s at ++ replicate (n - i) unused) i (readLe 4 s (at + 4 * i)) ≡ words (i + 1) s at ++ replicate (n - (i + 1)) unused
-fill-turn s at n i h =
+pub fill-turn : (t : List ℕ) (n i : ℕ) → i < n → set (words i t 0 ++ replicate (n - i) unused) i (readLe 4 t (4 * i)) ≡ words (i + 1) t 0 ++ replicate (n - (i + 1)) unused
+fill-turn t n i h =
     let left : n - i ≡ suc (n - (i + 1)) = omega arith in
-    let x : ℕ = readLe 4 s (at + 4 * i) in
+    let at : 0 + 4 * i ≡ 4 * i = omega arith in
+    let x : ℕ = readLe 4 t (4 * i) in
     let rest : List ℕ = replicate (n - (i + 1)) unused in
-    ap (λ (k : ℕ). set (words i s at ++ replicate k unused) i x) left
-    ∙ set-seam (words i s at) rest unused x i (length-words i s at)
-    ∙ ap (λ (l : List ℕ). l ++ rest) (sym (ap (λ (k : ℕ). words k s at) (add-one i) ∙ words-snoc i s at))
+    ap (λ (k : ℕ). set (words i t 0 ++ replicate k unused) i x) left
+    ∙ set-seam (words i t 0) rest unused x i (length-words i t 0)
+    ∙ ap (λ (l : List ℕ). l ++ rest)
+    (sym (ap (λ (k : ℕ). words k t 0) (add-one i) ∙ words-snoc i t 0 ∙ ap (λ (p : ℕ). words i t 0 ++ (readLe 4 t p ∷ [])) at))
 
-pub filled-words : (s : List ℕ) (at n b r mode : ℕ)
-    → filled (words n s at) b r mode ≡ record { entries = words n s at ++ replicate (limit - n) unused; size = n; recorded = r; last = b; mode = mode }
+pub filled-words : (t : List ℕ) (n b r mode : ℕ)
+    → filled (words n t 0) b r mode ≡ record { entries = words n t 0 ++ replicate (limit - n) unused; size = n; recorded = r; last = b; mode = mode }
 unfolding filled
-filled-words s at n b r mode =
-    ap {B = Volume} (λ k. record { entries = words n s at ++ replicate (limit - k) unused; size = k; recorded = r; last = b; mode = mode }) (length-words n s at)
+filled-words t n b r mode =
+    ap {B = Volume} (λ k. record { entries = words n t 0 ++ replicate (limit - k) unused; size = k; recorded = r; last = b; mode = mode }) (length-words n t 0)

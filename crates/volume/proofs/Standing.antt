@@ -4,10 +4,10 @@ use Prim.Native.Nat.{ℕ, zero, suc, _+_, _*_, _≤_, _<_}
 use native.Mathlib.Nat.{not-suc-le-zero, zero-add}
 use native.Mathlib.Omega.{arith}
 use mathlib.Core.Path.{_≡_, refl, sym, ap, ap₂, _∙_}
-use mathlib.Core.List.{List, [], _∷_, _++_}
+use mathlib.Core.List.{List, _∷_, _++_}
 use mathlib.Core.Logic.{inl}
 use mathlib.Core.Option.{none, some}
-use lib.ListN.{length, take, drop, set, getD, take-append-drop}
+use lib.ListN.{length, take, drop, set, take-append-drop}
 use lib.Seq.{sets, sets-eq, length-take-le}
 use Rattle.le.specs.Field.{le, putLe, leadingWords, words, leWords}
 use Rattle.le.proofs.Bytes.{drop-sets-after}
@@ -17,10 +17,6 @@ use Rattle.vat.specs.Table.{limit, unused}
 use Rattle.volume.specs.declared.Volume.{Volume}
 use Rattle.volume.specs.Volume.{entriesLength, ledgerLength, unpack, pack, wrote, released, closed, committed}
 use Rattle.volume.proofs.State.{long-unpack, pack-put}
-
-pub all-bytes : (s : List ℕ) → ((i : ℕ) → getD s i 0 < 256) → AllBytes s
-all-bytes [] h = tt
-all-bytes (x ∷ xs) h = (h 0, all-bytes xs (λ i. h (suc i)))
 
 -- the first bytes stored over themselves
 same-stored : (k : ℕ) (l : List ℕ) → k ≤ length l → sets l 0 (take k l) ≡ l

@@ -8,15 +8,15 @@ use mathlib.Core.Bool.{Bool, true, false}
 use mathlib.Core.Option.{Option, none, some}
 use mathlib.Core.List.{List, [], _∷_, _++_, append-nil}
 use lib.Dec.{eqb, lit<}
-use lib.ListN.{length, getD, take, drop, set, replicate, length-set, length-append, length-replicate, length-drop, take-append-drop, drop-of-length-le}
-use lib.Seq.{sets, sets-eq, drop-drop, take-at, take-all, take-set-lt, take-suc-set, length-take-le}
+use lib.ListN.{length, getD, take, drop, set, replicate, length-set, length-append, length-replicate, length-drop, take-append-drop}
+use lib.Seq.{sets, drop-drop, take-at, take-all, take-set-lt, take-suc-set, length-take-le}
 use lib.Arith.{lt-of-le-ne}
 use native.Mathlib.Numerals.{add-one}
 use borrow.Author.Tests.{eqb-true, eqb-false}
 use Rattle.le.specs.Field.{le, readLe, words, leWords}
 use Rattle.le.proofs.Bytes.{sets-append}
 use Rattle.le.proofs.Fields.{length-le, read-le}
-use Rattle.le.proofs.Runs.{Words, words-read, length-words, length-leWords, words-none, words-step, drop-on, AllBytes, byte-at, le-read, leWords-words}
+use Rattle.le.proofs.Runs.{sets-all, Words, words-read, length-words, length-leWords, words-none, words-step, drop-on, AllBytes, byte-at, le-read, leWords-words}
 use Rattle.vat.specs.Table.{limit, unused}
 use Rattle.volume.specs.declared.Volume.{Volume}
 use Rattle.volume.specs.Volume.{entriesLength, ledgerLength, unpack, pack, mapOf, begun, filled, grown, wrote, released, closed, committed}
@@ -289,12 +289,6 @@ words-snoc (suc n) s at =
     ∙ ap (λ (l : List ℕ). l ++ (readLe 4 s (at + 4 * suc n) ∷ [])) (sym (words-step n s at))
 
 -- ---- the state, put part by part
-
--- a whole buffer that is overwritten
-pub sets-all : (vs l : List ℕ) → length vs ≡ length l → sets l 0 vs ≡ vs
-sets-all vs l h =
-    let all : length l ≤ 0 + length vs = omega arith in
-    sets-eq vs l 0 (omega arith) ∙ ap (λ (r : List ℕ). vs ++ r) (drop-of-length-le l all) ∙ append-nil vs
 
 pub pack-put : (v : Volume) (l : List ℕ) → length (v .entries) ≡ limit → length l ≡ ledgerLength
     → sets (sets (sets (sets (sets l 0 (leWords (v .entries))) entriesLength (le 4 (v .size))) (entriesLength + 4) (le 4 (v .recorded))) (entriesLength + 8) (le 4 (v .last))) (entriesLength + 12) (le 4 (v .mode))

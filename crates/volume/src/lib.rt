@@ -9,7 +9,7 @@ ghost use Prim.Native.Nat.{_+_, _-_, _*_, _≤_, _<_};
 ghost use lib.ListN.{length, set, replicate};
 ghost use lib.Seq.{sets};
 ghost use Rattle.le.specs.Field.{le, words};
-ghost use Rattle.vat.specs.Table.{sectorLength, limit, unused, wholeLength, entriesOf};
+ghost use Rattle.vat.specs.Table.{sectorLength, limit, unused, entryCount, entriesOf};
 ghost use Rattle.volume.specs.Volume.{entriesLength, ledgerLength, unpack, pack, begun, filled, wrote, released, closed, committed};
 
 // "458 map entries, then size, recorded, last table, mode, each 32 bits."
@@ -38,16 +38,16 @@ fn load_entries(l: &[u8]) -> [u32; 458]
     entries
 }
 
-// The n entries that stand in a sector from place `at` on, then unused ones.
-fn fill_entries(s: &[u8], at: usize, n: u32) -> [u32; 458]
-    requires { ⌜ (at + 4 * n ≤ length (now s)) × (n ≤ limit) ⌝ }
-    ensures { λ r. ⌜ r ≡ words n (now (s .entry)) at ++ replicate (limit - n) unused ⌝ }
+// The first n entries of a table, then unused ones.
+fn fill_entries(t: &[u8], n: u32) -> [u32; 458]
+    requires { ⌜ (4 * n ≤ length (now t)) × (n ≤ limit) ⌝ }
+    ensures { λ r. ⌜ r ≡ words n (now (t .entry)) 0 ++ replicate (limit - n) unused ⌝ }
 {
     let mut entries = [UNUSED; 458];
     let count = n as usize;
     let mut i: usize = 0;
     while i < count {
-        entries[i] = le::read32(s, at + 4 * i);
+        entries[i] = le::read32(t, 4 * i);
         i += 1;
     }
     entries
@@ -116,14 +116,14 @@ impl Volume {
         }
     }
 
-    // The state that shows the table sector s, which is at block b.
-    pub fn filled(s: &[u8], b: u32, recorded: u32, mode: u32) -> Volume
-        requires { ⌜ (length (now s) ≡ sectorLength) × (wholeLength (now s) < sectorLength) ⌝ }
-        ensures { λ r. ⌜ r ≡ filled (entriesOf (now (s .entry))) b recorded mode ⌝ }
+    // The state that shows the table of the bytes t, which is at block b.
+    pub fn filled(t: &[u8], b: u32, recorded: u32, mode: u32) -> Volume
+        requires { ⌜ (length (now t) < sectorLength) × (entryCount (now t) ≤ limit) ⌝ }
+        ensures { λ r. ⌜ r ≡ filled (entriesOf (now (t .entry))) b recorded mode ⌝ }
     {
-        let n = vat::table::entry_count(s);
+        let n = vat::table::entry_count(t);
         Volume {
-            entries: fill_entries(s, vat::table::table_start(s), n),
+            entries: fill_entries(t, n),
             size: n,
             recorded: recorded,
             last: b,

@@ -22,11 +22,11 @@ abbrev start-of : tie.After-put-rows → tie.Start
 start-of c = after-clear c .before .before .before
 
 -- what is sealed
-laid : (c : tie.After-put-rows) → let a = start-of c .args in c .put-rows .last .0 ≡ lay (replicate sectorLength 0) (anchorRows (a .main) (a .reserve) (a .location))
+laid : (c : tie.After-put-rows) → let a = start-of c .args in c .put-rows .last .0 ≡ lay (replicate sectorLength 0) (anchorRows (a .version) (a .main) (a .reserve) (a .location))
 laid c =
     let a = start-of c .args in
     c .put-rows .ensures
-    ∙ ap (λ (l : List ℕ). lay l (anchorRows (a .main) (a .reserve) (a .location))) (after-clear c .clear .ensures ∙ ap (λ (n : ℕ). replicate n 0) (start-of c .pre))
+    ∙ ap (λ (l : List ℕ). lay l (anchorRows (a .version) (a .main) (a .reserve) (a .location))) (after-clear c .clear .ensures ∙ ap (λ (n : ℕ). replicate n 0) (start-of c .pre))
 
 clear-requires : tie.Need-clear-requires
 clear-requires c κs = search needs
@@ -37,7 +37,7 @@ put-rows-requires c κs = search needs
 seal-requires : tie.Need-seal-requires
 seal-requires c κs =
     let p = c .before .before .before in let a = start-of p .args in
-    rw (laid p) (omega (arith, crc-length (a .main) (a .reserve) (a .location), length-laid (a .main) (a .reserve) (a .location)))
+    rw (laid p) (omega (arith, crc-length (a .version) (a .main) (a .reserve) (a .location), length-laid (a .version) (a .main) (a .reserve) (a .location)))
 
 same-length : tie.Need-same-length
 same-length c = search needs

@@ -1,19 +1,22 @@
 -- `keeper::commit` meets its contract.
 -- Assumes nothing.
-use Prim.Native.Nat.{ℕ, _-_, _≤_}
+use Prim.Native.Nat.{ℕ, _-_, _+_, _<_}
+use native.Mathlib.Omega.{arith}
 use mathlib.Core.Path.{_≡_, refl, sym, ap, _∙_}
 use mathlib.Core.Bool.{true}
 use mathlib.Core.List.{List, []}
 use mathlib.Core.Option.{none}
-use Rattle.disc.specs.Disc.{Disc, lent, recorded}
+use lib.ListN.{length}
+use Rattle.vat.specs.Sector.{noStamp}
+use Rattle.disc.specs.Disc.{Disc, lent, Sector}
 use Rattle.volume.specs.Volume.{unpack}
 use Rattle.recorder.specs.Calls.{Call, commit}
 use Rattle.recorder.specs.Refusals.{first, links, outcome}
-use Rattle.recorder.proofs.Done.{ledger-accepted}
+use Rattle.recorder.proofs.Done.{ledger-accepted, saveOf}
 use Rattle.roles.specs.Roles.{tableRole}
 use Rattle.roles.specs.Keeping.{rolesTests, leftRoles}
 use Rattle.keeper.proofs.Kept.{is-done, turned-away, refused, kept}
-use Rattle.keeper.proofs.Calls.{Placed, commit-placed, block-start, markable, marked-there, commit-kept}
+use Rattle.keeper.proofs.Calls.{Placed, commit-placed, runs, low, markable, marked-there, commit-kept}
 use borrow.Author.Needs.{needs}
 use Rattle.keeper.proofs.commit.Statement.{statement}
 use Rattle.keeper.proofs.commit.Tie as tie
@@ -23,7 +26,7 @@ abbrev entered : tie.After-lengths → tie.Start
 entered c = c .before .before .before .before .before .before .before .before
 
 abbrev judged : tie.After-commit → tie.Else1
-judged c = c .before .before .before .before .before .before
+judged c = c .before .before .before .before .before .before .before .before
 
 abbrev start-of : tie.After-commit → tie.Start
 start-of c = entered (judged c .before)
@@ -33,6 +36,9 @@ called c = c .before .before .before .before .before .before .before
 
 abbrev linked : tie.After-commit → tie.After-links-ahead
 linked c = c .before .before .before .before
+
+abbrev counted : tie.After-commit → tie.After-recorded-ahead
+counted c = linked c .before .before
 
 -- the disc, the roles and the ledger
 abbrev D : tie.Start → Disc
@@ -53,15 +59,33 @@ lengths-right c = let e = judged c in sym (e .before .lengths .ensures) ∙ e .i
 done : (c : tie.Else2) → let s = start-of (called c) in outcome (D s) (L s) (call s) ≡ 0
 done c = let j = called c in let s = start-of j in is-done (D s) (L s) (call s) (j .commit .ensures) (c .if2 .left)
 
--- what it recorded: the last block, the links before it, the first of them
+-- what was counted before it, and what it recorded
+own : (c : tie.Else2) → let j = called c in let s = start-of j in counted j .recorded-ahead .result ≡ unpack (L s) .recorded
+own c = let j = called c in let s = start-of j in counted j .recorded-ahead .ensures (ledger-accepted (D s) (L s) (call s) (done c))
+
 links-are : (c : tie.Else2) → let j = called c in let s = start-of j in linked j .links-ahead .result ≡ links (unpack (L s))
 links-are c = let j = called c in let s = start-of j in linked j .links-ahead .ensures (ledger-accepted (D s) (L s) (call s) (done c))
 
-placed-at : (c : tie.Else2) → let j = called c in let s = start-of j in Placed (D s) (L s) 0 (j .commit .result)
+-- its save
+abbrev save : tie.Start → List Sector
+save s = saveOf (D s) (L s) [] noStamp
+
+placed-at : (c : tie.Else2) → let j = called c in let s = start-of j in Placed (D s) (L s) 0 (length (save s)) (j .commit .result)
 placed-at c = let j = called c in let s = start-of j in commit-placed (D s) (L s) none (done c) (j .commit .ensures)
 
-start-at : (c : tie.Else2) → let j = called c in let s = start-of j in let a = j .commit .result in let n = linked j .links-ahead .result in (n ≤ a) × (a - n ≡ recorded (D s))
-start-at c = let s = start-of (called c) in block-start (D s) (L s) (placed-at c) (links-are c)
+-- what comes before it
+abbrev ahead : tie.After-commit → ℕ
+ahead j = counted j .recorded-ahead .result + linked j .links-ahead .result
+
+runs-are : (c : tie.Else2) → let j = called c in let s = start-of j in j .commit .result + 1 ≡ ahead j + length (save s)
+runs-are c = let s = start-of (called c) in omega (arith, runs (D s) (R s) (L s) (placed-at c) (own c) (links-are c))
+
+few-enough : (c : tie.Else2) → called c .commit .result < 360000
+few-enough c = let s = start-of (called c) in low (D s) (R s) (L s) (placed-at c) (own c) (links-are c)
+
+-- how many came last
+count-is : (c : tie.Else2) → let j = called c in j .commit .result + 1 - ahead j ≡ length (save (start-of j))
+count-is c = omega (arith, runs-are c)
 
 lengths-requires : tie.Need-lengths-requires
 lengths-requires c κs = search needs
@@ -83,6 +107,9 @@ returns c =
     let j = c .before .before in let s = entered j in
     ap (λ (a : ℕ). leftRoles a (D s .image) (D s .kinds) (R s) (L s) []) (c .refusal .ensures)
     ∙ turned-away (D s) (R s) (L s) (call s) refl (j .lengths .result) (j .lengths .ensures) (c .before .if1 .taken)
+
+recorded-ahead-requires : tie.Need-recorded-ahead-requires
+recorded-ahead-requires c κs = search needs
 
 links-ahead-requires : tie.Need-links-ahead-requires
 links-ahead-requires c κs = search needs
@@ -107,16 +134,22 @@ returns-2 c =
     let j = c .before .before .before .before .before .before .before in let s = start-of j in
     refused (D s) (R s) (L s) (call s) refl (lengths-right j) (j .commit .ensures) (c .if2 .taken)
 
-cast-b : tie.Need-cast-b
-cast-b c = search needs
+add-before : tie.Need-add-before
+add-before c = omega (arith, runs-are c, few-enough c)
+
+cast-mark : tie.Need-cast-mark
+cast-mark c = search needs
+
+add-mark : tie.Need-add-mark
+add-mark c = omega (arith, few-enough (c .before))
 
 sub-mark : tie.Need-sub-mark
-sub-mark c = start-at (c .before) .0
+sub-mark c = omega (arith, runs-are (c .before))
 
 mark-requires : tie.Need-mark-requires
 mark-requires c κs =
     let e = c .before in let j = called e in let s = start-of j in
-    markable (D s) (R s) (L s) (placed-at e) (links-are e) (start-at e .1) (lengths-right j)
+    markable (D s) (R s) (L s) (placed-at e) (own e) (links-are e) refl (count-is e) (lengths-right j)
 
 same-length-8 : tie.Need-same-length-8
 same-length-8 c = c .before .before .before .before .before .before .before .before .before .before .image .given
@@ -134,7 +167,7 @@ returns-3 : tie.Need-returns-3
 returns-3 c =
     let h = c .before .before in let e = h .before .before in let j = called e in let s = start-of j in
     kept (D s) (R s) (L s) (call s) refl (lengths-right j) (j .commit .ensures) (done e)
-    (commit-kept (D s) (R s) (L s) none (marked-there (D s) (R s) (L s) (placed-at e) (links-are e) (start-at e .1) tableRole (h .mark .ensures)))
+    (commit-kept (D s) (R s) (L s) none (marked-there (D s) (R s) (L s) (placed-at e) (own e) (links-are e) refl (count-is e) tableRole (h .mark .ensures)))
 
 pub commit-spec : {M : Type 1} → statement M
 commit-spec =
@@ -146,6 +179,7 @@ commit-spec =
     same-length-2
     same-length-3
     returns
+    recorded-ahead-requires
     links-ahead-requires
     commit-requires
     same-length-4
@@ -153,7 +187,9 @@ commit-spec =
     same-length-6
     same-length-7
     returns-2
-    cast-b
+    add-before
+    cast-mark
+    add-mark
     sub-mark
     mark-requires
     same-length-8

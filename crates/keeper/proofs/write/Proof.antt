@@ -1,6 +1,6 @@
 -- `keeper::write` meets its contract.
 -- Assumes nothing.
-use Prim.Native.Nat.{ℕ, _-_, _≤_}
+use Prim.Native.Nat.{ℕ, _-_}
 use mathlib.Core.Path.{_≡_, refl, sym, ap, _∙_}
 use mathlib.Core.Bool.{true}
 use mathlib.Core.List.{List}
@@ -13,7 +13,7 @@ use Rattle.recorder.proofs.Done.{ledger-accepted, write-done}
 use Rattle.roles.specs.Roles.{inUse}
 use Rattle.roles.specs.Keeping.{marked, rolesTests, leftRoles}
 use Rattle.keeper.proofs.Kept.{is-done, turned-away, refused, kept}
-use Rattle.keeper.proofs.Calls.{write-few, ready, Placed, write-placed, block-start, markable, marked-there, write-kept}
+use Rattle.keeper.proofs.Calls.{write-few, ready, Placed, write-placed, markable, marked-there, write-kept}
 use borrow.Author.Needs.{needs}
 use Rattle.keeper.proofs.write.Statement.{statement}
 use Rattle.keeper.proofs.write.Tie as tie
@@ -23,7 +23,7 @@ abbrev entered : tie.After-lengths → tie.Start
 entered c = c .before .before .before .before .before .before .before .before .before
 
 abbrev judged : tie.After-write → tie.Else1
-judged c = c .before .before .before .before .before .before .before .before
+judged c = c .before .before .before .before .before .before .before .before .before .before
 
 abbrev start-of : tie.After-write → tie.Start
 start-of c = entered (judged c .before)
@@ -36,6 +36,9 @@ linked c = c .before .before .before .before .before .before
 
 abbrev found : tie.After-write → tie.After-named-by
 found c = c .before .before .before .before
+
+abbrev counted : tie.After-write → tie.After-recorded-ahead
+counted c = linked c .before .before
 
 -- the disc, the roles and the ledger
 abbrev D : tie.Start → Disc
@@ -56,19 +59,19 @@ lengths-right c = let e = judged c in sym (e .before .lengths .ensures) ∙ e .i
 done : (c : tie.Else2) → let s = start-of (called c) in outcome (D s) (L s) (call s) ≡ 0
 done c = let j = called c in let s = start-of j in is-done (D s) (L s) (call s) (j .write .ensures) (c .if2 .left)
 
--- what it recorded: the last block, the links before it, the first of them
+-- what was counted before it, and what it recorded
+own : (c : tie.Else2) → let j = called c in let s = start-of j in counted j .recorded-ahead .result ≡ unpack (L s) .recorded
+own c = let j = called c in let s = start-of j in counted j .recorded-ahead .ensures (ledger-accepted (D s) (L s) (call s) (done c))
+
 links-are : (c : tie.Else2) → let j = called c in let s = start-of j in linked j .links-ahead .result ≡ links (unpack (L s))
 links-are c = let j = called c in let s = start-of j in linked j .links-ahead .ensures (ledger-accepted (D s) (L s) (call s) (done c))
 
-placed-at : (c : tie.Else2) → let j = called c in let s = start-of j in Placed (D s) (L s) 0 (j .write .result)
+placed-at : (c : tie.Else2) → let j = called c in let s = start-of j in Placed (D s) (L s) 0 1 (j .write .result)
 placed-at c = let j = called c in let s = start-of j in write-placed (D s) (L s) (some (s .args .v)) (s .args .block .now) (done c) (j .write .ensures)
 
-start-at : (c : tie.Else2) → let j = called c in let s = start-of j in let a = j .write .result in let n = linked j .links-ahead .result in (n ≤ a) × (a - n ≡ recorded (D s))
-start-at c = let s = start-of (called c) in block-start (D s) (L s) (placed-at c) (links-are c)
-
 -- and the roles of that
-marked-so : (c : tie.After-mark) → let e = c .before .before in let s = start-of (called e) in c .mark .last .0 ≡ marked (recorded (D s)) (links (unpack (L s))) 0 inUse (R s)
-marked-so c = let e = c .before .before in let s = start-of (called e) in marked-there (D s) (R s) (L s) (placed-at e) (links-are e) (start-at e .1) inUse (c .mark .ensures)
+marked-so : (c : tie.After-mark) → let e = c .before .before in let s = start-of (called e) in c .mark .last .0 ≡ marked (recorded (D s)) (links (unpack (L s))) 0 1 inUse (R s)
+marked-so c = let e = c .before .before in let s = start-of (called e) in marked-there (D s) (R s) (L s) (placed-at e) (own e) (links-are e) refl refl inUse (c .mark .ensures)
 
 named : (c : tie.Else2) → let j = called c in let s = start-of j in found j .named-by .result ≡ blockOf (unpack (L s)) (s .args .v)
 named c =
@@ -97,6 +100,9 @@ returns c =
     ap (λ (a : ℕ). leftRoles a (D s .image) (D s .kinds) (R s) (L s) (s .args .block .now)) (c .refusal .ensures)
     ∙ turned-away (D s) (R s) (L s) (call s) refl (j .lengths .result) (j .lengths .ensures) (c .before .if1 .taken)
 
+recorded-ahead-requires : tie.Need-recorded-ahead-requires
+recorded-ahead-requires c κs = search needs
+
 links-ahead-requires : tie.Need-links-ahead-requires
 links-ahead-requires c κs = search needs
 
@@ -123,16 +129,10 @@ returns-2 c =
     let j = c .before .before .before .before .before .before .before in let s = start-of j in
     refused (D s) (R s) (L s) (call s) refl (lengths-right j) (j .write .ensures) (c .if2 .taken)
 
-cast-b : tie.Need-cast-b
-cast-b c = search needs
-
-sub-mark : tie.Need-sub-mark
-sub-mark c = start-at (c .before) .0
-
 mark-requires : tie.Need-mark-requires
 mark-requires c κs =
     let e = c .before in let j = called e in let s = start-of j in
-    markable (D s) (R s) (L s) (placed-at e) (links-are e) (start-at e .1) (lengths-right j)
+    markable (D s) (R s) (L s) (placed-at e) (own e) (links-are e) refl refl (lengths-right j)
 
 let-go-requires : tie.Need-let-go-requires
 let-go-requires c κs =
@@ -169,6 +169,7 @@ write-spec =
     same-length-2
     same-length-3
     returns
+    recorded-ahead-requires
     links-ahead-requires
     named-by-requires
     write-requires
@@ -177,8 +178,6 @@ write-spec =
     same-length-6
     same-length-7
     returns-2
-    cast-b
-    sub-mark
     mark-requires
     let-go-requires
     same-length-8

@@ -1,11 +1,11 @@
 -- `keeper::write_unnumbered` meets its contract.
 -- Assumes nothing.
-use Prim.Native.Nat.{ℕ, _-_, _≤_}
+use Prim.Native.Nat.{ℕ, _-_}
 use mathlib.Core.Path.{_≡_, refl, sym, ap, _∙_}
 use mathlib.Core.Bool.{true}
 use mathlib.Core.List.{List}
 use mathlib.Core.Option.{none}
-use Rattle.disc.specs.Disc.{Disc, lent, recorded}
+use Rattle.disc.specs.Disc.{Disc, lent}
 use Rattle.volume.specs.Volume.{unpack}
 use Rattle.recorder.specs.Calls.{Call, write}
 use Rattle.recorder.specs.Refusals.{first, links, outcome}
@@ -13,7 +13,7 @@ use Rattle.recorder.proofs.Done.{ledger-accepted}
 use Rattle.roles.specs.Roles.{unnumbered}
 use Rattle.roles.specs.Keeping.{rolesTests, leftRoles}
 use Rattle.keeper.proofs.Kept.{is-done, turned-away, refused, kept}
-use Rattle.keeper.proofs.Calls.{Placed, write-placed, block-start, markable, marked-there, unnumbered-kept}
+use Rattle.keeper.proofs.Calls.{Placed, write-placed, markable, marked-there, unnumbered-kept}
 use borrow.Author.Needs.{needs}
 use Rattle.keeper.proofs.write_unnumbered.Statement.{statement}
 use Rattle.keeper.proofs.write_unnumbered.Tie as tie
@@ -23,7 +23,7 @@ abbrev entered : tie.After-lengths → tie.Start
 entered c = c .before .before .before .before .before .before .before .before .before
 
 abbrev judged : tie.After-write-unnumbered → tie.Else1
-judged c = c .before .before .before .before .before .before
+judged c = c .before .before .before .before .before .before .before .before
 
 abbrev start-of : tie.After-write-unnumbered → tie.Start
 start-of c = entered (judged c .before)
@@ -33,6 +33,9 @@ called c = c .before .before .before .before .before .before .before
 
 abbrev linked : tie.After-write-unnumbered → tie.After-links-ahead
 linked c = c .before .before .before .before
+
+abbrev counted : tie.After-write-unnumbered → tie.After-recorded-ahead
+counted c = linked c .before .before
 
 -- the disc, the roles and the ledger
 abbrev D : tie.Start → Disc
@@ -53,15 +56,15 @@ lengths-right c = let e = judged c in sym (e .before .lengths .ensures) ∙ e .i
 done : (c : tie.Else2) → let s = start-of (called c) in outcome (D s) (L s) (call s) ≡ 0
 done c = let j = called c in let s = start-of j in is-done (D s) (L s) (call s) (j .write-unnumbered .ensures) (c .if2 .left)
 
--- what it recorded: the last block, the links before it, the first of them
+-- what was counted before it, and what it recorded
+own : (c : tie.Else2) → let j = called c in let s = start-of j in counted j .recorded-ahead .result ≡ unpack (L s) .recorded
+own c = let j = called c in let s = start-of j in counted j .recorded-ahead .ensures (ledger-accepted (D s) (L s) (call s) (done c))
+
 links-are : (c : tie.Else2) → let j = called c in let s = start-of j in linked j .links-ahead .result ≡ links (unpack (L s))
 links-are c = let j = called c in let s = start-of j in linked j .links-ahead .ensures (ledger-accepted (D s) (L s) (call s) (done c))
 
-placed-at : (c : tie.Else2) → let j = called c in let s = start-of j in Placed (D s) (L s) 0 (j .write-unnumbered .result)
+placed-at : (c : tie.Else2) → let j = called c in let s = start-of j in Placed (D s) (L s) 0 1 (j .write-unnumbered .result)
 placed-at c = let j = called c in let s = start-of j in write-placed (D s) (L s) none (s .args .block .now) (done c) (j .write-unnumbered .ensures)
-
-start-at : (c : tie.Else2) → let j = called c in let s = start-of j in let a = j .write-unnumbered .result in let n = linked j .links-ahead .result in (n ≤ a) × (a - n ≡ recorded (D s))
-start-at c = let s = start-of (called c) in block-start (D s) (L s) (placed-at c) (links-are c)
 
 lengths-requires : tie.Need-lengths-requires
 lengths-requires c κs = search needs
@@ -83,6 +86,9 @@ returns c =
     let j = c .before .before in let s = entered j in
     ap (λ (a : ℕ). leftRoles a (D s .image) (D s .kinds) (R s) (L s) (s .args .block .now)) (c .refusal .ensures)
     ∙ turned-away (D s) (R s) (L s) (call s) refl (j .lengths .result) (j .lengths .ensures) (c .before .if1 .taken)
+
+recorded-ahead-requires : tie.Need-recorded-ahead-requires
+recorded-ahead-requires c κs = search needs
 
 links-ahead-requires : tie.Need-links-ahead-requires
 links-ahead-requires c κs = search needs
@@ -107,16 +113,10 @@ returns-2 c =
     let j = c .before .before .before .before .before .before .before in let s = start-of j in
     refused (D s) (R s) (L s) (call s) refl (lengths-right j) (j .write-unnumbered .ensures) (c .if2 .taken)
 
-cast-b : tie.Need-cast-b
-cast-b c = search needs
-
-sub-mark : tie.Need-sub-mark
-sub-mark c = start-at (c .before) .0
-
 mark-requires : tie.Need-mark-requires
 mark-requires c κs =
     let e = c .before in let j = called e in let s = start-of j in
-    markable (D s) (R s) (L s) (placed-at e) (links-are e) (start-at e .1) (lengths-right j)
+    markable (D s) (R s) (L s) (placed-at e) (own e) (links-are e) refl refl (lengths-right j)
 
 same-length-8 : tie.Need-same-length-8
 same-length-8 c = c .before .before .before .before .before .before .before .before .before .before .image .given
@@ -135,7 +135,7 @@ returns-3 c =
     let h = c .before .before in let e = h .before .before in let j = called e in let s = start-of j in
     kept (D s) (R s) (L s) (call s) refl (lengths-right j) (j .write-unnumbered .ensures) (done e)
     (unnumbered-kept (D s) (R s) (L s) (s .args .block .now) (j .write-unnumbered .ensures) (e .before .before .before .before .kinds .given) (placed-at e .few)
-    (marked-there (D s) (R s) (L s) (placed-at e) (links-are e) (start-at e .1) unnumbered (h .mark .ensures)))
+    (marked-there (D s) (R s) (L s) (placed-at e) (own e) (links-are e) refl refl unnumbered (h .mark .ensures)))
 
 pub write-unnumbered-spec : {M : Type 1} → statement M
 write-unnumbered-spec =
@@ -147,6 +147,7 @@ write-unnumbered-spec =
     same-length-2
     same-length-3
     returns
+    recorded-ahead-requires
     links-ahead-requires
     write-unnumbered-requires
     same-length-4
@@ -154,8 +155,6 @@ write-unnumbered-spec =
     same-length-6
     same-length-7
     returns-2
-    cast-b
-    sub-mark
     mark-requires
     same-length-8
     same-length-9

@@ -6,13 +6,10 @@ use mathlib.Core.List.{List, []}
 use Rattle.disc.specs.Disc.{Disc, lent, recorded}
 use Rattle.volume.specs.Volume.{pack}
 use Rattle.recorder.specs.Refusals.{outcome}
-use Rattle.recorder.specs.Effects.{left}
-use lib.ListN.{take, drop}
-use Rattle.vat.specs.Table.{sectorLength, entriesOf}
-use Rattle.disc.specs.Disc.{sectorAt}
-use Rattle.disc.specs.Tables.{mapAt}
+use Rattle.recorder.specs.Effects.{left, shownAt}
 use Rattle.volume.specs.Volume.{filled}
 use Rattle.disc.specs.declared.Walk.the-variants.{Reached}
+use Rattle.disc.specs.Tables.{mapAt}
 use Rattle.recorder.specs.Refusals.{walked}
 use Rattle.recorder.specs.Calls.{lookBack}
 use Rattle.recorder.proofs.Done.{ledger-accepted, look-back-done, shown-fits}
@@ -53,12 +50,11 @@ counted c = after-look-back c .look-back .ensures .1 (c .if1 .left) .0
 found : (c : tie.Else1) → let s = start-of c in walked (D s) (s .args .k) ≡ Reached (after-look-back c .look-back .result .block)
 found c = after-look-back c .look-back .ensures .1 (c .if1 .left) .1
 
-shown : (c : tie.After-show) → let a = after-look-back (admitted c) in let s = entered a in c .show .last .1 .0 ≡ pack (filled (mapAt (D s) (a .look-back .result .block)) (a .look-back .result .block) (recorded (D s)) 2)
-unfolding sectorAt
+shown : (c : tie.After-show) → let a = after-look-back (admitted c) in let s = entered a in c .show .last .1 .0 ≡ pack (shownAt (D s) (a .look-back .result .block) 2)
 shown c =
     let e = admitted c in let a = after-look-back e in let s = entered a in
     let b : ℕ = a .look-back .result .block in
-    c .show .ensures ∙ ap (λ (r : ℕ). pack (filled (entriesOf (take sectorLength (drop (sectorLength * b) (D s .image)))) b r 2)) (counted e)
+    c .show .ensures (D s .kinds) ∙ ap (λ (r : ℕ). pack (filled (mapAt (D s) b) b r 2)) (counted e)
 
 look-back-requires : tie.Need-look-back-requires
 look-back-requires c κs = search needs

@@ -7,12 +7,9 @@ use mathlib.Core.List.{List, []}
 use Rattle.disc.specs.Disc.{Disc, lent, recorded}
 use Rattle.volume.specs.Volume.{pack}
 use Rattle.recorder.specs.Refusals.{outcome}
-use Rattle.recorder.specs.Effects.{left}
+use Rattle.recorder.specs.Effects.{left, shownAt}
 use mathlib.Core.Bool.{Bool}
 use mathlib.Core.Option.{some}
-use lib.ListN.{take, drop}
-use Rattle.vat.specs.Table.{sectorLength, entriesOf}
-use Rattle.disc.specs.Disc.{sectorAt}
 use Rattle.disc.specs.Tables.{tableAt, mapAt, newest}
 use Rattle.volume.specs.Volume.{filled}
 use borrow.Author.Tests.{eq-eqb, ne-eqb}
@@ -58,12 +55,11 @@ counted c = after-mount c .mount .ensures .1 (c .if1 .left) .0
 found : (c : tie.Else1) → let s = start-of c in newest (D s) ≡ some (after-mount c .mount .result .block)
 found c = after-mount c .mount .ensures .1 (c .if1 .left) .1
 
-shown : (c : tie.After-show) → let a = after-mount (admitted c) in let s = entered a in c .show .last .1 .0 ≡ pack (filled (mapAt (D s) (a .mount .result .block)) (a .mount .result .block) (recorded (D s)) 0)
-unfolding sectorAt
+shown : (c : tie.After-show) → let a = after-mount (admitted c) in let s = entered a in c .show .last .1 .0 ≡ pack (shownAt (D s) (a .mount .result .block) 0)
 shown c =
     let e = admitted c in let a = after-mount e in let s = entered a in
     let b : ℕ = a .mount .result .block in
-    c .show .ensures ∙ ap (λ (r : ℕ). pack (filled (entriesOf (take sectorLength (drop (sectorLength * b) (D s .image)))) b r 0)) (counted e)
+    c .show .ensures (D s .kinds) ∙ ap (λ (r : ℕ). pack (filled (mapAt (D s) b) b r 0)) (counted e)
 
 mount-requires : tie.Need-mount-requires
 mount-requires c κs = search needs
@@ -101,7 +97,7 @@ returns-2 c =
     let b : ℕ = after-mount e .mount .result .block in
     let clean = eq-eqb (b + 1) (recorded (D s)) (c .if2 .taken ∙ counted e) in
     ap (λ (x : List ℕ). left 1 (D s .image) (D s .kinds) x []) (shown h)
-    ∙ ap (λ (t : Bool). left (cleanNumber t) (D s .image) (D s .kinds) (pack (filled (mapAt (D s) b) b (recorded (D s)) 0)) []) (sym clean)
+    ∙ ap (λ (t : Bool). left (cleanNumber t) (D s .image) (D s .kinds) (pack (shownAt (D s) b 0)) []) (sym clean)
     ∙ mount-left (D s) (L s) b (done e) (found e)
 
 same-length-3 : tie.Need-same-length-3
@@ -113,7 +109,7 @@ returns-3 c =
     let b : ℕ = after-mount e .mount .result .block in
     let dirty = ne-eqb (b + 1) (recorded (D s)) (λ x. c .if2 .left (x ∙ sym (counted e))) in
     ap (λ (x : List ℕ). left 0 (D s .image) (D s .kinds) x []) (shown h)
-    ∙ ap (λ (t : Bool). left (cleanNumber t) (D s .image) (D s .kinds) (pack (filled (mapAt (D s) b) b (recorded (D s)) 0)) []) (sym dirty)
+    ∙ ap (λ (t : Bool). left (cleanNumber t) (D s .image) (D s .kinds) (pack (shownAt (D s) b 0)) []) (sym dirty)
     ∙ mount-left (D s) (L s) b (done e) (found e)
 
 pub mount-spec : {M : Type 1} → statement M

@@ -5,9 +5,9 @@ use native.Mathlib.Omega.{arith}
 use mathlib.Core.Path.{_≡_, sym, ap, _∙_}
 use mathlib.Core.List.{List}
 use lib.ListN.{length}
+use Rattle.le.proofs.Runs.{sets-all}
 use Rattle.disc.specs.Disc.{Disc, lent, recorded}
 use Rattle.volume.specs.Volume.{unpack}
-use Rattle.volume.proofs.State.{sets-all}
 use Rattle.recorder.specs.Refusals.{outcome}
 use Rattle.recorder.specs.Effects.{left}
 use lib.ListN.{getD}
@@ -85,19 +85,19 @@ mul-at c = search needs
 add-end : tie.Need-add-end
 add-end c = search needs
 
-sub-put-text : tie.Need-sub-put-text
-sub-put-text c = search needs
+sub-put-block : tie.Need-sub-put-block
+sub-put-block c = search needs
 
-part-put-text-start : tie.Need-part-put-text-start
-part-put-text-start c = search needs
+part-put-block-start : tie.Need-part-put-block-start
+part-put-block-start c = search needs
 
-part-put-text-end : tie.Need-part-put-text-end
-part-put-text-end c =
+part-put-block-end : tie.Need-part-put-block-end
+part-put-block-end c =
     let at = c .before in let e = at .before in let s = start-of e in
     omega (arith, sector-end (D s) (sized-tells (D s) (sound-sized (D s) (told e .sound-disc))) (at .entry .result) (within at))
 
-put-text-requires : tie.Need-put-text-requires
-put-text-requires c κs =
+put-block-requires : tie.Need-put-block-requires
+put-block-requires c κs =
     let at = c .before .before in let e = at .before in let s = start-of e in
     omega (arith, ap length (part-sector (D s) (at .entry .result)) ∙ long at, told e .block-long)
 
@@ -108,7 +108,7 @@ returns-2 : tie.Need-returns-2
 returns-2 c =
     let at = c .before .before .before .before .before in let e = at .before in let s = start-of e in
     let b : ℕ = at .entry .result in
-    let copied = c .before .before .put-text .ensures ∙ ap (sets (K s) 0) (part-sector (D s) b) ∙ sets-all (sectorAt (D s) b) (K s) (long at ∙ sym (told e .block-long))
+    let copied = c .before .before .put-block .ensures ∙ ap (sets (K s) 0) (part-sector (D s) b) ∙ sets-all (sectorAt (D s) b) (K s) (long at ∙ sym (told e .block-long))
     ∙ ap (sectorAt (D s)) (at .entry .ensures) in
     ap (λ (x : List ℕ). left 0 (D s .image) (D s .kinds) (L s) x) copied ∙ read-left (D s) (L s) (s .args .v) (K s) (done e)
 
@@ -124,9 +124,9 @@ read-spec =
     cast-at
     mul-at
     add-end
-    sub-put-text
-    part-put-text-start
-    part-put-text-end
-    put-text-requires
+    sub-put-block
+    part-put-block-start
+    part-put-block-end
+    put-block-requires
     same-length-2
     returns-2)

@@ -2,15 +2,16 @@
 -- Assumes nothing.
 use Prim.Native.Nat.{ℕ, _+_, _-_, _*_}
 use native.Mathlib.Omega.{arith}
-use mathlib.Core.Path.{_≡_, sym, ap, _∙_}
+use mathlib.Core.Path.{_≡_, refl, sym, ap, _∙_}
 use mathlib.Core.List.{List}
-use lib.ListN.{take, drop}
+use lib.ListN.{length, take, drop}
 use borrow.Author.Tests.{not-true}
 use Rattle.vat.specs.Table.{sectorLength, isTable}
-use Rattle.disc.specs.Disc.{Disc, lent, kindAt, sectorAt}
-use Rattle.disc.specs.Tables.{tableAt}
+use Rattle.disc.specs.Disc.{Disc, lent, kindAt}
+use Rattle.disc.specs.Tables.{below, tableAt}
 use Rattle.disc.proofs.Recording.{sized-tells}
-use Rattle.disc.proofs.Found.{part-sector, sector-end, other-kind, untagged}
+use Rattle.disc.proofs.Told.{table-of, other-kind}
+use Rattle.disc.proofs.Found.{part-sector, sector-end, sector-long, untagged, sector-held}
 use borrow.Author.Needs.{needs}
 use Rattle.roles.proofs.is_table.Statement.{statement}
 use Rattle.roles.proofs.is_table.Tie as tie
@@ -26,16 +27,22 @@ D s = lent (s .args .image .now) (s .args .kinds .now)
 abbrev S : tie.Start → List ℕ
 S s = let b : ℕ = s .args .b in take ((sectorLength * b + sectorLength) - sectorLength * b) (drop (sectorLength * b) (s .args .image .now))
 
-recognised-here : (s : tie.Start) → let b : ℕ = s .args .b in isTable (kindAt (D s) b) (S s) b ≡ tableAt (D s) b
-recognised-here s = let b : ℕ = s .args .b in ap (λ (l : List ℕ). isTable (kindAt (D s) b) l b) (part-sector (D s) b)
+long : (s : tie.Start) → length (S s) ≡ sectorLength
+long s =
+    let b : ℕ = s .args .b in
+    ap length (part-sector (D s) b) ∙ sector-long (D s) (sized-tells (D s) (s .pre .0)) b (s .pre .1)
 
-shared-slice-read-kind : tie.Need-shared-slice-read-kind
-shared-slice-read-kind c = search needs
+-- of data its bytes decide
+recognised-here : (s : tie.Start) → let b : ℕ = s .args .b in kindAt (D s) b ≡ 1 → isTable (below (D s) b) (S s) b ≡ tableAt (D s) b
+recognised-here s k = let b : ℕ = s .args .b in sym (table-of (D s) b (below (D s) b) (S s) refl (sym (part-sector (D s) b)) k)
+
+shared-slice-read-if1 : tie.Need-shared-slice-read-if1
+shared-slice-read-if1 c = search needs
 
 returns : tie.Need-returns
 returns c =
     let s = c .before .before .before .before in let b : ℕ = s .args .b in
-    sym (other-kind (kindAt (D s) b) (sectorAt (D s) b) b (c .if1 .taken))
+    sym (other-kind (D s) b (c .if1 .taken))
 
 mul-at : tie.Need-mul-at
 mul-at c = search needs
@@ -59,19 +66,22 @@ returns-2 : tie.Need-returns-2
 returns-2 c =
     let p = c .before in let s = start-of (p .before .before) in let b : ℕ = s .args .b in
     let plain = sym (p .tagged .ensures) ∙ not-true (p .tagged .result) (c .if2 .taken) in
-    sym (untagged (kindAt (D s) b) (S s) b plain) ∙ recognised-here s
+    sym (untagged (below (D s) b) (S s) b plain) ∙ recognised-here s (p .before .before .if1 .left)
 
-is-table-requires : tie.Need-is-table-requires
-is-table-requires c κs = search needs
+table-held-requires : tie.Need-table-held-requires
+table-held-requires c κs = search needs
 
 returns-3 : tie.Need-returns-3
-returns-3 c = c .is-table .ensures ∙ recognised-here (start-of (c .before .before .before .before))
+returns-3 c =
+    let d = c .before .before .before .before in let s = start-of d in
+    let b : ℕ = s .args .b in
+    c .table-held .ensures (below (D s) b) ∙ sym (sector-held (below (D s) b) (S s) b (long s)) ∙ recognised-here s (d .if1 .left)
 
 pub is-table-spec : {M : Type 1} → statement M
 is-table-spec =
     tie.close
     (tie.spec
-    shared-slice-read-kind
+    shared-slice-read-if1
     returns
     mul-at
     add-end
@@ -80,5 +90,5 @@ is-table-spec =
     part-s-end
     tagged-requires
     returns-2
-    is-table-requires
+    table-held-requires
     returns-3)

@@ -2,7 +2,7 @@
 -- Assumes nothing.
 use Prim.Native.Nat.{ℕ, _+_}
 use mathlib.Core.Path.{ap, _∙_}
-use mathlib.Core.List.{List, [], _∷_}
+use mathlib.Core.List.{List}
 use lib.ListN.{replicate}
 use Rattle.disc.specs.Disc.{stored}
 use Rattle.roles.specs.Roles.{unnumbered}
@@ -39,8 +39,8 @@ returns c =
     let behind : ℕ = a .at + a .links in
     let last : ℕ = behind + a .between in
     third .fill3 .ensures
-    ∙ ap (λ (l : List ℕ). stored l last (a .role ∷ [])) (second .fill2 .ensures ∙ ap (λ (l : List ℕ). stored l behind (replicate (a .between) unnumbered)) (first .fill .ensures))
-    ∙ marked-runs (a .at) (a .links) (a .between) (a .role) (a .roles .now) (s .pre .0)
+    ∙ ap (λ (l : List ℕ). stored l last (replicate (a .count) (a .role))) (second .fill2 .ensures ∙ ap (λ (l : List ℕ). stored l behind (replicate (a .between) unnumbered)) (first .fill .ensures))
+    ∙ marked-runs (a .at) (a .links) (a .between) (a .count) (a .role) (a .roles .now) (s .pre .0)
 
 pub mark-spec : {M : Type 1} → statement M
 mark-spec =

@@ -1,144 +1,33 @@
--- `vectors::show_map` is safe and ends: the index stays below the count, and the table within the sector.
+-- `vectors::show_map` is safe and ends: the table lies within the sector.
 -- Assumes nothing.
-use Prim.Native.Nat.{_-_, _≤_, _<_}
-use mathlib.Core.Path.{_≡_, sym, _∙_}
+use mathlib.Core.Path.{sym, _∙_}
 use borrow.Author.Needs.{needs}
 use borrow.Author.Tests.{not-false}
-use lib.ListN.{length}
-use Rattle.vat.specs.Table.{sectorLength, tableStart, attributeLength, entryCount, wholeLength}
 use Rattle.vat.proofs.Frame.{placed-below}
 use Rattle.vectors.proofs.show_map.Statement.{statement}
 use Rattle.vectors.proofs.show_map.Tie as tie
 
-abbrev Inv-loop : tie.InvT-loop
-Inv-loop s n first i₀ t6 t7 t8 i = (i ≤ n) × (n ≡ entryCount s) × (first ≡ tableStart (attributeLength s)) × (wholeLength s < sectorLength) × (length s ≡ sectorLength) × (length t6 ≡ 1) × (length t7 ≡ 10) × (length t8 ≡ 1)
-
-abbrev μ-loop : tie.MeasureT-loop
-μ-loop s n first i₀ t6 t7 t8 i = n - i
-
-below : (c : tie.Else2 Inv-loop μ-loop) → wholeLength (c .before .before .before .before .args .s .now) < sectorLength
-below c =
-    placed-below (c .before .before .before .before .args .s .now) (sym (c .before .placed .ensures) ∙ not-false (c .before .placed .result) (c .if2 .left))
-
-returns : tie.Need-returns Inv-loop μ-loop
+returns : tie.Need-returns
 returns c = search needs
 
-placed-requires : tie.Need-placed-requires Inv-loop μ-loop
+placed-requires : tie.Need-placed-requires
 placed-requires c κs = search needs
 
-returns-2 : tie.Need-returns-2 Inv-loop μ-loop
+returns-2 : tie.Need-returns-2
 returns-2 c = search needs
 
-entry-count-requires : tie.Need-entry-count-requires Inv-loop μ-loop
-entry-count-requires c κs = search needs
+table-requires : tie.Need-table-requires
+table-requires c κs =
+    let s = c .before .before .before .before in
+    (c .before .before .if1 .left, placed-below (s .args .s .now) (sym (c .before .placed .ensures) ∙ not-false (c .before .placed .result) (c .if2 .left)))
 
-table-start-requires : tie.Need-table-start-requires Inv-loop μ-loop
-table-start-requires c κs = search (needs, below (c .before))
+show-table-requires : tie.Need-show-table-requires
+show-table-requires c κs = search needs
 
-slice-aggregate-say : tie.Need-slice-aggregate-say Inv-loop μ-loop
-slice-aggregate-say c = search needs
-
-say-requires : tie.Need-say-requires Inv-loop μ-loop
-say-requires c κs = search needs
-
-cast-print-decimal : tie.Need-cast-print-decimal Inv-loop μ-loop
-cast-print-decimal c = search needs
-
-print-decimal-requires : tie.Need-print-decimal-requires Inv-loop μ-loop
-print-decimal-requires c κs = search needs
-
-loop-holds : tie.Need-loop-holds Inv-loop μ-loop
-loop-holds c = search (needs, below (c .before .before .before .before .before))
-
-slice-aggregate-say-2 : tie.Need-slice-aggregate-say-2 Inv-loop μ-loop
-slice-aggregate-say-2 c = search needs
-
-say-requires-2 : tie.Need-say-requires-2 Inv-loop μ-loop
-say-requires-2 c κs = search needs
-
-cast-read32 : tie.Need-cast-read32 Inv-loop μ-loop
-cast-read32 c = search needs
-
-mul-read32 : tie.Need-mul-read32 Inv-loop μ-loop
-mul-read32 c = search needs
-
-add-read32 : tie.Need-add-read32 Inv-loop μ-loop
-add-read32 c = search needs
-
-read32-requires : tie.Need-read32-requires Inv-loop μ-loop
-read32-requires c κs = search needs
-
-cast-print-hex : tie.Need-cast-print-hex Inv-loop μ-loop
-cast-print-hex c = search needs
-
-print-hex-requires : tie.Need-print-hex-requires Inv-loop μ-loop
-print-hex-requires c κs = search needs
-
-add-i : tie.Need-add-i Inv-loop μ-loop
-add-i c = search needs
-
-loop-less : tie.Need-loop-less Inv-loop μ-loop
-loop-less c = search needs
-
-loop-again : tie.Need-loop-again Inv-loop μ-loop
-loop-again c = search needs
-
-slice-aggregate-say-3 : tie.Need-slice-aggregate-say-3 Inv-loop μ-loop
-slice-aggregate-say-3 c = search needs
-
-say-requires-3 : tie.Need-say-requires-3 Inv-loop μ-loop
-say-requires-3 c κs = search needs
-
-previous-requires : tie.Need-previous-requires Inv-loop μ-loop
-previous-requires c κs = search needs
-
-cast-print-hex-2 : tie.Need-cast-print-hex-2 Inv-loop μ-loop
-cast-print-hex-2 c = search needs
-
-print-hex-requires-2 : tie.Need-print-hex-requires-2 Inv-loop μ-loop
-print-hex-requires-2 c κs = search needs
-
-slice-aggregate-say-4 : tie.Need-slice-aggregate-say-4 Inv-loop μ-loop
-slice-aggregate-say-4 c = search needs
-
-say-requires-4 : tie.Need-say-requires-4 Inv-loop μ-loop
-say-requires-4 c κs = search needs
-
-returns-3 : tie.Need-returns-3 Inv-loop μ-loop
+returns-3 : tie.Need-returns-3
 returns-3 c = search needs
 
 pub show-map-spec : {M : Type 1} → statement M
 show-map-spec =
     tie.close
-    (tie.spec
-    Inv-loop
-    μ-loop
-    returns
-    placed-requires
-    returns-2
-    entry-count-requires
-    table-start-requires
-    slice-aggregate-say
-    say-requires
-    cast-print-decimal
-    print-decimal-requires
-    loop-holds
-    slice-aggregate-say-2
-    say-requires-2
-    cast-read32
-    mul-read32
-    add-read32
-    read32-requires
-    cast-print-hex
-    print-hex-requires
-    add-i
-    loop-less
-    loop-again
-    slice-aggregate-say-3
-    say-requires-3
-    previous-requires
-    cast-print-hex-2
-    print-hex-requires-2
-    slice-aggregate-say-4
-    say-requires-4
-    returns-3)
+    (tie.spec returns placed-requires returns-2 table-requires show-table-requires returns-3)

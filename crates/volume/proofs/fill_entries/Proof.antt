@@ -13,19 +13,16 @@ use Rattle.volume.proofs.fill_entries.Statement.{statement}
 use Rattle.volume.proofs.fill_entries.Tie as tie
 
 abbrev Inv-loop : tie.InvT-loop
-Inv-loop s at n entries₀ count i₀ entries i = (i ≤ n) × (length entries ≡ 458) × (entries ≡ words i s at ++ replicate (458 - i) unused)
+Inv-loop t n entries₀ count i₀ entries i = (i ≤ n) × (length entries ≡ 458) × (entries ≡ words i t 0 ++ replicate (458 - i) unused)
 
 abbrev μ-loop : tie.MeasureT-loop
-μ-loop s at n entries₀ count i₀ entries i = n - i
+μ-loop t n entries₀ count i₀ entries i = n - i
 
 loop-holds : tie.Need-loop-holds Inv-loop μ-loop
-loop-holds c = (omega arith, refl, sym (ap (λ (l : List ℕ). l ++ replicate 458 unused) (words-none (c .before .args .s .now) (c .before .args .at))))
+loop-holds c = (omega arith, refl, sym (ap (λ (l : List ℕ). l ++ replicate 458 unused) (words-none (c .before .args .t .now) 0)))
 
 mul-read32 : tie.Need-mul-read32 Inv-loop μ-loop
 mul-read32 c = omega arith
-
-add-read32 : tie.Need-add-read32 Inv-loop μ-loop
-add-read32 c = omega arith
 
 read32-requires : tie.Need-read32-requires Inv-loop μ-loop
 read32-requires c κs = omega (arith, c .before .before .before .pre .0, c .before .before .before .pre .1)
@@ -50,14 +47,14 @@ loop-again c =
       omega arith,
       length-set e i (c .read32 .result) ∙ turn .loop .inv .1,
       ap₂ (λ (l : List ℕ) (x : ℕ). set l i x) (turn .loop .inv .2) (c .read32 .ensures)
-          ∙ fill-turn (start .args .s .now) (start .args .at) 458 i (omega (arith, start .pre .1)),
+          ∙ fill-turn (start .args .t .now) 458 i (omega (arith, start .pre .1)),
     )
 
 returns : tie.Need-returns Inv-loop μ-loop
 returns c =
     let turn = c .before in let a = turn .before .before .args in
     let all : turn .loop .i ≡ a .n = omega arith in
-    turn .loop .inv .2 ∙ ap (λ (k : ℕ). words k (a .s .now) (a .at) ++ replicate (458 - k) unused) all
+    turn .loop .inv .2 ∙ ap (λ (k : ℕ). words k (a .t .now) 0 ++ replicate (458 - k) unused) all
 
 pub fill-entries-spec : {M : Type 1} → statement M
 fill-entries-spec =
@@ -67,7 +64,6 @@ fill-entries-spec =
     μ-loop
     loop-holds
     mul-read32
-    add-read32
     read32-requires
     mul-entries
     array-write-entries

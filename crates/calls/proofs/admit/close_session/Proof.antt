@@ -47,6 +47,9 @@ returns-2 c =
     let e = c .before in let s = start-of e in
     sym (closing-18 (D s) (L s) (s .args .main) (s .args .reserve) (s .args .start) (passed e) (c .if2 .taken))
 
+add-room : tie.Need-add-room
+add-room c = search needs
+
 room-requires : tie.Need-room-requires
 room-requires c κs = let a = admits (c .before) in (a .ledger-long, a .fit .same-recorded, a .sound-disc .few, omega arith)
 
@@ -57,4 +60,4 @@ returns-3 c =
 
 pub close-session-spec : {M : Type 1} → statement M
 close-session-spec =
-    tie.close (tie.spec working-requires returns returns-2 room-requires returns-3)
+    tie.close (tie.spec working-requires returns returns-2 add-room room-requires returns-3)

@@ -8,7 +8,7 @@ use mathlib.Core.List.{[], _∷_}
 use lib.Dec.{ltb}
 use lib.ListN.{length}
 use borrow.Author.Tests.{le-ltb, lt-ltb}
-use Rattle.disc.specs.Disc.{leading}
+use Rattle.disc.specs.Disc.{Disc, lent, leading}
 use Rattle.disc.proofs.Recording.{leading-le}
 use Rattle.volume.specs.declared.Volume.{Volume}
 use Rattle.volume.specs.Volume.{unpack}
@@ -21,7 +21,11 @@ use Rattle.calls.proofs.admit.recordable.Tie as tie
 
 -- the places of the function, each found from a later one
 abbrev start-of : tie.After-recorded → tie.Start
-start-of c = c .before .before .before .before .before
+start-of c = c .before .before .before .before .before .before
+
+-- the disc
+abbrev D : tie.Start → Disc
+D s = lent (s .args .image .now) (s .args .kinds .now)
 
 -- the state, what is blank, and what the write needs
 abbrev v : tie.Start → Volume
@@ -34,7 +38,7 @@ abbrev needed : tie.Start → ℕ
 needed s = links (v s) + 1 + reserve (length (s .args .kinds .now))
 
 abbrev forbidden : tie.Start → Bool
-forbidden s = forbiddenAt (target (v s)) (s .args .block .now)
+forbidden s = forbiddenAt (D s) (target (v s)) (s .args .block .now)
 
 own : (c : tie.After-recorded) → c .recorded .result ≡ leading (start-of c .args .kinds .now)
 own c = c .recorded .ensures ∙ start-of c .pre .1
@@ -42,7 +46,7 @@ own c = c .recorded .ensures ∙ start-of c .pre .1
 judged : (c : tie.After-forbidden-at) → let r = c .before .before .before in c .forbidden-at .result ≡ forbidden (start-of r)
 judged c =
     let r = c .before .before .before in let s = start-of r in
-    c .forbidden-at .ensures ∙ ap₂ (λ (r k : ℕ). forbiddenAt (r + k) (s .args .block .now)) (r .recorded .ensures) (r .before .links .ensures)
+    c .forbidden-at .ensures ∙ ap₂ (λ (r k : ℕ). forbiddenAt (D s) (r + k) (s .args .block .now)) (r .recorded .ensures) (r .before .links .ensures)
 
 links-requires : tie.Need-links-requires
 links-requires c κs = search needs

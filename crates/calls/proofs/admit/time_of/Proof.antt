@@ -62,8 +62,7 @@ within c =
 
 -- the bytes that were taken are the table's time
 taken : (c : tie.After-time-at) → let e = c .before in c .time-at .result .now ≡ timeAt (D (start-of e)) (B e)
-unfolding sectorAt
-taken c = c .time-at .ensures
+taken c = c .time-at .ensures (D (start-of (c .before)) .kinds)
 
 reached-requires : tie.Need-reached-requires
 reached-requires c κs = search needs

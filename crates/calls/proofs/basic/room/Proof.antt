@@ -1,4 +1,4 @@
--- `calls::basic::room` meets its contract: the blank sectors against the links, what is between, and one more.
+-- `calls::basic::room` meets its contract: the blank sectors against the links and what is recorded behind them.
 -- Assumes nothing.
 use Prim.Native.Nat.{ℕ, _+_, _-_}
 use native.Mathlib.Omega.{arith}
@@ -25,7 +25,7 @@ abbrev blank : tie.Start → ℕ
 blank s = length (s .args .kinds .now) - leading (s .args .kinds .now)
 
 abbrev needed : tie.Start → ℕ
-needed s = links (unpack (s .args .ledger .now)) + s .args .between + 1
+needed s = links (unpack (s .args .ledger .now)) + s .args .recording
 
 own : (c : tie.After-recorded) → let s = c .before .before .before in c .recorded .result ≡ leading (s .args .kinds .now)
 own c = let s = c .before .before .before in c .recorded .ensures ∙ s .pre .1
@@ -45,9 +45,6 @@ links-requires c κs = search needs
 add-if1 : tie.Need-add-if1
 add-if1 c = let s = start-of c in omega (arith, c .links .ensures, links-few (unpack (s .args .ledger .now)), s .pre .3)
 
-add-if1-2 : tie.Need-add-if1-2
-add-if1-2 c = let s = start-of c in omega (arith, c .links .ensures, links-few (unpack (s .args .ledger .now)), s .pre .3)
-
 returns : tie.Need-returns
 returns c =
     let n = c .before in let s = start-of n in
@@ -61,4 +58,4 @@ returns-2 c =
 pub room-spec : {M : Type 1} → statement M
 room-spec =
     tie.close
-    (tie.spec cast-blank recorded-requires sub-blank links-requires add-if1 add-if1-2 returns returns-2)
+    (tie.spec cast-blank recorded-requires sub-blank links-requires add-if1 returns returns-2)

@@ -65,8 +65,8 @@ returns-3 c =
       λ z. absurd (let e : _≡_ {A = ℕ} 3 0 = sym (c .refused3 .ensures) ∙ z in omega arith),
     )
 
-cast-t7 : tie.Need-cast-t7
-cast-t7 c =
+cast-recorded : tie.Need-cast-recorded
+cast-recorded c =
     let n = c .before .before .before in let e = n .before .before in let s = start-of e in
     let told = n .count .ensures .1 (not-false (n .count .result .in_order) (c .before .if3 .left)) in
     omega (arith, told, leading-le (D s .kinds), sized-tells (D s) (right-size e) .few)
@@ -91,5 +91,5 @@ sound-spec =
     count-requires
     refused-requires-3
     returns-3
-    cast-t7
+    cast-recorded
     returns-4)

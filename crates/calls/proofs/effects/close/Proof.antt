@@ -11,7 +11,7 @@ use Rattle.volume.specs.declared.Volume.{Volume}
 use Rattle.volume.specs.Volume.{unpack, pack, committed}
 use Rattle.recorder.specs.Refusals.{target}
 use Rattle.recorder.proofs.Sectors.{length-closing}
-use Rattle.calls.proofs.Left.{closing-puts, linkedKinds, saved-disc}
+use Rattle.calls.proofs.Left.{closing-puts, linkedKinds, saved-disc, saved-at}
 use borrow.Author.Needs.{needs}
 use Rattle.calls.proofs.effects.close.Statement.{statement}
 use Rattle.calls.proofs.effects.close.Tie as tie
@@ -71,20 +71,20 @@ returns c =
     let d : Disc = lent (a .image .now) (a .kinds .now) in
     let l : List ℕ = a .ledger .now in
     let v : Volume = unpack l in
-    let between : List Sector = closing (a .main) (a .reserve) (a .start) (target v) in
+    let first : List Sector = closing (a .main) (a .reserve) (a .start) (target v) in
     let b : ℕ = r .record-links .result in
     let behind : b ≡ target v = r .record-links .ensures .0 in
-    let at : b + closingLength ≡ target v + length between =
+    let at : b + closingLength ≡ target v + length first =
     ap₂ _+_ behind (sym (length-closing (a .main) (a .reserve) (a .start) (target v))) in
     let x : Disc = lent (z .zeros .last .0) (z .zeros .last .1 .0) in
-    let pointed : x ≡ puts (lent (a .image .now) (linkedKinds d l)) (target v) between =
+    let pointed : x ≡ puts (lent (a .image .now) (linkedKinds d l)) (target v) first =
     z .zeros .ensures
     ∙ ap₂ (λ (i k : List ℕ). puts (lent i k) (b + 1) (replicate zeroSectors zeroSector)) (p .record-anchor .ensures .0) (p .record-anchor .ensures .1)
     ∙ closing-puts (a .main) (a .reserve) (a .start) b (lent (a .image .now) (r .record-links .last .0))
     ∙ ap₂ (λ (k : List ℕ) (n : ℕ). puts (lent (a .image .now) k) n (closing (a .main) (a .reserve) (a .start) n)) (r .record-links .ensures .1) behind in (
-      at,
-      w .save-at .ensures .0 ∙ saved-disc d l between noStamp x (b + closingLength) pointed at,
-      w .save-at .ensures .1 ∙ ap (λ (n : ℕ). pack (committed n v)) at,
+      saved-at d l first noStamp (b + closingLength) at,
+      w .save-at .ensures .0 ∙ saved-disc d l first noStamp x (b + closingLength) pointed at,
+      w .save-at .ensures .1 ∙ ap (λ (n : ℕ). pack (committed n v)) (saved-at d l first noStamp (b + closingLength) at),
     )
 
 pub close-spec : {M : Type 1} → statement M

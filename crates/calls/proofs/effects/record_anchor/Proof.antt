@@ -5,7 +5,7 @@ use native.Mathlib.Omega.{arith}
 use mathlib.Core.Path.{_≡_, refl, ap₂, _∙_}
 use mathlib.Core.List.{List, _++_}
 use lib.ListN.{take, drop}
-use Rattle.vat.specs.Table.{sectorLength}
+use Rattle.vat.specs.Table.{sectorLength, tagVersion}
 use Rattle.anchor.specs.Anchor.{anchor}
 use Rattle.anchor.proofs.Theorems.{length-anchor}
 use Rattle.disc.proofs.Recording.{stored-part}
@@ -50,7 +50,7 @@ returns c =
     let at : ℕ = sectorLength * a .b in
     let long : (at + sectorLength) - at ≡ sectorLength = omega arith in (
       ap₂ (λ (k : ℕ) (l : List ℕ). take at image ++ (l ++ drop k (drop at image))) long (r .«record» .ensures)
-          ∙ stored-part image (anchor (a .main) (a .reserve) (a .start + a .b)) at sectorLength (length-anchor (a .main) (a .reserve) (a .start + a .b)),
+          ∙ stored-part image (anchor tagVersion (a .main) (a .reserve) (a .start + a .b)) at sectorLength (length-anchor tagVersion (a .main) (a .reserve) (a .start + a .b)),
       refl,
     )
 

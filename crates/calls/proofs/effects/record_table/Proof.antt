@@ -1,18 +1,17 @@
 -- `calls::effects::record_table` meets its contract: the sector is made in its place from the ledger's bytes, and the kind set.
 -- Assumes nothing.
-use Prim.Native.Nat.{ℕ, _+_, _-_, _*_, _≤_, _<_}
+use Prim.Native.Nat.{ℕ, _+_, _-_, _*_}
 use native.Mathlib.Omega.{arith}
 use mathlib.Core.Path.{_≡_, refl, sym, ap, ap₂, _∙_}
 use mathlib.Core.List.{List, _++_}
-use lib.ListN.{length, take, drop}
+use lib.ListN.{take, drop}
 use Rattle.le.specs.Field.{words}
-use Rattle.vat.specs.Table.{sectorLength, limit}
-use Rattle.vat.specs.Sector.{sector}
+use Rattle.vat.specs.Table.{sectorLength}
+use Rattle.vat.specs.Sector.{tableBytes, sector}
 use Rattle.vat.proofs.Theorems.{length-sector}
 use Rattle.disc.proofs.Recording.{stored-part}
 use Rattle.volume.specs.declared.Volume.{Volume}
 use Rattle.volume.specs.Volume.{unpack, mapOf}
-use Rattle.volume.proofs.State.{long-unpack, length-map}
 use Rattle.volume.proofs.Fit.{entries-below}
 use borrow.Author.Needs.{needs}
 use Rattle.calls.proofs.effects.record_table.Statement.{statement}
@@ -66,15 +65,13 @@ returns c =
     let stamp : List ℕ = a .stamp .now in
     let at : ℕ = sectorLength * a .b in
     let v : Volume = unpack l in
-    let made : r .«record» .last .0 ≡ sector (mapOf v) (v .last) stamp (a .b) =
+    let made : r .«record» .last .0 ≡ sector (tableBytes (mapOf v) (v .last)) stamp (a .b) =
     r .«record» .ensures
-    ∙ ap₂ (λ (n previous : ℕ). sector (words n l 0) previous stamp (a .b)) (z .size .ensures) (m .last .ensures)
-    ∙ ap (λ (map : List ℕ). sector map (v .last) stamp (a .b)) (sym (entries-below l (v .size) (s .pre .3))) in
-    let few : length (mapOf v) ≤ limit = rw (length-map v (omega (arith, long-unpack l, s .pre .3))) (s .pre .3) in
-    let small : a .b < 4294967296 = omega (arith, s .pre .2) in
+    ∙ ap₂ (λ (n previous : ℕ). sector (tableBytes (words n l 0) previous) stamp (a .b)) (z .size .ensures) (m .last .ensures)
+    ∙ ap (λ (map : List ℕ). sector (tableBytes map (v .last)) stamp (a .b)) (sym (entries-below l (v .size) (s .pre .3))) in
     let long : (at + sectorLength) - at ≡ sectorLength = omega arith in (
       ap₂ (λ (k : ℕ) (x : List ℕ). take at image ++ (x ++ drop k (drop at image))) long made
-          ∙ stored-part image (sector (mapOf v) (v .last) stamp (a .b)) at sectorLength (length-sector (mapOf v) (v .last) stamp (a .b) few small (s .pre .4)),
+          ∙ stored-part image (sector (tableBytes (mapOf v) (v .last)) stamp (a .b)) at sectorLength (length-sector (tableBytes (mapOf v) (v .last)) stamp (a .b)),
       refl,
     )
 

@@ -12,7 +12,7 @@ use Rattle.disc.proofs.Recording.{length-links}
 use Rattle.volume.specs.declared.Volume.{Volume}
 use Rattle.volume.specs.Volume.{unpack, pack, committed}
 use Rattle.recorder.specs.Refusals.{links, target}
-use Rattle.calls.proofs.Left.{linkedKinds, saved-disc}
+use Rattle.calls.proofs.Left.{linkedKinds, saved-disc, saved-at}
 use borrow.Author.Needs.{needs}
 use Rattle.calls.proofs.effects.save.Statement.{statement}
 use Rattle.calls.proofs.effects.save.Tie as tie
@@ -64,9 +64,9 @@ returns c =
     let at : b ≡ target v + 0 = r .record-links .ensures .0 ∙ sym (add-zero (target v)) in
     let x : Disc = lent (a .image .now) (r .record-links .last .0) in
     let linked : x ≡ lent (a .image .now) (linkedKinds d l) = ap (lent (a .image .now)) (r .record-links .ensures .1) in (
-      at,
+      saved-at d l [] (a .stamp .now) b at,
       w .save-at .ensures .0 ∙ saved-disc d l [] (a .stamp .now) x b linked at,
-      w .save-at .ensures .1 ∙ ap (λ (n : ℕ). pack (committed n v)) at,
+      w .save-at .ensures .1 ∙ ap (λ (n : ℕ). pack (committed n v)) (saved-at d l [] (a .stamp .now) b at),
     )
 
 pub save-spec : {M : Type 1} → statement M

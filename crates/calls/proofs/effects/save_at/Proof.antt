@@ -1,9 +1,13 @@
 -- `calls::effects::save_at` meets its contract: the table sector of the ledger's state, and the state after it.
 -- Assumes nothing.
-use mathlib.Core.Path.{ap, ap₂, _∙_}
-use Rattle.disc.specs.Disc.{lent}
+use Prim.Native.Nat.{ℕ}
+use mathlib.Core.Path.{sym, ap, ap₂, _∙_}
+use mathlib.Core.List.{List}
+use Rattle.vat.specs.Sector.{tableBytes}
+use Rattle.disc.specs.Disc.{Disc, lent, puts}
+use Rattle.disc.proofs.Save.{icb-alone}
 use Rattle.volume.specs.declared.Volume.{Volume}
-use Rattle.volume.specs.Volume.{unpack, pack, committed}
+use Rattle.volume.specs.Volume.{unpack, pack, mapOf, committed}
 use Rattle.volume.proofs.Standing.{entries-committed}
 use borrow.Author.Needs.{needs}
 use Rattle.calls.proofs.effects.save_at.Statement.{statement}
@@ -42,9 +46,13 @@ same-length-3 : tie.Need-same-length-3
 same-length-3 c = search needs
 
 returns : tie.Need-returns
+unfolding puts
 returns c =
-    let t = c .before .before in let w = t .before .before in let m = w .before in let p = after-table (m .before) in let a = start-of p .args in (
-      ap₂ lent (p .record-table .ensures .0) (p .record-table .ensures .1),
+    let t = c .before .before in let w = t .before .before in let m = w .before in let p = after-table (m .before) in let a = start-of p .args in
+    let d : Disc = lent (a .image .now) (a .kinds .now) in
+    let v : Volume = unpack (a .ledger .now) in
+    let table : List ℕ = tableBytes (mapOf v) (v .last) in (
+      ap₂ lent (p .record-table .ensures .0) (p .record-table .ensures .1) ∙ ap (puts d (a .b)) (sym (icb-alone d table (v .last) (a .stamp .now) (a .b))),
       t .store-fields .ensures ∙ ap pack (w .committed .ensures ∙ ap (committed (a .b)) (m .load .ensures)),
     )
 

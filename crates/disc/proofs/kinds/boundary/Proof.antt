@@ -1,78 +1,20 @@
--- `disc::kinds::boundary` meets its contract: where the kinds are in order, the first blank sector stays between the two ends.
+-- `disc::kinds::boundary` meets its contract: the likely count stands, or halving finds the place.
 -- Assumes nothing.
-use Prim.Native.Nat.{ℕ, _-_, _≤_}
-use native.Mathlib.Omega.{arith}
-use mathlib.Core.Path.{_≡_}
-use mathlib.Core.Bool.{true}
-use mathlib.Core.List.{List}
-use lib.ListN.{length}
 use borrow.Author.Needs.{needs}
-use Rattle.disc.specs.Disc.{leading, inOrder}
-use Rattle.disc.proofs.Recording.{leading-le}
-use Rattle.disc.proofs.Order.{leading-at-blank, leading-past-recorded}
 use Rattle.disc.proofs.kinds.boundary.Statement.{statement}
 use Rattle.disc.proofs.kinds.boundary.Tie as tie
 
-abbrev Inv-loop : tie.InvT-loop
-Inv-loop kinds low₀ high₀ low high =
-    (low ≤ high) × (high ≤ length kinds) × (inOrder kinds ≡ true → (low ≤ leading kinds) × (leading kinds ≤ high))
+stands-requires : tie.Need-stands-requires
+stands-requires c κs = search needs
 
-abbrev μ-loop : tie.MeasureT-loop
-μ-loop kinds low₀ high₀ low high = high - low
+returns : tie.Need-returns
+returns c = c .before .stands .ensures (c .if1 .taken)
 
-loop-holds : tie.Need-loop-holds Inv-loop μ-loop
-loop-holds c = (omega arith, omega arith, λ e. (omega arith, leading-le (c .args .kinds .now)))
+halved-requires : tie.Need-halved-requires
+halved-requires c κs = search needs
 
-sub-middle : tie.Need-sub-middle Inv-loop μ-loop
-sub-middle c = omega arith
-
-add-middle : tie.Need-add-middle Inv-loop μ-loop
-add-middle c = search needs
-
-shared-slice-read-if1 : tie.Need-shared-slice-read-if1 Inv-loop μ-loop
-shared-slice-read-if1 c = omega arith
-
-loop-less : tie.Need-loop-less Inv-loop μ-loop
-loop-less c = omega arith
-
-loop-again : tie.Need-loop-again Inv-loop μ-loop
-loop-again c =
-    let p = c .before .before .before in
-    let ks : List ℕ = p .before .args .kinds .now in
-    let inv = p .loop .inv in
-    (omega arith, omega arith, λ e. (inv .2 e .0, leading-at-blank ks _ (c .if1 .taken)))
-
-add-low : tie.Need-add-low Inv-loop μ-loop
-add-low c = search needs
-
-loop-less-2 : tie.Need-loop-less-2 Inv-loop μ-loop
-loop-less-2 c = omega arith
-
-loop-again-2 : tie.Need-loop-again-2 Inv-loop μ-loop
-loop-again-2 c =
-    let p = c .before .before .before in
-    let ks : List ℕ = p .before .args .kinds .now in
-    let inv = p .loop .inv in
-    (omega arith, omega arith, λ e. (let past = leading-past-recorded ks _ e (c .if1 .left) in omega (arith, past), inv .2 e .1))
-
-returns : tie.Need-returns Inv-loop μ-loop
-returns c =
-    let inv = c .before .loop .inv in
-    (omega arith, λ e. (let low = inv .2 e .0 in let high = inv .2 e .1 in omega (arith, low, high)))
+returns-2 : tie.Need-returns-2
+returns-2 c = search needs
 
 pub boundary-spec : {M : Type 1} → statement M
-boundary-spec =
-    tie.close
-    (tie.spec
-    Inv-loop
-    μ-loop
-    loop-holds
-    sub-middle
-    add-middle
-    shared-slice-read-if1
-    loop-less
-    loop-again
-    add-low
-    loop-less-2
-    loop-again-2
-    returns)
+boundary-spec = tie.close (tie.spec stands-requires returns halved-requires returns-2)

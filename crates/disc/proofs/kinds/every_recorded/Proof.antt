@@ -1,6 +1,6 @@
--- `disc::kinds::every_recorded` meets its contract: the least and the largest so far, and what is left of both halves, make the answer.
+-- `disc::kinds::every_recorded` meets its contract: the largest so far, and what is left of both halves, make the answer.
 -- Assumes nothing.
-use Prim.Native.Nat.{ℕ, _+_, _-_, _/_, _≤_}
+use Prim.Native.Nat.{ℕ, _+_, _-_, _≤_}
 use native.Mathlib.Omega.{arith}
 use mathlib.Core.Path.{_≡_, sym, ap, ap₂, _∙_}
 use mathlib.Core.Bool.{Bool, _&&_}
@@ -8,46 +8,52 @@ use mathlib.Core.List.{List}
 use lib.Dec.{ltb, leb}
 use lib.ListN.{length, getD}
 use Rattle.le.specs.Bytes.{every}
-use Rattle.disc.proofs.Order.{bounds-taken, leftOf, pair-taken, all-left, none-left}
+use Rattle.disc.proofs.Order.{leftOf, pair-taken, all-left, none-left}
 use Rattle.disc.proofs.kinds.every_recorded.Statement.{statement}
 use Rattle.disc.proofs.kinds.every_recorded.Tie as tie
 
+abbrev recordedKind : ℕ → Bool
+recordedKind k = ltb 0 k && leb k 3
+
 abbrev Inv-loop : tie.InvT-loop
-Inv-loop kinds half turns least₀ most₀ i₀ least most i = (i ≤ turns) × (leftOf (λ k. ltb 0 k && leb k 3) kinds half turns i (ltb 0 least && leb most 3) ≡ every (λ k. ltb 0 k && leb k 3) kinds)
+Inv-loop kinds turns half most₀ i₀ most i = (i ≤ turns) × (leftOf recordedKind kinds half turns i (ltb most 3) ≡ every recordedKind kinds)
 
 abbrev μ-loop : tie.MeasureT-loop
-μ-loop kinds half turns least₀ most₀ i₀ least most i = turns - i
+μ-loop kinds turns half most₀ i₀ most i = turns - i
 
--- the entry of the function
-abbrev start-of : tie.At-loop Inv-loop μ-loop → tie.Start Inv-loop μ-loop
-start-of c = c .before .before
+-- the kinds, the turns and the half, where the turns are known
+abbrev ks : tie.After-turns Inv-loop μ-loop → List ℕ
+ks c = c .before .before .args .kinds .now
 
-sub-turns : tie.Need-sub-turns Inv-loop μ-loop
-sub-turns c = omega arith
+abbrev turns : tie.After-turns Inv-loop μ-loop → ℕ
+turns c = c .turns .result
+
+abbrev half : tie.After-turns Inv-loop μ-loop → ℕ
+half c = length (ks c) - turns c
+
+turns-requires : tie.Need-turns-requires Inv-loop μ-loop
+turns-requires c κs = tt
+
+sub-half : tie.Need-sub-half Inv-loop μ-loop
+sub-half c = c .turns .ensures .0
 
 loop-holds : tie.Need-loop-holds Inv-loop μ-loop
-loop-holds c = (omega arith, let ks : List ℕ = c .before .args .kinds .now in all-left (λ k. ltb 0 k && leb k 3) ks (length ks / 2) (length ks - length ks / 2) (omega arith))
+loop-holds c = (omega arith, all-left recordedKind (ks c) (half c) (turns c) (let wide = c .turns .ensures .1 in omega (arith, wide)))
 
 add-j : tie.Need-add-j Inv-loop μ-loop
-add-j c = omega arith
+add-j c = let few = c .before .before .turns .ensures .0 in omega (arith, few)
 
-shared-slice-read-smaller : tie.Need-shared-slice-read-smaller Inv-loop μ-loop
-shared-slice-read-smaller c = omega arith
+shared-slice-read-lowered : tie.Need-shared-slice-read-lowered Inv-loop μ-loop
+shared-slice-read-lowered c = let few = c .before .before .before .turns .ensures .0 in omega (arith, few)
 
-shared-slice-read-smaller-2 : tie.Need-shared-slice-read-smaller-2 Inv-loop μ-loop
-shared-slice-read-smaller-2 c = omega arith
+lowered-requires : tie.Need-lowered-requires Inv-loop μ-loop
+lowered-requires c κs = tt
 
-smaller-requires : tie.Need-smaller-requires Inv-loop μ-loop
-smaller-requires c κs = tt
+shared-slice-read-lowered-2 : tie.Need-shared-slice-read-lowered-2 Inv-loop μ-loop
+shared-slice-read-lowered-2 c = let few = c .before .before .before .before .before .turns .ensures .0 in omega (arith, few)
 
-smaller-requires-2 : tie.Need-smaller-requires-2 Inv-loop μ-loop
-smaller-requires-2 c κs = tt
-
-shared-slice-read-larger : tie.Need-shared-slice-read-larger Inv-loop μ-loop
-shared-slice-read-larger c = omega arith
-
-shared-slice-read-larger-2 : tie.Need-shared-slice-read-larger-2 Inv-loop μ-loop
-shared-slice-read-larger-2 c = omega arith
+lowered-requires-2 : tie.Need-lowered-requires-2 Inv-loop μ-loop
+lowered-requires-2 c κs = tt
 
 larger-requires : tie.Need-larger-requires Inv-loop μ-loop
 larger-requires c κs = tt
@@ -63,30 +69,24 @@ loop-less c = omega arith
 
 loop-again : tie.Need-loop-again Inv-loop μ-loop
 loop-again c =
-    let m = c .before .before .before .before in let p = m .before .before .before .before .before in
-    let ks : List ℕ = start-of p .args .kinds .now in
-    let half : ℕ = length ks / 2 in
-    let turns : ℕ = length ks - half in
-    let l = p .loop in
-    let x : ℕ = getD ks (l .i) 0 in
-    let y : ℕ = getD ks (half + l .i) 0 in
-    let held : Bool = ltb 0 (l .least) && leb (l .most) 3 in
-    let least : ltb 0 (m .smaller2 .result) ≡ (ltb 0 (l .least) && (ltb 0 x && ltb 0 y)) = m .smaller2 .ensures ∙ ap (λ (t : Bool). ltb 0 (l .least) && t) (m .before .smaller .ensures) in
-    let most : leb (c .larger2 .result) 3 ≡ (leb (l .most) 3 && (leb x 3 && leb y 3)) = c .larger2 .ensures .0 ∙ ap (λ (t : Bool). leb (l .most) 3 && t) (c .before .larger .ensures .0) in (
+    let two = c .before .before in let one = two .before .before in
+    let p = one .before .before .before in let t = p .before in let l = p .loop in
+    let x : ℕ = getD (ks t) (l .i) 0 in
+    let y : ℕ = getD (ks t) (half t + l .i) 0 in
+    let pair : ltb (c .before .larger .result) 3 ≡ (recordedKind x && recordedKind y) = c .before .larger .ensures .0 ∙ ap₂ _&&_ (one .lowered .ensures) (two .lowered2 .ensures) in
+    let most : ltb (c .larger2 .result) 3 ≡ (ltb (l .most) 3 && (recordedKind x && recordedKind y)) = c .larger2 .ensures .0 ∙ ap (λ (b : Bool). ltb (l .most) 3 && b) pair in
+    let few = t .turns .ensures .0 in (
       omega arith,
-      ap (leftOf (λ k. ltb 0 k && leb k 3) ks half turns (l .i + 1)) (ap₂ _&&_ least most ∙ bounds-taken (ltb 0 (l .least)) (leb (l .most) 3) (ltb 0 x) (ltb 0 y) (leb x 3) (leb y 3))
-          ∙ pair-taken (λ k. ltb 0 k && leb k 3) ks half turns (l .i) held (omega arith) (omega arith)
+      ap (leftOf recordedKind (ks t) (half t) (turns t) (l .i + 1)) most
+          ∙ pair-taken recordedKind (ks t) (half t) (turns t) (l .i) (ltb (l .most) 3) (omega arith) (omega (arith, few))
           ∙ l .inv .1,
     )
 
 returns : tie.Need-returns Inv-loop μ-loop
 returns c =
-    let p = c .before in
-    let ks : List ℕ = start-of p .args .kinds .now in
-    let half : ℕ = length ks / 2 in
-    let turns : ℕ = length ks - half in
-    let l = p .loop in
-    sym (none-left (λ k. ltb 0 k && leb k 3) ks half turns (l .i) (ltb 0 (l .least) && leb (l .most) 3) (omega arith) (omega arith)) ∙ l .inv .1
+    let p = c .before in let t = p .before in let l = p .loop in
+    let few = t .turns .ensures .0 in
+    sym (none-left recordedKind (ks t) (half t) (turns t) (l .i) (ltb (l .most) 3) (omega arith) (omega (arith, few))) ∙ l .inv .1
 
 pub every-recorded-spec : {M : Type 1} → statement M
 every-recorded-spec =
@@ -94,15 +94,14 @@ every-recorded-spec =
     (tie.spec
     Inv-loop
     μ-loop
-    sub-turns
+    turns-requires
+    sub-half
     loop-holds
     add-j
-    shared-slice-read-smaller
-    shared-slice-read-smaller-2
-    smaller-requires
-    smaller-requires-2
-    shared-slice-read-larger
-    shared-slice-read-larger-2
+    shared-slice-read-lowered
+    lowered-requires
+    shared-slice-read-lowered-2
+    lowered-requires-2
     larger-requires
     larger-requires-2
     add-i

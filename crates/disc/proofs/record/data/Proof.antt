@@ -12,11 +12,11 @@ use borrow.Author.Needs.{needs}
 use Rattle.disc.proofs.record.data.Statement.{statement}
 use Rattle.disc.proofs.record.data.Tie as tie
 
-mul-put-text : tie.Need-mul-put-text
-mul-put-text c = search needs
+mul-put-block : tie.Need-mul-put-block
+mul-put-block c = search needs
 
-put-text-requires : tie.Need-put-text-requires
-put-text-requires c κs = search needs
+put-block-requires : tie.Need-put-block-requires
+put-block-requires c κs = search needs
 
 slice-write-kinds : tie.Need-slice-write-kinds
 slice-write-kinds c = search needs
@@ -35,7 +35,7 @@ returns c =
     let block : List ℕ = s .args .block .now in
     let fits : sectorLength * s .args .b + length block ≤ length image = omega (arith, s .pre) in
     let at : ℕ = sectorLength * s .args .b in
-    (p .put-text .ensures ∙ sets-eq block image at fits ∙ append-assoc (take at image) block (drop (at + length block) image), refl)
+    (p .put-block .ensures ∙ sets-eq block image at fits ∙ append-assoc (take at image) block (drop (at + length block) image), refl)
 
 pub data-spec : {M : Type 1} → statement M
-data-spec = tie.close (tie.spec mul-put-text put-text-requires slice-write-kinds same-length same-length-2 returns)
+data-spec = tie.close (tie.spec mul-put-block put-block-requires slice-write-kinds same-length same-length-2 returns)

@@ -7,13 +7,15 @@ use mathlib.Core.Bool.{true, false}
 use mathlib.Core.List.{List}
 use lib.ListN.{length}
 use borrow.Author.Tests.{not-true, not-false}
-use Rattle.vat.specs.Table.{sectorLength, wholeLength, previousOf}
-use Rattle.vat.proofs.Theorems.{Recognised, recognised}
+use Rattle.vat.specs.Table.{sectorLength, tableLength, entryCount, previousOf}
+use Rattle.vat.proofs.Frame.{table-short}
+use Rattle.vat.proofs.Theorems.{Recognised}
 use Rattle.disc.specs.declared.Walk.the-variants.{Reached}
-use Rattle.disc.specs.Disc.{Disc, lent, kindAt, sectorAt}
-use Rattle.disc.specs.Tables.{tableAt, previousAt}
+use Rattle.disc.specs.Disc.{Disc, lent, sectorAt}
+use Rattle.disc.specs.Tables.{below, tableAt, bytesAt, previousAt}
 use Rattle.disc.proofs.Recording.{sized-tells}
-use Rattle.disc.proofs.Found.{part-sector, sector-end, table-within, step-ended, step-broken, step-reached}
+use Rattle.disc.proofs.Told.{recognised-at}
+use Rattle.disc.proofs.Found.{sector-end, table-within, step-ended, step-broken, step-reached}
 use borrow.Author.Needs.{needs}
 use Rattle.disc.proofs.tables.step_back.Statement.{statement}
 use Rattle.disc.proofs.tables.step_back.Tie as tie
@@ -22,42 +24,38 @@ use Rattle.disc.proofs.tables.step_back.Tie as tie
 abbrev start-of : tie.After-previous → tie.Start
 start-of c = c .before .before .before .before
 
--- the disc, and that the block lies on it
+-- the disc, and what its table tells
 abbrev D : tie.Start → Disc
 D s = lent (s .args .image .now) (s .args .kinds .now)
+
+abbrev T : tie.Start → List ℕ
+T s = bytesAt (D s) (s .args .b)
 
 within : (s : tie.Start) → s .args .b < length (D s .kinds)
 within s = table-within (D s) (s .args .b) (s .pre .1)
 
-told : (s : tie.Start) → Recognised (kindAt (D s) (s .args .b)) (sectorAt (D s) (s .args .b)) (s .args .b)
-told s = recognised (kindAt (D s) (s .args .b)) (sectorAt (D s) (s .args .b)) (s .args .b) (s .pre .1)
+told : (s : tie.Start) → Recognised (below (D s) (s .args .b)) (sectorAt (D s) (s .args .b)) (s .args .b)
+told s = recognised-at (D s) (s .args .b) (s .pre .1)
 
 -- the previous table that was read
 read-back : (c : tie.After-previous) → let s = start-of c in c .previous .result ≡ previousAt (D s) (s .args .b)
-read-back c =
-    let s = start-of c in
-    c .previous .ensures ∙ ap previousOf (part-sector (D s) (s .args .b))
+unfolding previousAt
+read-back c = let s = start-of c in c .previous .ensures ∙ ap previousOf (c .before .bytes-at .ensures (D s .kinds))
 
-mul-at : tie.Need-mul-at
-mul-at c = search needs
-
-add-end : tie.Need-add-end
-add-end c = search needs
-
-sub-previous : tie.Need-sub-previous
-sub-previous c = search needs
-
-part-previous-start : tie.Need-part-previous-start
-part-previous-start c = search needs
-
-part-previous-end : tie.Need-part-previous-end
-part-previous-end c = let s = c .before .before in omega (arith, sector-end (D s) (sized-tells (D s) (s .pre .0)) (s .args .b) (within s))
+bytes-at-requires : tie.Need-bytes-at-requires
+unfolding sectorAt
+bytes-at-requires c κs =
+    let s = c .before .before in
+    (sector-end (D s) (sized-tells (D s) (s .pre .0)) (s .args .b) (within s), told s .frame .below)
 
 previous-requires : tie.Need-previous-requires
+unfolding bytesAt
 previous-requires c κs =
     let s = c .before .before .before in
-    let same = part-sector (D s) (s .args .b) in
-    (ap length same ∙ told s .whole, subst (λ (l : List ℕ). wholeLength l < sectorLength) (sym same) (told s .frame .below))
+    let same = c .bytes-at .ensures (D s .kinds) in
+    let long : length (T s) ≡ tableLength (entryCount (T s)) = told s .around .long in
+    let short : length (T s) < sectorLength = table-short (below (D s) (s .args .b)) (sectorAt (D s) (s .args .b)) (told s .whole) (told s .frame .below) in
+    (omega (arith, ap length same, long), omega (arith, ap length same, short))
 
 returns : tie.Need-returns
 returns c =
@@ -86,11 +84,7 @@ pub step-back-spec : {M : Type 1} → statement M
 step-back-spec =
     tie.close
     (tie.spec
-    mul-at
-    add-end
-    sub-previous
-    part-previous-start
-    part-previous-end
+    bytes-at-requires
     previous-requires
     returns
     table-at-requires

@@ -1,6 +1,5 @@
 -- `disc::tables::time_at` meets its contract: the twelve bytes within the sector.
 -- Assumes nothing.
-use mathlib.Core.List.{[]}
 use Rattle.disc.specs.Disc.{lent}
 use Rattle.disc.proofs.Found.{part-time}
 use borrow.Author.Needs.{needs}
@@ -26,7 +25,7 @@ part-result-end : tie.Need-part-result-end
 part-result-end c = search needs
 
 returns : tie.Need-returns
-returns c = let s = c .before in part-time (lent (s .args .image .now) []) (s .args .b)
+returns c = λ kinds. let s = c .before in part-time (lent (s .args .image .now) kinds) (s .args .b)
 
 pub time-at-spec : {M : Type 1} → statement M
 time-at-spec =

@@ -6,7 +6,7 @@ use mathlib.Core.Path.{_≡_, refl, sym, ap, _∙_}
 use mathlib.Core.List.{List}
 use lib.ListN.{length, set, drop, length-set, drop-of-length-le}
 use lib.Seq.{sets}
-use Rattle.volume.proofs.State.{sets-all}
+use Rattle.le.proofs.Runs.{sets-all}
 use Rattle.listing.specs.Listing.{kindsOf}
 use Rattle.listing.proofs.Input.{length-kinds, kind-put}
 use Rattle.listing.proofs.form.fill_kinds.Statement.{statement}

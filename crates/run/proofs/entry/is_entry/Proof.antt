@@ -10,7 +10,7 @@ use lib.Bits.{bitAnd, and-mask}
 use lib.ListN.{length}
 use borrow.Author.Tests.{eq-eqb, ne-eqb, le-leb, lt-leb, not-true, not-false}
 use Rattle.le.specs.Field.{holds}
-use Rattle.vat.specs.Table.{sectorLength, entryRows, lengthRows, allocationType}
+use Rattle.vat.specs.Table.{sectorLength, tagVersion, entryRows, lengthRows, allocationType}
 use Rattle.vat.proofs.Frame.{lengths}
 use Rattle.extent.specs.Extents.{descriptorsLength, extentsFrom, totalLength}
 use Rattle.run.specs.Entry.{mostExtents, descriptorsAt, extentCount, extentsOf, laid, fileType, isEntry}
@@ -45,7 +45,7 @@ abbrev B : tie.After-entry-held → ℕ
 B c = start-of c .args .b
 
 -- what each test found of the sector
-rows : (c : tie.After-entry-held) → c .entry-held .result ≡ holds (S c) (entryRows fileType (B c))
+rows : (c : tie.After-entry-held) → c .entry-held .result ≡ holds (S c) (entryRows tagVersion fileType (B c))
 rows c = c .entry-held .ensures
 
 flags : (c : tie.After-read16) → bitAnd (c .read16 .result) 7 ≡ allocationType (S (entry-of c))
@@ -72,7 +72,7 @@ extents c =
 whole : (c : tie.After-entry-held) → eqb (length (S c)) sectorLength ≡ true
 whole c = eq-eqb (length (S c)) sectorLength (start-of c .pre .0)
 
-typed : (c : tie.Else1) → holds (S (c .before)) (entryRows fileType (B (c .before))) ≡ true
+typed : (c : tie.Else1) → holds (S (c .before)) (entryRows tagVersion fileType (B (c .before))) ≡ true
 typed c = sym (rows (c .before)) ∙ not-false (c .before .entry-held .result) (c .if1 .left)
 
 plain : (c : tie.Else2) → eqb (allocationType (S (entry-of (c .before)))) 0 ≡ true
@@ -98,7 +98,7 @@ returns : tie.Need-returns
 unfolding isEntry
 returns c =
     let e = c .before in
-    let wrong : holds (S e) (entryRows fileType (B e)) ≡ false = sym (rows e) ∙ not-true (e .entry-held .result) (c .if1 .taken) in
+    let wrong : holds (S e) (entryRows tagVersion fileType (B e)) ≡ false = sym (rows e) ∙ not-true (e .entry-held .result) (c .if1 .taken) in
     rw (whole e, wrong)
 
 read16-requires : tie.Need-read16-requires

@@ -8,7 +8,7 @@ use lib.ListN.{length, replicate}
 use lib.Seq.{sets}
 use Rattle.le.specs.Field.{lay}
 use Rattle.tag.specs.Tag.{seal}
-use Rattle.vat.specs.Table.{entryRows, lengthRows}
+use Rattle.vat.specs.Table.{tagVersion, entryRows, lengthRows}
 use Rattle.vat.specs.Sector.{ownRows, stationAt, stationName}
 use Rattle.extent.specs.declared.Extent.{Extent}
 use Rattle.run.specs.Entry.{mostExtents, descriptorsAt, fileType, fileRows, paired}
@@ -61,7 +61,7 @@ laid : (c : tie.After-seal-arg) → after-file c .put-file .last .0 ≡ laidOver
 laid c =
     let s = start-of c in
     let es : List Extent = Es c in
-    let plain = after-entry c .put-entry .ensures ∙ ap (λ (l : List ℕ). lay l (entryRows fileType (s .args .b))) (filled c) in
+    let plain = after-entry c .put-entry .ensures ∙ ap (λ (l : List ℕ). lay l (entryRows tagVersion fileType (s .args .b))) (filled c) in
     let counts =
     ap₂ (λ (d n : ℕ). lengthRows 0 d n) (sym (length-paired (s .args .words .now) (s .pre .1))) (after-lengths c .before .total-length .ensures) in
     let sizes = after-lengths c .put-lengths .ensures ∙ ap₂ lay plain counts in

@@ -60,7 +60,7 @@ returns-2 c =
     let strategy = ap₂ _&&_ (ap (λ (x : ℕ). eqb x 4) (y .read163 .ensures)) typed in
     let location = ap₂ _&&_ (ap (λ (x : ℕ). eqb x (a .b)) (b .read32 .ensures)) strategy in
     let zero = ap₂ _&&_ (ap (λ (x : ℕ). eqb x 0) (z .read8 .ensures)) location in
-    rw right (ap₂ _&&_ (ap (λ (x : ℕ). eqb x 2) (v .read162 .ensures)) zero)
+    rw right (ap₂ _&&_ (ap (λ (x : ℕ). eqb x (a .version)) (v .read162 .ensures)) zero)
 
 pub entry-held-spec : {M : Type 1} → statement M
 entry-held-spec =

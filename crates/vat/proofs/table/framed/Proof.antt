@@ -1,14 +1,13 @@
 -- `vat::table::framed` meets its contract: the plain rows decide first, then the table's place, then the rest together.
 -- Assumes nothing.
 use Prim.Native.Nat.{ℕ, _<_}
-use native.Mathlib.Omega.{arith}
 use mathlib.Core.Path.{_≡_, sym, _∙_}
 use mathlib.Core.Bool.{true, false, and-false}
 use mathlib.Core.List.{List}
 use lib.Bits.{and-mask}
 use borrow.Author.Tests.{not-true, not-false}
 use Rattle.le.specs.Field.{holds}
-use Rattle.vat.specs.Table.{sectorLength, plainRows, embedded, tableName, wholeLength, placed, framed}
+use Rattle.vat.specs.Table.{sectorLength, plainRows, embedded, wholeLength, placed, framed}
 use Rattle.vat.proofs.Frame.{placed-below}
 use borrow.Author.Needs.{needs}
 use Rattle.vat.proofs.table.framed.Statement.{statement}
@@ -21,9 +20,6 @@ start-of c = c .before .before .before
 abbrev plain-of : tie.Else2 → tie.Else1
 plain-of c = c .before .before .before
 
-abbrev sized-of : tie.After-regid-at → tie.Else2
-sized-of c = c .before .before
-
 abbrev S : tie.Else1 → List ℕ
 S c = start-of c .args .s .now
 
@@ -32,9 +28,6 @@ plain c = sym (c .before .plain-held .ensures) ∙ not-false (c .before .plain-h
 
 put : (c : tie.Else2) → placed (S (plain-of c)) ≡ true
 put c = sym (c .before .placed .ensures) ∙ not-false (c .before .placed .result) (c .if2 .left)
-
-below : (c : tie.Else2) → wholeLength (S (plain-of c)) < sectorLength
-below c = placed-below (S (plain-of c)) (put c)
 
 plain-held-requires : tie.Need-plain-held-requires
 plain-held-requires c κs = search needs
@@ -60,30 +53,12 @@ returns-2 c =
     rw (plain at, wrong) (sym (and-false (embedded (S at))))
 
 lengths-held-requires : tie.Need-lengths-held-requires
-lengths-held-requires c κs = (start-of (plain-of c) .pre, below c)
-
-regid-at-requires : tie.Need-regid-at-requires
-regid-at-requires c κs = let e = c .before in (start-of (plain-of e) .pre, below e)
-
-add-holds-text : tie.Need-add-holds-text
-add-holds-text c = omega (arith, c .regid-at .ensures, below (sized-of c))
-
-slice-aggregate-holds-text : tie.Need-slice-aggregate-holds-text
-slice-aggregate-holds-text c = search needs
-
-holds-text-requires : tie.Need-holds-text-requires
-holds-text-requires c κs = let e = sized-of (c .before) in omega (arith, c .before .regid-at .ensures, below e, start-of (plain-of e) .pre)
-
-previous-requires : tie.Need-previous-requires
-previous-requires c κs = let e = sized-of (c .before .before) in (start-of (plain-of e) .pre, below e)
-
-may-name-requires : tie.Need-may-name-requires
-may-name-requires c κs = search needs
+lengths-held-requires c κs = (start-of (plain-of c) .pre, placed-below (S (plain-of c)) (put c))
 
 returns-3 : tie.Need-returns-3
-unfolding framed tableName
+unfolding framed
 returns-3 c =
-    let e = sized-of (c .before .before .before .before) in let at = plain-of e in
+    let e = c .before in let at = plain-of e in
     rw (plain at, put e) (cc (and-mask (e .before .before .read16 .result) 3))
 
 pub framed-spec : {M : Type 1} → statement M
@@ -96,10 +71,4 @@ framed-spec =
     placed-requires
     returns-2
     lengths-held-requires
-    regid-at-requires
-    add-holds-text
-    slice-aggregate-holds-text
-    holds-text-requires
-    previous-requires
-    may-name-requires
     returns-3)

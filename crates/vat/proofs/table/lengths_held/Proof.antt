@@ -1,4 +1,4 @@
--- `vat::table::lengths_held` meets its contract: three fields against the two lengths, the fourth being one of them.
+-- `vat::table::lengths_held` meets its contract: two fields against the two lengths, which are held against themselves.
 -- Assumes nothing.
 use Prim.Native.Nat.{ℕ, _+_}
 use mathlib.Core.Path.{_≡_, refl, sym, ap₂, _∙_}
@@ -7,22 +7,13 @@ use mathlib.Core.List.{List}
 use lib.Dec.{eqb}
 use borrow.Author.Tests.{eq-eqb}
 use Rattle.le.specs.Field.{readLe, holds}
-use Rattle.vat.specs.Table.{lengthRows, attributeLength, entryCount, tableLength}
+use Rattle.vat.specs.Table.{lengthRows, attributeLength, describedLength}
 use borrow.Author.Needs.{needs}
 use Rattle.vat.proofs.table.lengths_held.Statement.{statement}
 use Rattle.vat.proofs.table.lengths_held.Tie as tie
 
-entry-count-requires : tie.Need-entry-count-requires
-entry-count-requires c κs = search needs
-
-mul-length : tie.Need-mul-length
-mul-length c = search needs
-
-add-length : tie.Need-add-length
-add-length c = search needs
-
-read32-requires : tie.Need-read32-requires
-read32-requires c κs = search needs
+described-length-requires : tie.Need-described-length-requires
+described-length-requires c κs = search needs
 
 read64-requires : tie.Need-read64-requires
 read64-requires c κs = search needs
@@ -45,31 +36,27 @@ add-summed c = search needs
 add-summed-2 : tie.Need-add-summed-2
 add-summed-2 c = search needs
 
--- the attribute length is held against itself
-own : (s : List ℕ) → eqb (readLe 4 s 168) (attributeLength s) ≡ true
-unfolding attributeLength
-own s = eq-eqb (readLe 4 s 168) (readLe 4 s 168) refl
+-- both lengths are held against themselves
+own : (s : List ℕ) → (eqb (readLe 4 s 168) (attributeLength s) ≡ true) × (eqb (readLe 4 s 172) (describedLength s) ≡ true)
+unfolding attributeLength describedLength
+own s = (eq-eqb (readLe 4 s 168) (readLe 4 s 168) refl, eq-eqb (readLe 4 s 172) (readLe 4 s 172) refl)
 
 returns : tie.Need-returns
 unfolding holds lengthRows
 returns c =
-    let summed = c .before in let information = summed .before in let descriptors = information .before in let counted = descriptors .before in
-    let s : List ℕ = counted .before .before .args .s .now in
-    let n = counted .entry-count .ensures in
-    let d = ap₂ (λ (x k : ℕ). eqb x (tableLength k)) (descriptors .read32 .ensures) n in
-    let i = ap₂ (λ (x k : ℕ). eqb x (tableLength k)) (information .read64 .ensures) n in
-    let lengths = ap₂ (λ (a k : ℕ). 160 + a + tableLength k) (c .attribute-length .ensures) n in
-    let t = ap₂ eqb (summed .read16 .ensures) lengths ∙ sym (and-true (eqb (readLe 2 s 10) (160 + attributeLength s + tableLength (entryCount s)))) in
-    rw (own s) (ap₂ _&&_ d (ap₂ _&&_ i t))
+    let summed = c .before in let information = summed .before in let described = information .before in
+    let s : List ℕ = described .before .before .args .s .now in
+    let n = described .described-length .ensures in
+    let i = ap₂ eqb (information .read64 .ensures) n in
+    let sum = ap₂ (λ (a k : ℕ). 160 + a + k) (c .attribute-length .ensures) n in
+    let t = ap₂ eqb (summed .read16 .ensures) sum ∙ sym (and-true (eqb (readLe 2 s 10) (160 + attributeLength s + describedLength s))) in
+    rw (own s .0, own s .1) (ap₂ _&&_ i t)
 
 pub lengths-held-spec : {M : Type 1} → statement M
 lengths-held-spec =
     tie.close
     (tie.spec
-    entry-count-requires
-    mul-length
-    add-length
-    read32-requires
+    described-length-requires
     read64-requires
     cast-information
     read16-requires

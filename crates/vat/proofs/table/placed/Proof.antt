@@ -1,6 +1,6 @@
 -- `vat::table::placed` meets its contract: both lengths, tested as the definition tests them.
 -- Assumes nothing.
-use Prim.Native.Nat.{ℕ, _+_, _*_, _%_}
+use Prim.Native.Nat.{ℕ, _+_, _%_}
 use mathlib.Core.Path.{ap₂}
 use mathlib.Core.Bool.{_&&_}
 use lib.Dec.{eqb, ltb}
@@ -14,17 +14,11 @@ attribute-length-requires c κs = search needs
 cast-attributes : tie.Need-cast-attributes
 cast-attributes c = search needs
 
-entry-count-requires : tie.Need-entry-count-requires
-entry-count-requires c κs = search needs
+described-length-requires : tie.Need-described-length-requires
+described-length-requires c κs = search needs
 
-cast-table : tie.Need-cast-table
-cast-table c = search needs
-
-mul-table : tie.Need-mul-table
-mul-table c = search needs
-
-add-table : tie.Need-add-table
-add-table c = search needs
+cast-described : tie.Need-cast-described
+cast-described c = search needs
 
 add-result : tie.Need-add-result
 add-result c = search needs
@@ -33,7 +27,7 @@ add-result-2 : tie.Need-add-result-2
 add-result-2 c = search needs
 
 returns : tie.Need-returns
-returns c = ap₂ (λ (a n : ℕ). eqb (a % 4) 0 && ltb (176 + a + (4 * n + 36)) 2048) (c .before .attribute-length .ensures) (c .entry-count .ensures)
+returns c = ap₂ (λ (a n : ℕ). eqb (a % 4) 0 && ltb (176 + a + n) 2048) (c .before .attribute-length .ensures) (c .described-length .ensures)
 
 pub placed-spec : {M : Type 1} → statement M
 placed-spec =
@@ -41,10 +35,8 @@ placed-spec =
     (tie.spec
     attribute-length-requires
     cast-attributes
-    entry-count-requires
-    cast-table
-    mul-table
-    add-table
+    described-length-requires
+    cast-described
     add-result
     add-result-2
     returns)

@@ -8,15 +8,15 @@ use lib.Dec.{eqb}
 use borrow.Author.Tests.{not-true, not-false}
 use Rattle.le.specs.Field.{row, readLe, holds}
 use Rattle.le.proofs.Rows.{holds-append}
-use Rattle.vat.specs.Table.{entryRows, plainRows}
+use Rattle.vat.specs.Table.{tagVersion, entryRows, plainRows}
 use borrow.Author.Needs.{needs}
 use Rattle.vat.proofs.table.plain_held.Statement.{statement}
 use Rattle.vat.proofs.table.plain_held.Tie as tie
 
 -- the rows of every file entry, and the link count
-parted : (s : List ℕ) (b : ℕ) (t : Bool) → holds s (entryRows 0 b) ≡ t → holds s (plainRows b) ≡ (t && eqb (readLe 2 s 48) 0)
+parted : (s : List ℕ) (b : ℕ) (t : Bool) → holds s (entryRows tagVersion 0 b) ≡ t → holds s (plainRows b) ≡ (t && eqb (readLe 2 s 48) 0)
 unfolding holds plainRows
-parted s b t e = holds-append (entryRows 0 b) (row 48 2 0 ∷ []) s ∙ ap₂ _&&_ e (and-true (eqb (readLe 2 s 48) 0))
+parted s b t e = holds-append (entryRows tagVersion 0 b) (row 48 2 0 ∷ []) s ∙ ap₂ _&&_ e (and-true (eqb (readLe 2 s 48) 0))
 
 entry-held-requires : tie.Need-entry-held-requires
 entry-held-requires c κs = search needs

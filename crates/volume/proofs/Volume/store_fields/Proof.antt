@@ -4,7 +4,8 @@ use Prim.Native.Nat.{ℕ, _<_}
 use native.Mathlib.Omega.{arith}
 use mathlib.Core.Path.{_∙_}
 use lib.ListN.{getD}
-use Rattle.volume.proofs.Standing.{all-bytes, fields-put}
+use Rattle.le.proofs.Runs.{all-bytes}
+use Rattle.volume.proofs.Standing.{fields-put}
 use borrow.Author.Needs.{needs}
 use Rattle.volume.proofs.Volume.store_fields.Statement.{statement}
 use Rattle.volume.proofs.Volume.store_fields.Tie as tie

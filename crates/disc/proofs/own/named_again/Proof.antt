@@ -1,0 +1,138 @@
+-- `disc::own::named_again` meets its contract: the kind decides first, then the bytes, which the map has or which are made.
+-- Assumes nothing.
+use Prim.Native.Nat.{ℕ, _+_, _-_, _*_, _≤_}
+use native.Mathlib.Omega.{arith}
+use mathlib.Core.Path.{_≡_, sym, ap, _∙_}
+use mathlib.Core.List.{List}
+use lib.ListN.{length, take, drop, length-take}
+use Rattle.le.specs.Bytes.{holdsText}
+use Rattle.le.specs.Field.{words}
+use Rattle.le.proofs.Runs.{AllBytes, all-bytes}
+use Rattle.vat.specs.Table.{sectorLength}
+use Rattle.vat.specs.Sector.{tableBytes}
+use Rattle.vat.specs.Own.{bytesOf, ownSector}
+use Rattle.vat.proofs.Joined.{length-filled}
+use Rattle.vat.proofs.Made.{entries-alone}
+use Rattle.disc.specs.Disc.{Disc, lent, content}
+use Rattle.disc.specs.Again.{same}
+use Rattle.disc.proofs.Recording.{sized-tells}
+use Rattle.disc.proofs.Again.{again-read, again-not}
+use borrow.Author.Needs.{needs}
+use Rattle.disc.proofs.own.named_again.Statement.{statement}
+use Rattle.disc.proofs.own.named_again.Tie as tie
+
+-- the disc, and the own sector
+abbrev D : tie.Start → Disc
+D s = lent (s .args .image .now) (s .args .kinds .now)
+
+abbrev S : tie.Start → List ℕ
+S s = ownSector (tableBytes (words (s .args .n) (s .args .map .now) 0) (s .args .previous)) (s .args .i)
+
+long : (s : tie.Start) → length (S s) ≡ sectorLength
+long s = length-filled (drop (sectorLength * s .args .i) (tableBytes (words (s .args .n) (s .args .map .now) 0) (s .args .previous)))
+
+inside : (s : tie.Start) → sectorLength * s .args .o + sectorLength ≤ length (s .args .image .now)
+inside s = omega (arith, sized-tells (D s) (s .pre .0) .whole, s .pre .1)
+
+-- the places of the function, each found from a later one
+abbrev mapped : tie.Else1 → tie.After-shared-slice-known3
+mapped c = c .before .before
+
+abbrev start-of : tie.Else1 → tie.Start
+start-of c = mapped c .before .before .before
+
+-- each byte that is lent is one
+bytes : (c : tie.Else1) → AllBytes (start-of c .args .map .now)
+bytes c = all-bytes (start-of c .args .map .now) (λ k. omega (arith, mapped c .shared-slice-known3 .given k))
+
+-- bytes that are the own sector, compared with those at the block
+compared : (c : tie.Else1) (x : List ℕ) → x ≡ S (start-of c)
+    → holdsText (start-of c .args .image .now) (sectorLength * start-of c .args .o) x ≡ same (bytesOf (content (D (start-of c)) (start-of c .args .o))) (S (start-of c))
+compared c x e =
+    let s = start-of c in
+    ap (holdsText (s .args .image .now) (sectorLength * s .args .o)) e ∙ again-read (D s) (s .args .o) (S s) (long s) (c .if1 .left) (inside s)
+
+shared-slice-read-if1 : tie.Need-shared-slice-read-if1
+shared-slice-read-if1 c = search needs
+
+returns : tie.Need-returns
+returns c = let s = c .before .before .before .before .before in sym (again-not (D s) (s .args .o) (S s) (long s) (c .if1 .taken))
+
+mul-at : tie.Need-mul-at
+mul-at c = search needs
+
+mul-first : tie.Need-mul-first
+mul-first c = search needs
+
+add-end : tie.Need-add-end
+add-end c = search needs
+
+mul-if2 : tie.Need-mul-if2
+mul-if2 c = search needs
+
+sub-holds-text : tie.Need-sub-holds-text
+sub-holds-text c = search needs
+
+part-holds-text-start : tie.Need-part-holds-text-start
+part-holds-text-start c = search needs
+
+part-holds-text-end : tie.Need-part-holds-text-end
+part-holds-text-end c = search needs
+
+holds-text-requires : tie.Need-holds-text-requires
+holds-text-requires c κs =
+    let s = start-of (c .before .before) in let a = s .args in
+    let first : ℕ = sectorLength * a .i in
+    let short : length (take ((first + sectorLength) - first) (drop first (a .map .now))) ≤ sectorLength = rw (length-take ((first + sectorLength) - first) (drop first (a .map .now))) (omega arith) in
+    omega (arith, inside s, short)
+
+returns-2 : tie.Need-returns-2
+returns-2 c =
+    let t = c .before .before in let e = t .before in let a = start-of e .args in
+    let first : ℕ = sectorLength * a .i in
+    let count : (first + sectorLength) - first ≡ sectorLength = omega arith in
+    c .holds-text .ensures
+    ∙ compared e (take ((first + sectorLength) - first) (drop first (a .map .now)))
+    (ap (λ (k : ℕ). take k (drop first (a .map .now))) count
+    ∙ sym (entries-alone (a .n) (a .i) (a .map .now) (a .previous) (bytes e) (start-of e .pre .2) (omega (arith, t .if2 .taken))))
+
+slice-aggregate-own-sector : tie.Need-slice-aggregate-own-sector
+slice-aggregate-own-sector c = search needs
+
+own-sector-requires : tie.Need-own-sector-requires
+own-sector-requires c κs = search needs
+
+slice-aggregate-holds-text : tie.Need-slice-aggregate-holds-text
+slice-aggregate-holds-text c = search needs
+
+holds-text-requires-2 : tie.Need-holds-text-requires-2
+holds-text-requires-2 c κs =
+    let o = c .before .before in let s = start-of (o .before .before .before) in
+    let whole : length (o .own-sector .last .0) ≡ sectorLength = ap length (o .own-sector .ensures) ∙ long s in
+    omega (arith, inside s, whole)
+
+returns-3 : tie.Need-returns-3
+returns-3 c =
+    let o = c .before .before .before in
+    c .holds-text2 .ensures ∙ compared (o .before .before .before) (o .own-sector .last .0) (o .own-sector .ensures)
+
+pub named-again-spec : {M : Type 1} → statement M
+named-again-spec =
+    tie.close
+    (tie.spec
+    shared-slice-read-if1
+    returns
+    mul-at
+    mul-first
+    add-end
+    mul-if2
+    sub-holds-text
+    part-holds-text-start
+    part-holds-text-end
+    holds-text-requires
+    returns-2
+    slice-aggregate-own-sector
+    own-sector-requires
+    slice-aggregate-holds-text
+    holds-text-requires-2
+    returns-3)

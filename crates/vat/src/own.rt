@@ -1,0 +1,37 @@
+// A table in sectors of its own: these sectors made.
+use crate::table::SECTOR;
+ghost use mathlib.Core.Path.{_≡_};
+ghost use mathlib.Core.Logic.{_⊎_};
+ghost use Prim.Native.Nat.{_+_, _*_, _≤_, _<_};
+ghost use lib.ListN.{length};
+ghost use Rattle.le.specs.Field.{words};
+ghost use Rattle.vat.specs.Table.{sectorLength, tableLength};
+ghost use Rattle.vat.specs.Sector.{tableBytes};
+ghost use Rattle.vat.specs.Own.{mostOwn, ownSector};
+
+pub fn smaller(a: usize, b: usize) -> usize
+    ensures { λ r. ⌜ (r ≤ a) × (r ≤ b) × ((r ≡ a) ⊎ (r ≡ b)) ⌝ }
+{
+    if a < b {
+        return a;
+    }
+    b
+}
+
+// Own sector i of the table of the first n numbers that the bytes of a map hold: entries, then what of the tail stands in it, over zeros.
+pub fn own_sector(s: &mut [u8], map: &[u8], n: usize, previous: u32, i: usize)
+    requires { ⌜ (length (now s) ≡ sectorLength) × (4 * n ≤ length (now map)) × (i < mostOwn) × (sectorLength * i < tableLength n) ⌝ }
+    ensures { λ _. ⌜ now (s .exit) ≡ ownSector (tableBytes (words n (now (map .entry)) 0) previous) i ⌝ }
+{
+    let first = SECTOR * i;
+    let before = smaller(512 * i, n);
+    let count = smaller(n - before, 512);
+    le::run::clear(s);
+    le::run::copy_words(s, 0, map, 4 * before, count);
+    let mut tail = [0u8; 36];
+    crate::sector::put_tail(&mut tail, 0, previous);
+    let from = first - 4 * before;
+    let place = 4 * count;
+    let end = from + smaller(36 - from, SECTOR - place);
+    le::run::put_text(s, place, &tail[from..end]);
+}
