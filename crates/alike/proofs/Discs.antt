@@ -211,7 +211,7 @@ module _ {d e : Disc} (a : Alike d e) where
 
   -- of a table, all that it holds
   same-held : (b : ℕ) → tableAt d b ≡ true → Same d e b
-  same-held b t = told d e b (λ c h. same-content c) (same-content b) t
+  same-held b t = told d e b (same-content b) t
 
   pub same-map : (b : ℕ) → tableAt d b ≡ true → mapAt d b ≡ mapAt e b
   same-map b t = sym (same-held b t .its-map)

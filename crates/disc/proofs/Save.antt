@@ -1,5 +1,5 @@
 -- The sectors of a save: what comes before the table's ICB holds no table, and the ICB, the last of them, is the table.
---     save-ends, last-block    a save ends in its ICB, whose block is the last
+--     save-ends, save-count    a save ends in its ICB
 --     own-data, own-no-tables  those before it are data, and none is a table
 --     sectors-whole            each fills its block
 --     icb-reads                the ICB is a table at its block, with the map, the previous table and the time
@@ -66,9 +66,6 @@ module _ (d : Disc) (t : List ℕ) (previous : ℕ) where
 
     pub save-count : length (saveSectors d t previous stamp b) ≡ length ownSectors + 1
     save-count = ap length save-ends ∙ length-append ownSectors (plain (icbOf stamp b) ∷ [])
-
-    pub last-block : lastBlock b (saveSectors d t previous stamp b) ≡ b + length ownSectors
-    last-block = let count : length (saveSectors d t previous stamp b) ≡ length ownSectors + 1 = save-count in omega arith
 
     pub icb-long : length (icbOf stamp b) ≡ sectorLength
     unfolding icbOf

@@ -1,9 +1,8 @@
--- Tables known by laws, whatever form they have: what a table tells, what is none, and what keeps them. A table is told by what is read at its block and
--- below, and by nothing else, so discs that read the same there have the same tables.
---     data-kind, recognised-at, entries-named, previous-named, few-at   what a table tells
---     table-of, map-of, previous-of, time-of, other-kind                what stands at a block, or that it is none
---     table-same, map-same, previous-same, time-same                    what keeps the table at a block, or that there is none
---     told                                                              a table that is read again holds the same
+-- Tables known by laws, whatever form they have: what a table tells, what is none, and what keeps them.
+--     data-kind, recognised-at, entries-named, few-at      what a table tells
+--     table-of, map-of, previous-of, time-of, other-kind   what stands at a block, or that it is none
+--     table-same, map-same, previous-same, time-same       discs that read the same at a block and below have the same table there, or none
+--     told                                                 a table whose own sectors read the same is there and holds the same, whatever else changed
 -- Assumes nothing.
 use Prim.Native.Nat.{ℕ, _≤_, _<_}
 use native.Mathlib.Omega.{arith}
@@ -17,7 +16,7 @@ use borrow.Author.Tests.{eqb-true, eqb-false, eq-eqb, ne-eqb, ltb-true}
 use Rattle.le.specs.Bytes.{every}
 use Rattle.le.proofs.Rows.{and-left, and-right}
 use Rattle.vat.specs.Table.{limit, unusedOrBelow, Lower, modifiedOf, tableOf, entriesOf, previousOf, isTable}
-use Rattle.vat.proofs.Theorems.{Recognised, recognised, tells}
+use Rattle.vat.proofs.Theorems.{Recognised, recognised, tells, held-anywhere}
 use Rattle.disc.specs.Disc.{Disc, kindAt, sectorAt, readable, content}
 use Rattle.disc.specs.Tables.{below, tableAt, bytesAt, mapAt, previousAt, timeAt}
 
@@ -55,15 +54,16 @@ module _ (d : Disc) (b : ℕ) (e : tableAt d b ≡ true) where
   unfolding mapAt bytesAt
   entries-named = recognised-at .entries
 
-  pub previous-named : unusedOrBelow b (previousAt d b) ≡ true
-  unfolding previousAt bytesAt
-  previous-named = recognised-at .around .backward
-
   pub few-at : length (mapAt d b) ≤ limit
   unfolding mapAt bytesAt
   few-at = let t = tells (below d b) (sectorAt d b) b is-table in omega (arith, t .counted, t .few)
 
 -- ---- what stands at a block
+
+-- the map is read off the table's bytes
+pub map-read : (d : Disc) (b : ℕ) → mapAt d b ≡ entriesOf (bytesAt d b)
+unfolding mapAt
+map-read d b = refl
 
 -- a sector with a reader of what lies below it settles all of the table there
 module _ (d : Disc) (b : ℕ) (lower : Lower) (s : List ℕ) (under : below d b ≡ lower) (here : sectorAt d b ≡ s) where
@@ -105,12 +105,6 @@ below-same d e b same = fun-ext (λ c. go c (ltb c b) refl)
     go c false z = refl
     go c true z = same c (ltb-true c b z)
 
--- the same table, by all that it holds
-pub record Same (d e : Disc) (b : ℕ) : Type 0 where
-  pub its-map : mapAt e b ≡ mapAt d b
-  pub its-previous : previousAt e b ≡ previousAt d b
-  pub its-time : timeAt e b ≡ timeAt d b
-
 module _ (d e : Disc) (b : ℕ) (under : SameBelow d e b) where
   pub map-same : sectorAt e b ≡ sectorAt d b → mapAt e b ≡ mapAt d b
   map-same here = map-of e b (below d b) (sectorAt d b) (below-same d e b under) here ∙ sym (map-of d b (below d b) (sectorAt d b) refl refl)
@@ -134,8 +128,24 @@ module _ (d e : Disc) (b : ℕ) (under : SameBelow d e b) where
           let other : kindAt d b ≡ 1 → ⊥ = eqb-false (kindAt d b) 1 z in
           other-kind e b (λ k. other (data-there d b (sectorAt e b) (sym here ∙ reads-data e b k) .0)) ∙ sym (other-kind d b other)
 
-  -- and of a table all that it holds
-  pub told : content e b ≡ content d b → tableAt d b ≡ true → Same d e b
-  told here t =
-      let same : sectorAt e b ≡ sectorAt d b = data-there e b (sectorAt d b) (here ∙ reads-data d b (data-kind d b t)) .1 in
-      record { its-map = map-same same; its-previous = previous-same same; its-time = time-same same }
+-- ---- a table that is read again
+
+-- the same table, by all that it holds
+pub record Same (d e : Disc) (b : ℕ) : Type 0 where
+  pub a-table : tableAt e b ≡ true
+  pub its-map : mapAt e b ≡ mapAt d b
+  pub its-previous : previousAt e b ≡ previousAt d b
+  pub its-time : timeAt e b ≡ timeAt d b
+
+-- what its sectors read tells it, whatever else changed: its ICB is all of them
+pub told : (d e : Disc) (b : ℕ) → content e b ≡ content d b → tableAt d b ≡ true → Same d e b
+told d e b here t =
+    let s : List ℕ = sectorAt d b in
+    let there : (kindAt e b ≡ 1) × (sectorAt e b ≡ s) = data-there e b s (here ∙ reads-data d b (data-kind d b t)) in
+    let anywhere = held-anywhere (below e b) (below d b) s b in
+    record {
+      a-table = table-of e b (below e b) s refl (there .1) (there .0) ∙ anywhere .0 ∙ is-table d b t;
+      its-map = map-of e b (below e b) s refl (there .1) ∙ ap entriesOf (anywhere .1) ∙ sym (map-of d b (below d b) s refl refl);
+      its-previous = previous-of e b (below e b) s refl (there .1) ∙ ap previousOf (anywhere .1) ∙ sym (previous-of d b (below d b) s refl refl);
+      its-time = time-of e b (below e b) s refl (there .1) ∙ sym (time-of d b (below d b) s refl refl);
+    }

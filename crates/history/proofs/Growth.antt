@@ -203,9 +203,6 @@ module _ (d : Disc) (ok : Sound d) (ss : List Sector) (w : AllWhole ss) (n : NoT
   last-recorded : Recorded before (put before (recorded before) (plain s)) (plain s)
   last-recorded = put-recorded before (before-grown .still-sound) before-room (plain s) long
 
-  last-here : sectorAt (put before (recorded before) (plain s)) (recorded before) ≡ s
-  last-here = plain-here before (before-grown .still-sound) before-room s long
-
   pub behind-extends : Extends F (puts d (recorded d) ss) (puts d (recorded d) (behind ss s))
   unfolding before
   behind-extends = subst (λ (x : Disc). Extends F (puts d (recorded d) ss) x) (sym goes-behind) (extends-of last-recorded)

@@ -322,6 +322,11 @@ reads-back lower map previous stamp b few below before timely small =
       modified = dated t stamp b short small timely;
     }
 
+-- a table that its ICB holds asks nothing of what lies below
+pub held-anywhere : (lower lower′ : Lower) (s : List ℕ) (b : ℕ) → (isTable lower s b ≡ isTable lower′ s b) × (tableOf lower s ≡ tableOf lower′ s)
+unfolding isTable tableOf
+held-anywhere lower lower′ s b = (refl, refl)
+
 -- whatever the map, it is a table sector at no other block
 pub not-elsewhere : (map : List ℕ) (previous : ℕ) (stamp : List ℕ) (b : ℕ) → length map ≤ limit → length stamp ≡ stampLength → b < 4294967296
     → (lower : Lower) (b′ : ℕ) → (b′ ≡ b → ⊥) → isTable lower (sector (tableBytes map previous) stamp b) b′ ≡ false

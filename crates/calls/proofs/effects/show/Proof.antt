@@ -2,12 +2,12 @@
 -- Assumes nothing.
 use Prim.Native.Nat.{ℕ}
 use native.Mathlib.Omega.{arith}
-use mathlib.Core.Path.{ap, _∙_}
+use mathlib.Core.Path.{sym, ap, _∙_}
 use mathlib.Core.List.{List, []}
 use lib.ListN.{length}
 use Rattle.vat.specs.Table.{entryCount, entriesOf}
 use Rattle.disc.specs.Disc.{Disc, lent}
-use Rattle.disc.specs.Tables.{mapAt}
+use Rattle.disc.proofs.Told.{map-read}
 use Rattle.disc.proofs.Found.{bytes-fit}
 use Rattle.volume.specs.Volume.{pack, filled}
 use borrow.Author.Needs.{needs}
@@ -36,12 +36,11 @@ same-length : tie.Need-same-length
 same-length c = search needs
 
 returns : tie.Need-returns
-unfolding mapAt
 returns c =
     λ kinds.
     let t = c .before .before in let f = t .before .before in let a = start-of (f .before) .args in
-    t .store .ensures
-    ∙ ap pack (f .filled .ensures ∙ ap (λ (l : List ℕ). filled (entriesOf l) (a .plan .block) (a .plan .recorded) (a .mode)) (f .before .bytes-at .ensures kinds))
+    let map = ap entriesOf (f .before .bytes-at .ensures kinds) ∙ sym (map-read (lent (a .image .now) kinds) (a .plan .block)) in
+    t .store .ensures ∙ ap pack (f .filled .ensures ∙ ap (λ (l : List ℕ). filled l (a .plan .block) (a .plan .recorded) (a .mode)) map)
 
 pub show-spec : {M : Type 1} → statement M
 show-spec =
