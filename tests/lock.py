@@ -25,7 +25,7 @@ THEOREMS = {
     "alike/proofs/Views": ["mean-nothing"],
     "anchor/proofs/Theorems": ["tagged-anchor", "anchor-no-table", "zeros-no-table"],
     "archive/proofs/Theorem": ["earlier-entries"],
-    "disc/proofs/Again": ["fresh-neither"],
+    "disc/proofs/Fresh": ["fresh-neither"],
     "disc/proofs/Told": ["other-kind"],
     "history/proofs/Closed": ["closed-discs"],
     "history/proofs/Theorem": ["power-cuts", "remounts", "save-then-mount"],
@@ -41,7 +41,7 @@ THEOREMS = {
 }
 
 # Where rows and lists are worked out: all that is defined there and every claim.
-WORKED = ["bench/proofs/*", "cuts/proofs/Dated", "cuts/proofs/Drawn", "cuts/proofs/Lists", "cuts/proofs/Viewed", "days/proofs/*", "space/proofs/Worked"]
+WORKED = ["bench/proofs/*", "cuts/proofs/Dated", "cuts/proofs/Drawn", "cuts/proofs/Lists", "cuts/proofs/Viewed", "cuts/proofs/Worked", "days/proofs/*", "space/proofs/Worked"]
 
 
 def summed(words):
@@ -145,7 +145,7 @@ class Lock:
                 self.put(file, name)
             if declared.says[:1] == ["List"] and declared.says[1] in own and declared.is_definition():
                 self.counts["worked rows"] += elements(declared.body)
-            if file.startswith(("cuts/", "days/")) and declared.word == "law" and test:
+            if file.startswith(("cuts/", "days/")) and declared.word == "law" and declared.says[:1] in (["T"], ["Begun"], ["Mounted"]):
                 self.counts["worked lists"] += 1
 
     def contracts(self, path):

@@ -47,7 +47,7 @@ CRASH, CRASH_BARE, _ = clause_less(EARLIER, "after_crash", 1)
 LISTED, LISTED_BARE, _ = clause_less("crates/listing/src/list.rt", "list")
 MOUNTED, MOUNTED_BARE, MOUNTED_CLAUSE = clause_less(LOG, "mount")
 ROW = "    ∷ lengths-of 0 458 1868 2028\n"
-SHOWN = "pub shown-no-table-yet : T (begun-works 9 no-table-yet [])\nunfolding works no-table-yet\nshown-no-table-yet = tt\n"
+SHOWN = "pub shown-no-table-yet : Begun 17 no-table-yet []\nunfolding works no-table-yet\nshown-no-table-yet = works-so (blank 17) begin begunHistory no-table-yet [] tt\n"
 EMPTY = "    ensures { λ r. ⌜ r ≡ r ⌝ }\n"
 
 # What is wrong: the file, text that stands once in it (none: the whole file), what stands there instead (none: the file is gone), and what is told.

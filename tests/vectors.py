@@ -32,11 +32,31 @@ def file_entry(block, file_type, flags, permissions, links, information, blocks,
     return descriptor(261, head + attributes + behind, block)
 
 
+def table_bytes(entries, previous):
+    """The bytes of a table (document 01, 'The table sector at block b'): its entries, the regid and the previous table."""
+    table = b"".join(pack("<I", e) for e in entries)
+    return table + b"\0" + b"*UDF Virtual Alloc Tbl\0" + bytes([0x50, 0x01]) + bytes(6) + pack("<I", previous)
+
+
 def table_sector(entries, previous, block, attributes=b"", stamp=bytes(12)):
     """The 2048 bytes that commit records (document 01, 'The table sector at block b', and document 02, R-3), or the same with attributes before the table."""
-    table = b"".join(pack("<I", e) for e in entries)
-    table += b"\0" + b"*UDF Virtual Alloc Tbl\0" + bytes([0x50, 0x01]) + bytes(6) + pack("<I", previous)
+    table = table_bytes(entries, previous)
     return file_entry(block, 0, 3, 0, 0, len(table), 0, table, attributes, stamp)
+
+
+def own_parts(entries, previous):
+    """What each sector of a table's own holds of its bytes (document 02, R-8): as much as there is room for. Up to 458 entries stay in the ICB."""
+    if len(entries) <= 458:
+        return []
+    table = table_bytes(entries, previous)
+    return [table[at:at + 2048] for at in range(0, len(table), 2048)]
+
+
+def large_icb(entries, previous, blocks, block):
+    """The ICB of a table in sectors of its own (document 02, R-8): allocation type 0, and a short allocation descriptor, length and block, for each."""
+    parts = own_parts(entries, previous)
+    descriptors = b"".join(pack("<II", len(part), at) for part, at in zip(parts, blocks, strict=True))
+    return file_entry(block, 0, 0, 0, 0, sum(map(len, parts)), len(parts), descriptors)
 
 
 def entry_sector(extents, block):
@@ -59,6 +79,14 @@ def show_rows(sector):
 
 def show_map(entries, previous):
     print("count", len(entries), *("%08x" % e for e in entries), "previous", "%08x" % previous)
+
+
+def show_large(entries):
+    """The ICB at block 300,000 of a table whose own sectors lie three blocks apart from 290,000 on, and the CRC of each of these, zeros to its end."""
+    parts = own_parts(entries, 123456)
+    show_rows(large_icb(entries, 123456, [290000 + 3 * i for i in range(len(parts))], 300000))
+    for i, part in enumerate(parts):
+        print("own", i, "crc", "%04x" % crc_hqx(part.ljust(2048, b"\0"), 0))
 
 
 def show_changes(sector):
@@ -158,9 +186,14 @@ def main():
     print("entry at 20: none")
     show_entry(run, 20)
     show_entry([(1, 0)], 1)
-    words = [0xFFFFFFFF if i % 3 == 0 else i % 458 for i in range(200)]
-    show_entry(list(zip(words[::2], words[1::2])), 300000)
+    words = [0xFFFFFFFF if i % 3 == 0 else i % 458 for i in range(4087)]
+    show_entry(list(zip(words[:200:2], words[1:200:2])), 300000)
     show_entry([(2048 * 359998, 0), (1, 359998)], 359999)
+
+    for n in (0, 458, 459, 503, 504, 1015, 4087):
+        print("own sectors of", n, "entries:", len(own_parts(words[:n], 123456)))
+    show_large(words[:459])
+    show_large(words)
 
 
 main()

@@ -17,11 +17,13 @@
  *           count is called recorded.
  *   roles   one byte a sector, as many as kinds: what the sector is there for, 0
  *           to 6, as enum station_role names them. Begin, mount and look back
- *           make all of them anew. Every other call reads none, and changes those
- *           of the sectors that it records and of the one that its number named
- *           before: they are right if disc, roles and ledger come as the call
- *           before left them. A cut loses them, as it loses the ledger.
- *   ledger  1,848 bytes: 458 map entries, then size, recorded, last table and
+ *           make all of them anew and read none. Every other call changes those
+ *           of the sectors that it records, and of the one that its number named
+ *           before: write and release read its role, and if that is in use and
+ *           no number names it any more, it is superseded. The roles are right if
+ *           disc, roles and ledger come as the call before left them. A cut loses
+ *           them, as it loses the ledger.
+ *   ledger  16,364 bytes: 4,087 map entries, then size, recorded, last table and
  *           mode, each 32 bits, little-endian. Unused map entries, all entries
  *           from size on, and a missing last table are hex FFFFFFFF. Mode is
  *           0 (no packet open), 1 (packet open) or 2 (looking only).
@@ -38,6 +40,12 @@
  *           signed number of 32 bits, and then 1 if the zone was not given, or
  *           else 0 (32 bits).
  *   buffer  at most 65,536 bytes, also none.
+ *
+ * The table of a save with up to 458 numbers stands in its table sector. A larger
+ * one lies in 1 to 8 sectors of its own, which the table sector names; they are
+ * recorded before it, but for those whose bytes are the same at their place in the
+ * table named as previous, which are named again. A table sector of another deck
+ * may name any sectors of kind 1 below it, also for a small table.
  *
  * A disc is closed exactly if its last recorded sector is a table sector, the
  * 256 before it have kind 1, and the first of these has tag identifier 2, a right
@@ -93,13 +101,13 @@ extern "C" {
 #endif
 
 #define STATION_SECTOR 2048         /* bytes of a sector, and of a block */
-#define STATION_LEDGER 1848         /* bytes of the ledger */
+#define STATION_LEDGER 16364        /* bytes of the ledger */
 #define STATION_STAMP 12            /* bytes of a timestamp */
 #define STATION_TIME 8              /* bytes of the answer to time of */
 #define STATION_MOST_VIEWED 65536   /* the most bytes of a buffer for view */
 #define STATION_MOST_EXTENTS 100    /* the most extents of a run's entry */
 #define STATION_MOST_SECTORS 360000 /* the most sectors of a disc */
-#define STATION_LIMIT 458           /* the most virtual numbers */
+#define STATION_LIMIT 4087          /* the most virtual numbers */
 #define STATION_UNUSED 0xFFFFFFFFu  /* an unused entry, a missing last table */
 
 /* The outcomes. */
@@ -108,13 +116,13 @@ enum station_outcome {
     /* no sectors, more than 360,000, or image length is not 2048 x kinds
        length */
     STATION_DISC_SIZE = 1,
-    /* a lent block is not 2048 bytes, a lent ledger not 1,848, a lent stamp not
+    /* a lent block is not 2048 bytes, a lent ledger not 16,364, a lent stamp not
        12, a lent answer not 8, the lent roles not as many as the kinds, or a lent
        buffer of view above 65,536 */
     STATION_LENT_LENGTH = 2,
     /* a kind above 3, or a recorded sector after a blank one */
     STATION_DISC_UNSOUND = 3,
-    /* the ledger does not fit: size above 458; an entry from size on not
+    /* the ledger does not fit: size above 4,087; an entry from size on not
        FFFFFFFF; one below size neither FFFFFFFF nor below recorded; recorded
        differs from the disc's; last table neither FFFFFFFF nor a table sector;
        mode above 2; mode 1 where the last recorded sector is missing or not
@@ -137,11 +145,12 @@ enum station_outcome {
     STATION_UNREADABLE = 11,
     /* write of v above size */
     STATION_ABOVE_SIZE = 12,
-    /* write of v at or above 458 */
+    /* write of v at or above 4,087 */
     STATION_ABOVE_LIMIT = 13,
-    /* no room: write, numbered or not, needs links + 1 + 8 blank sectors, on
+    /* no room: write, numbered or not, needs links + 1 + 16 blank sectors, on
        discs of 1,000 sectors or more links + 1 + 264; either form of commit
-       needs links + 1, and closing the session links + 257 */
+       needs links, the own sectors that it records, and 1; closing the session
+       links + 257 */
     STATION_NO_ROOM = 14,
     /* the lent block would be a table sector at the block it is about to take,
        or has the tag of a closing's pointer there: tag identifier 2, a right tag
@@ -162,16 +171,17 @@ enum station_outcome {
 
 /* The roles. The kind decides the last three; the others are of data (kind 1). */
 enum station_role {
-    /* an entry of the ledger's map below size names the block, which is no table
-       sector */
+    /* an entry of the ledger's map below size names the block, which is of no
+       table */
     STATION_ROLE_IN_USE = 0,
     /* no entry names it any more; after begin, mount or look back all data that is
-       no table sector and that no entry names */
+       of no table and that no entry names */
     STATION_ROLE_SUPERSEDED = 1,
-    /* recorded by write unnumbered, or by closing the session before its table,
-       since the last begin, mount or look back */
+    /* recorded by write unnumbered, or by closing the session as its pointer or
+       zeros, since the last begin, mount or look back */
     STATION_ROLE_WITHOUT_NUMBER = 2,
-    /* a table sector; it is never in use */
+    /* a table sector, or one that a table sector names as its table's own; it is
+       never in use */
     STATION_ROLE_TABLE = 3,
     STATION_ROLE_LINK = 4,
     STATION_ROLE_UNREADABLE = 5,
@@ -210,9 +220,9 @@ uint64_t station_mount_roles(const uint8_t *image, size_t image_length,
  * Write number v: records one data sector with the lent block and sets entry v
  * to it. If v equals size, size grows by one. A released number below size may
  * be written again. Mode becomes 1. The block is in use, and the one that v named
- * before is superseded if it is data, no table sector, and no number names it any
- * more. Second number: the block recorded. Refusals 1, 2, 3, 4, 5, 17, 13, 12, 14,
- * 15: a v at or above 458 gives 13, even above size.
+ * before is superseded if it was in use and no number names it any more. Second
+ * number: the block recorded. Refusals 1, 2, 3, 4, 5, 17, 13, 12, 14, 15: a v at or
+ * above 4,087 gives 13, even above size.
  */
 uint64_t station_write_roles(uint8_t *image, size_t image_length,
                              uint8_t *kinds, size_t kinds_length,
@@ -254,10 +264,10 @@ uint64_t station_close_packet_roles(const uint8_t *image, size_t image_length,
                                     uint8_t *ledger, size_t ledger_length);
 
 /*
- * Commit: records the table sector, which becomes the last table. It may follow
- * in any mode but 2, and mode is 1 afterwards. Allowed with nothing changed and
- * with size 0. Second number: the block recorded. Refusals 1, 2, 3, 4, 5, 17,
- * 14.
+ * Commit: records the table sector, which becomes the last table, and before it
+ * those of the table's own sectors that are not named again. It may follow in any
+ * mode but 2, and mode is 1 afterwards. Allowed with nothing changed and with size
+ * 0. Second number: the block of the table sector. Refusals 1, 2, 3, 4, 5, 17, 14.
  */
 uint64_t station_commit_roles(uint8_t *image, size_t image_length,
                               uint8_t *kinds, size_t kinds_length,
@@ -267,7 +277,7 @@ uint64_t station_commit_roles(uint8_t *image, size_t image_length,
 /*
  * Commit at: a commit whose table sector has the lent stamp as access,
  * modification and attribute time; the plain commit records zeros there. Second
- * number: the block recorded. Refusals 1, 2, 3, 4, 5, 17, 16, 14.
+ * number: the block of the table sector. Refusals 1, 2, 3, 4, 5, 17, 16, 14.
  */
 uint64_t station_commit_at_roles(uint8_t *image, size_t image_length,
                                  uint8_t *kinds, size_t kinds_length,
@@ -322,12 +332,12 @@ uint64_t station_time_of(const uint8_t *image, size_t image_length,
 
 /*
  * Close session: records an Anchor Volume Descriptor Pointer, 255 zero sectors
- * and the table sector, which becomes the last table, all as data. The pointer
- * names two extents, main and reserve, each by its length in bytes and its
- * location; its tag location is the partition's start plus its block. Mode is 1
- * afterwards, and the disc is closed. The 256 sectors before the table are without
- * a number. Second number: the block of the table.
- * Refusals 1, 2, 3, 4, 5, 17, 18, 14.
+ * and the table sector, which becomes the last table, all as data. Own sectors of
+ * the table that are recorded take the place of the last zeros. The pointer names
+ * two extents, main and reserve, each by its length in bytes and its location; its
+ * tag location is the partition's start plus its block. Mode is 1 afterwards, and
+ * the disc is closed. Pointer and zeros are without a number. Second number: the
+ * block of the table sector. Refusals 1, 2, 3, 4, 5, 17, 18, 14.
  */
 uint64_t station_close_session_roles(uint8_t *image, size_t image_length,
                                      uint8_t *kinds, size_t kinds_length,

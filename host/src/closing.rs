@@ -3,7 +3,8 @@
 use crate::{close_packet, raw, recorded, second, Extent, Refusal, LEDGER, LIMIT};
 
 /// Close session: records an Anchor Volume Descriptor Pointer, 255 zero sectors
-/// and the table sector, which becomes the last table, all as data. Plain CD-ROM
+/// and the table sector, which becomes the last table, all as data. Own sectors of the
+/// table that are recorded take the place of the last zeros. Plain CD-ROM
 /// drives read only closed sessions. The pointer names the main and the reserve
 /// extent, and its tag location is the partition's start plus its block. Mode is 1
 /// afterwards. The answer is the block of the table; the pointer stands 256 before

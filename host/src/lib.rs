@@ -9,10 +9,11 @@
 //!   that are not blank form a beginning of it; their count is called
 //!   *recorded*;
 //! - the roles, one byte a sector: what each sector is there for, a [`Role`].
-//!   [`begin`], [`mount`] and [`look_back`] make all of them anew, and every other
-//!   call keeps them up if they come as the call before left them; it reads none.
-//!   [`space`] counts them;
-//! - the ledger, 1,848 bytes: 458 map entries, then size, recorded, last table
+//!   [`begin`], [`mount`] and [`look_back`] make all of them anew, whatever they are
+//!   lent, and every other call keeps them up if they come as the call before left
+//!   them: it reads the role of the block that its number named before, which is
+//!   superseded only if it was in use. [`space`] counts them;
+//! - the ledger, 16,364 bytes: 4,087 map entries, then size, recorded, last table
 //!   and mode, each 32 bits and little-endian. Unused entries, all entries from
 //!   size on, and a missing last table are FFFFFFFF. Mode is 0 (no packet
 //!   open), 1 (packet open) or 2 (looking only).
@@ -25,6 +26,11 @@
 //! its kind changes. A power cut loses what is not committed, and [`mount`] then
 //! finds the last finished save. [`close_session`] makes a last save that plain
 //! CD-ROM drives can read; nothing is recorded after it.
+//!
+//! A save of up to 458 numbers is one table sector. The table of a larger one lies in
+//! 1 to 8 sectors of its own, which the table sector names and which stand before it;
+//! of these only such are recorded whose bytes differ from those at their place in the
+//! save before.
 //!
 //! A run longer than a block lies in blocks that [`write_unnumbered`] records. A
 //! numbered block holds its entry, which [`file_entry`] makes and which names
@@ -151,7 +157,7 @@ pub mod raw {
 pub const SECTOR: usize = 2048;
 
 /// Bytes of the ledger.
-pub const LEDGER: usize = 1848;
+pub const LEDGER: usize = 16_364;
 
 /// Bytes of a timestamp.
 pub const STAMP: usize = 12;
@@ -169,7 +175,7 @@ pub const MOST_EXTENTS: usize = 100;
 pub const MOST_SECTORS: usize = 360_000;
 
 /// The ledger holds at most this many virtual numbers.
-pub const LIMIT: u32 = 458;
+pub const LIMIT: u32 = 4087;
 
 /// An unused map entry, or a missing last table: hex FFFFFFFF.
 pub const UNUSED: u32 = u32::MAX;
@@ -215,9 +221,9 @@ pub fn mount(
 ///
 /// # Errors
 ///
-/// 1, 2, 3, 4, 5, 17, 13, 12, 14 and 15: a v at or above 458 gives 13, even above
+/// 1, 2, 3, 4, 5, 17, 13, 12, 14 and 15: a v at or above 4,087 gives 13, even above
 /// size. On discs of 1,000 sectors or more a write leaves 264 blank sectors, room
-/// for links and a closing, and on others 8.
+/// for links and a closing, and on others 16, room for links and a commit.
 pub fn write(
     image: &mut [u8],
     kinds: &mut [u8],
@@ -259,9 +265,10 @@ pub fn close_packet(
     done(raw::close_packet(image, kinds, roles, ledger))
 }
 
-/// Commit: records the table sector, which becomes the last table. It may
-/// follow in any mode but 2, and mode is 1 afterwards. Allowed with nothing
-/// changed and with size 0. The answer is the block recorded.
+/// Commit: records the table sector, which becomes the last table, and with more than
+/// 458 numbers before it those of the table's own sectors that are not named again. It
+/// may follow in any mode but 2, and mode is 1 afterwards. Allowed with nothing
+/// changed and with size 0. The answer is the block of the table sector.
 ///
 /// # Errors
 ///
@@ -277,7 +284,7 @@ pub fn commit(
 
 /// Commit at: a commit whose table sector has the lent timestamp as access,
 /// modification and attribute time; [`commit`] records zeros there.
-/// [`Timestamp::to_bytes`] makes one. The answer is the block recorded.
+/// [`Timestamp::to_bytes`] makes one. The answer is the block of the table sector.
 ///
 /// # Errors
 ///

@@ -13,12 +13,12 @@ pub enum Refusal {
     /// not 2048 × kinds length.
     DiscSize = 1,
     /// 2, the host program: a lent block is not 2048 bytes, a lent ledger not
-    /// 1,848, a lent timestamp not 12, a lent answer not 8, the lent roles are not
+    /// 16,364, a lent timestamp not 12, a lent answer not 8, the lent roles are not
     /// as many as the kinds, or a buffer lent to a view is above 65,536.
     LentLength = 2,
     /// 3, the disc: a kind above 3, or a recorded sector after a blank one.
     DiscUnsound = 3,
-    /// 4, the host program: the ledger does not fit. Its size is above 458; an
+    /// 4, the host program: the ledger does not fit. Its size is above 4,087; an
     /// entry from size on is not FFFFFFFF; one below size is neither FFFFFFFF
     /// nor below recorded; recorded differs from the disc's; last table is
     /// neither FFFFFFFF nor a table sector; mode is above 2; or mode is 1 where
@@ -43,11 +43,12 @@ pub enum Refusal {
     Unreadable = 11,
     /// 12, the operator: write of v above size.
     AboveSize = 12,
-    /// 13, the operator: write of v at or above 458.
+    /// 13, the operator: write of v at or above 4,087.
     AboveLimit = 13,
-    /// 14, the recording: no room. Write, numbered or not, needs links + 1 + 8 blank
+    /// 14, the recording: no room. Write, numbered or not, needs links + 1 + 16 blank
     /// sectors, on discs of 1,000 sectors or more links + 1 + 264; either form of
-    /// commit needs links + 1, and closing the session links + 257.
+    /// commit needs links, the table's own sectors that it records, and 1; closing the
+    /// session links + 257.
     NoRoom = 14,
     /// 15, the recording: the lent block would be a table sector at the block
     /// it is about to take, or has the tag of a closing's pointer there: tag
@@ -118,14 +119,14 @@ impl Refusal {
                 "no sectors, more than 360,000, or image length is not 2048 × kinds length"
             }
             Refusal::LentLength => {
-                "a lent block is not 2048 bytes, a lent ledger not 1,848, \
+                "a lent block is not 2048 bytes, a lent ledger not 16,364, \
                  a lent timestamp not 12, a lent answer not 8, \
                  the lent roles are not as many as the kinds, \
                  or a buffer lent to a view is above 65,536"
             }
             Refusal::DiscUnsound => "a kind above 3, or a recorded sector after a blank one",
             Refusal::LedgerUnfit => {
-                "the ledger does not fit: size above 458; an entry from size on not FFFFFFFF; \
+                "the ledger does not fit: size above 4,087; an entry from size on not FFFFFFFF; \
                  one below size neither FFFFFFFF nor below recorded; recorded differs from the \
                  disc's; last table neither FFFFFFFF nor a table sector; mode above 2; \
                  mode 1 where the last recorded sector is missing or not kind 1"
@@ -141,11 +142,11 @@ impl Refusal {
             Refusal::NotInUse => "read, view or release of v not below size, or of an unused entry",
             Refusal::Unreadable => "read or view, and the entry's sector is not kind 1",
             Refusal::AboveSize => "write of v above size",
-            Refusal::AboveLimit => "write of v at or above 458",
+            Refusal::AboveLimit => "write of v at or above 4,087",
             Refusal::NoRoom => {
-                "no room: write needs links + 1 + 8 blank sectors, on discs of 1,000 sectors or \
-                 more links + 1 + 264, commit links + 1, closing links + 257, where links is 7 \
-                 in mode 0 with recorded above 0, else 0"
+                "no room: write needs links + 1 + 16 blank sectors, on discs of 1,000 sectors or \
+                 more links + 1 + 264, commit links + own sectors recorded + 1, closing \
+                 links + 257, where links is 7 in mode 0 with recorded above 0, else 0"
             }
             Refusal::WouldBeVat => {
                 "the lent block would be a table sector at the block it is about to take, \

@@ -19,10 +19,11 @@ pub enum Role {
     /// [`close_session`](crate::close_session) had recorded.
     Superseded = 1,
     /// 2: recorded by a [`write_unnumbered`](crate::write_unnumbered), or by a
-    /// [`close_session`](crate::close_session) before its table, since the last
+    /// [`close_session`](crate::close_session) as its pointer or zeros, since the last
     /// begin, mount or look back.
     WithoutNumber = 2,
-    /// 3: a table sector. It is never in use, whatever a map names.
+    /// 3: a table sector, or one that a table sector names as its table's own. It is
+    /// never in use, whatever a map names.
     Table = 3,
     /// 4: a link sector.
     Link = 4,
@@ -116,8 +117,9 @@ impl Space {
 /// Where the space went: how many sectors have each role.
 ///
 /// The roles are lent to each call that alters disc or ledger and must come as the
-/// call before left them. A cut loses them with the ledger: begin, mount and look
-/// back make all of them anew, whatever the bytes hold.
+/// call before left them: [`write`](crate::write) and [`release`](crate::release) read
+/// that of the block which their number named before. A cut loses them with the
+/// ledger: begin, mount and look back make all of them anew, whatever the bytes hold.
 ///
 /// ```
 /// use station::{Role, LEDGER, SECTOR};

@@ -5,16 +5,17 @@
 mod common;
 
 use common::built::{beside, BLOCK};
+use common::large::{lend_map, map_over, with_data, Large};
 use common::pair::tell_compared;
 use common::stamps::{Told, HALF_PAST};
 use common::station::{done, refused, Station};
-use common::tables::vat_behind;
+use common::tables::{vat_behind, MOST_EMBEDDED};
 use station_model::answer::Answer;
 use station_model::calls::Call;
 use station_model::disc::{DATA, LINK};
 use station_model::fields::{u16_at, u32_at};
 use station_model::table::{
-    crc, recognise, seal, stamped_vat_sector, table_length, vat_sector, LIMIT, NONE, SECTOR,
+    crc, seal, stamped_vat_sector, table_length, vat_sector, LIMIT, NONE, SECTOR,
 };
 
 /// Begin, one write, and close packet.
@@ -88,16 +89,48 @@ fn mounted_at_5(sector: &[u8; SECTOR]) -> (Answer, Vec<u32>) {
     (answer, station.volume().entries().to_vec())
 }
 
-/// "N 459: not a table sector." One entry less, made alike, is one.
+/// N 459, embedded: "not a table sector." One entry less, made alike, is one.
 #[test]
 fn table_of_459_entries() {
     assert_eq!(176 + table_length(459), SECTOR);
-    for (entries, answer) in [(459, refused(7)), (LIMIT, done(1))] {
+    for (entries, answer) in [(459, refused(7)), (MOST_EMBEDDED, done(1))] {
         let table = vat_sector(5, &vec![NONE; entries], NONE);
-        assert_eq!(recognise(&table, 5).is_some(), answer == done(1));
         assert_eq!(mounted_at_5(&table).0, answer);
     }
     tell_compared("table_of_459_entries");
+}
+
+/// The table of a commit of so many numbers on 20 blocks, which is not embedded: its
+/// length, and the CRC length and descriptor length of its ICB.
+fn saved_in_own_sectors(size: usize) -> (u32, u16, u32) {
+    let map = map_over(20, size);
+    let mut station = with_data(60, 20);
+    lend_map(&mut station, &map, 1);
+    let answer = station.call(Call::Commit);
+    assert!(answer.is_done());
+    let sector = *station.sector(answer.second);
+    assert_eq!(sector[34], 0, "in own sectors");
+    assert_eq!(station.call(Call::Mount), done(1));
+    assert_eq!(station.volume().entries(), map);
+    (
+        u32_at(&sector, 56),
+        u16_at(&sector, 10),
+        u32_at(&sector, 172),
+    )
+}
+
+/// N 459 in an own sector: 1,872 bytes and CRC length 168. N 4,087: 16,384 and 224,
+/// in 8 sectors. There is none with N 4,088, which would need 9.
+#[test]
+fn tables_in_own_sectors() {
+    assert_eq!(saved_in_own_sectors(459), (1872, 168, 8));
+    assert_eq!(saved_in_own_sectors(4087), (16_384, 224, 64));
+    for (size, answer) in [(LIMIT, done(1)), (LIMIT + 1, refused(7))] {
+        let mut station = with_data(60, 20);
+        Large::recorded_from(20, &vec![NONE; size], NONE).put(&mut station);
+        assert_eq!(station.call(Call::Mount), answer);
+    }
+    tell_compared("tables_in_own_sectors");
 }
 
 /// "The table [...] starts at 176 + attribute length (a multiple of 4)"
@@ -119,56 +152,57 @@ fn table_behind_attributes() {
 /// attributes ends where N 458 behind none does, and N 458 with the sector.
 #[test]
 fn most_entries_behind_attributes() {
-    for (entries, answer) in [(457, done(1)), (LIMIT, refused(7))] {
+    for (entries, answer) in [(457, done(1)), (MOST_EMBEDDED, refused(7))] {
         let table = vat_behind(&[0xA7; 4], 5, &vec![NONE; entries], NONE);
         assert_eq!(mounted_at_5(&table).0, answer);
     }
     tell_compared("most_entries_behind_attributes");
 }
 
-/// "Blank disc of 8: write gives 14; commit is done at block 0."
+/// The rows on space, with 16 sectors that a write leaves (document 02). Blank disc of
+/// 16: "write gives 14; commit is done at block 0."
 #[test]
-fn blank_disc_of_8() {
-    let mut station = Station::begun(8);
+fn blank_disc_of_16() {
+    let mut station = Station::begun(16);
     assert_eq!(station.write(0, &BLOCK), refused(14));
     assert_eq!(station.call(Call::Commit), done(0));
-    tell_compared("blank_disc_of_8");
+    tell_compared("blank_disc_of_16");
 }
 
-/// "Disc of 9: first write done, second 14."
+/// Disc of 17: "first write done, second 14."
 #[test]
-fn disc_of_9() {
-    let mut station = Station::begun(9);
+fn disc_of_17() {
+    let mut station = Station::begun(17);
     assert_eq!(station.write(0, &BLOCK), done(0));
     assert_eq!(station.write(1, &BLOCK), refused(14));
-    tell_compared("disc_of_9");
+    tell_compared("disc_of_17");
 }
 
-/// "Disc of 10: two writes done, third 14."
+/// Disc of 18: "two writes done, third 14."
 #[test]
-fn disc_of_10() {
-    let mut station = Station::begun(10);
+fn disc_of_18() {
+    let mut station = Station::begun(18);
     assert_eq!(station.write(0, &BLOCK), done(0));
     assert_eq!(station.write(1, &BLOCK), done(1));
     assert_eq!(station.write(2, &BLOCK), refused(14));
-    tell_compared("disc_of_10");
+    tell_compared("disc_of_18");
 }
 
-/// "One write, then close packet: with 17 sectors the next write takes block 8".
+/// "One write, then close packet": with 25 sectors "the next write takes block 8".
 #[test]
-fn write_after_close_packet_on_17() {
-    let mut station = written_and_closed(17);
+fn write_after_close_packet_on_25() {
+    let mut station = written_and_closed(25);
     assert_eq!(station.write(1, &BLOCK), done(8));
     assert_eq!(station.kinds[..9], [1, 2, 2, 2, 2, 2, 2, 2, 1]);
-    tell_compared("write_after_close_packet_on_17");
+    tell_compared("write_after_close_packet_on_25");
 }
 
-/// "with 16 it gives 14"
+/// With 24 "it gives 14".
 #[test]
-fn write_after_close_packet_on_16() {
-    let mut station = written_and_closed(16);
+fn write_after_close_packet_on_24() {
+    let mut station = written_and_closed(24);
     assert_eq!(station.write(1, &BLOCK), refused(14));
-    tell_compared("write_after_close_packet_on_16");
+    tell_compared("write_after_close_packet_on_24");
 }
 
 /// "Write of 1 at size 0: 12."
@@ -179,23 +213,29 @@ fn write_above_size() {
     tell_compared("write_above_size");
 }
 
-/// "Write of 458 at size 458 with space: 13", and 459, above size, too.
+/// Write of 458 at size 458 is done, and of 4,087 at size 4,087 with space gives 13, as
+/// does 4,088, above size.
 #[test]
 fn write_at_limit() {
     let mut station = of_size(600, 458);
-    assert_eq!(station.write(458, &BLOCK), refused(13));
-    assert_eq!(station.write(459, &BLOCK), refused(13));
+    assert_eq!(station.write(458, &BLOCK), done(458));
+    let mut station = with_data(60, 20);
+    lend_map(&mut station, &[3; LIMIT], 1);
+    assert_eq!(station.write(4087, &BLOCK), refused(13));
+    assert_eq!(station.write(4088, &BLOCK), refused(13));
+    assert_eq!(station.write(4086, &BLOCK), done(20));
     tell_compared("write_at_limit");
 }
 
-/// Write of 500 at size 3: "a number at or above the limit gives 13, even above
+/// "500 at size 3: 12 again", and "a number at or above the limit gives 13, even above
 /// size" (document 02). The last number below the limit leaves a gap.
 #[test]
 fn write_above_size_and_limit() {
     let mut station = of_size(30, 3);
-    assert_eq!(station.write(500, &BLOCK), refused(13));
-    assert_eq!(station.write(458, &BLOCK), refused(13));
-    assert_eq!(station.write(457, &BLOCK), refused(12));
+    assert_eq!(station.write(500, &BLOCK), refused(12));
+    assert_eq!(station.write(458, &BLOCK), refused(12));
+    assert_eq!(station.write(4086, &BLOCK), refused(12));
+    assert_eq!(station.write(4087, &BLOCK), refused(13));
     tell_compared("write_above_size_and_limit");
 }
 

@@ -10,6 +10,7 @@ use common::built::{beside, BLOCK};
 use common::closing::{disc_with_room, CLOSE};
 use common::core::Core;
 use common::forge;
+use common::large;
 use common::random::{cases, Random};
 use common::stamps::HALF_PAST;
 use common::station::{done, Station};
@@ -156,8 +157,9 @@ fn what_is_burned_is_what_was_recorded() {
     let whole = all.len() > 1;
     for case in all {
         let mut random = Random::of_case(case);
-        let disc = match random.below(5) {
+        let disc = match random.below(6) {
             0 => disc_with_room(&mut random),
+            1..=2 => large::disc_to_go_on(&mut random),
             _ => forge::disc_without_vat(&mut random),
         };
         let mut working = Core::holding(&disc, case);
@@ -174,7 +176,8 @@ fn what_is_burned_is_what_was_recorded() {
         }
     }
     println!("how often so many sectors were burned: {met:?}");
-    let expected: &[usize] = &[0, 1, 8, 257, 264];
-    assert!(met.keys().all(|sectors| expected.contains(sectors)));
-    assert!(!whole || expected.iter().all(|sectors| met.get(sectors) > Some(&10)));
+    let possible = |sectors: &usize| *sectors <= 16 || [257, 264].contains(sectors);
+    assert!(met.keys().all(possible));
+    let as_a_rule = [0, 1, 2, 3, 8, 9, 10, 257, 264];
+    assert!(!whole || as_a_rule.iter().all(|sectors| met.get(sectors) > Some(&10)));
 }

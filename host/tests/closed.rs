@@ -14,13 +14,13 @@ use common::pair::{tell_compared, Pair};
 use common::random::{cases, Random};
 use common::stamps::HALF_PAST;
 use common::station::{done, refused, Station};
-use common::tables::{put_sum, vat_behind};
+use common::tables::{put_sum, vat_behind, MOST_EMBEDDED};
 use station_model::answer::Answer;
 use station_model::calls::Call;
 use station_model::disc::{BLANK, DATA, LINK, UNREADABLE};
 use station_model::fields::put;
 use station_model::ledger::Volume;
-use station_model::table::{vat_sector, LIMIT, NONE, SECTOR};
+use station_model::table::{vat_sector, NONE, SECTOR};
 
 /// Whether close packet, which records nothing, says that the disc is closed. The
 /// core and the model do, and the crate.
@@ -169,8 +169,8 @@ fn refusals_before_15() {
         assert_eq!(station.clone().write(1, &sector[..length]), refused(2));
     }
     assert_eq!(station.clone().write(2, &sector), refused(12));
-    assert_eq!(station.clone().write(458, &sector), refused(13));
-    let mut full = saved(10);
+    assert_eq!(station.clone().write(4087, &sector), refused(13));
+    let mut full = saved(18);
     assert_eq!(full.write(1, &sector), refused(14));
     tell_compared("refusals_before_15");
 }
@@ -266,7 +266,7 @@ fn last_sector_is_a_table() {
         other.kinds[table as usize] = kind;
         assert!(!is_closed(&other), "kind {kind}");
     }
-    let full = [7; LIMIT];
+    let full = [7; MOST_EMBEDDED];
     for (sector, expected) in [
         (vat_sector(table, &full, NONE), true),
         (vat_behind(&[0xA7; 220], table, &[3], 2), true),

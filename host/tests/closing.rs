@@ -202,14 +202,14 @@ fn closes_or_has_no_room(station: &Station) {
     assert_eq!(answer(station, Call::Commit, &[]), needing(1));
 }
 
-/// "On discs of 1,000 sectors or more a write must leave 264 instead of 8": at the
+/// "On discs of 1,000 sectors or more a write must leave 264", and on others 16: at the
 /// bound and one sector beyond it, with links and without.
 #[test]
 fn room_that_a_write_leaves() {
     for (sectors, reserve) in [
-        (300, 8),
-        (998, 8),
-        (999, 8),
+        (300, 16),
+        (998, 16),
+        (999, 16),
         (1000, 264),
         (1001, 264),
         (3000, 264),

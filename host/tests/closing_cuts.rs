@@ -65,7 +65,7 @@ fn goes_on_after_the_cut(mut station: Station, kept: bool) {
         return;
     }
     let next = station.disc().recorded() + 7;
-    let table = match next + 1 + 8 < station.kinds.len() as u32 {
+    let table = match next + 1 + 16 <= station.kinds.len() as u32 {
         true => {
             assert_eq!(station.write(0, &BLOCK), done(next));
             next + 1

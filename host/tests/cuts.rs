@@ -21,6 +21,7 @@ use common::attempt::{Attempt, Made};
 use common::closing::{anchor, cuts, disc_of_closings, disc_with_room, has_pointer, CLOSING};
 use common::core::{Core, Short};
 use common::forge;
+use common::large;
 use common::random::{seed, Random};
 use common::roles::astray;
 use common::runs::{self, Shown};
@@ -98,7 +99,12 @@ impl List {
         if random.one_in(6) {
             tally.beside += self.try_each_cut(&attempt, &made, random)?;
         }
-        if random.one_in(if made.sectors > 1 { 3 } else { 10 }) {
+        let rarity = match made.sectors {
+            0..=1 => 10,
+            2..=8 => 3,
+            _ => 2,
+        };
+        if random.one_in(rarity) {
             let cuts = cuts(made.sectors, random);
             let j = random.pick(&cuts);
             tally.cut(attempt.call, made.sectors, j);
@@ -162,6 +168,9 @@ impl List {
         let page = self.history.draft.as_ref().or(self.history.page_back(0));
         let size = page.map_or(0, |page| page.size() as usize);
         let pages = self.history.pages.len();
+        if size > 458 && random.one_in(2) {
+            return call_for_a_large_save(random, size);
+        }
         // Few discs have room for a closing, so it comes soon on these.
         if self.core.disc().blank() as usize >= CLOSING && random.one_in(8) {
             return Call::CloseSession(anchor(random));
@@ -293,10 +302,20 @@ impl List {
     }
 }
 
-/// A disc for the next list: new, with forged tables, or the one that the list
-/// before has left.
+/// A save records those own sectors of a large table in which a number was written,
+/// and links in front of them after a closed packet.
+fn call_for_a_large_save(random: &mut Random, size: usize) -> Call {
+    match random.below(8) {
+        0..=4 => Call::Write(random.below(size) as u32),
+        5 => Call::ClosePacket,
+        _ => Call::Commit,
+    }
+}
+
+/// A disc for the next list: new, with forged tables, also in own sectors, or the one
+/// that the list before has left.
 fn next_disc(before: Option<List>, random: &mut Random) -> Station {
-    match (random.below(10), before) {
+    match (random.below(13), before) {
         (0..=2, Some(list)) => Station {
             image: list.core.image.to_vec(),
             kinds: list.core.kinds.to_vec(),
@@ -307,15 +326,16 @@ fn next_disc(before: Option<List>, random: &mut Random) -> Station {
         (5, _) => Station::blank(60),
         (6, _) => disc_with_room(random),
         (7, _) => disc_of_closings(random),
+        (10..=12, _) => large::disc_to_go_on(random),
         _ => forge::disc_without_vat(random),
     }
 }
 
-/// Lists whose pages have hundreds of numbers are short: every number of every
-/// page is read after each event.
+/// Lists whose pages have hundreds of numbers are short: many numbers of every page
+/// are read after each event.
 fn steps(list: &List, random: &mut Random) -> usize {
     let size = list.history.page_back(0).map_or(0, Snapshot::size);
-    1 + random.below(if size > 100 { 10 } else { 50 })
+    1 + random.below(if size > 100 { 20 } else { 50 })
 }
 
 /// Makes the events of a list. A full or closed disc soon shows nothing new.

@@ -13,6 +13,8 @@
 mod descriptors;
 #[path = "decks/disc.rs"]
 mod disc;
+#[path = "decks/large.rs"]
+mod large;
 #[path = "decks/reader.rs"]
 mod reader;
 #[path = "decks/runs.rs"]

@@ -76,30 +76,42 @@ fn lengths_of_a_disc_of_one_sector() {
 
 #[test]
 fn lengths_beside_later_refusals() {
-    let mut unsound = saved(12);
+    let mut unsound = saved(20);
     unsound.kinds[5] = 9;
     at_each_length(&unsound);
-    let mut unfit = saved(12);
+    let mut unfit = saved(20);
     unfit.change(|volume| volume.mode = 3);
     at_each_length(&unfit);
     tell_compared("lengths_beside_later_refusals");
 }
 
-/// Every length of the ledger and of the buffer beside it, up to beyond the right one.
+/// Every length of the buffer beside the ledger, up to beyond the right one.
 #[test]
-fn every_length_of_ledger_and_buffer() {
+fn every_length_of_the_last_buffer() {
     let station = saved_at(19);
     for length in 0..=2050 {
         let mut pair = Pair::holding(&station);
         for call in calls().filter(|call| call.lent_length().is_some()) {
             pair.call(call, &resized(beside(call), length));
         }
+    }
+    tell_compared("every_length_of_the_last_buffer");
+}
+
+/// Lengths of the ledger up to beyond the right one: each up to a sector's, each about
+/// the right one, and others between.
+#[test]
+fn lengths_of_the_ledger() {
+    let station = saved_at(19);
+    let between = (2050..LEDGER - 40).step_by(37);
+    for length in (0..2050).chain(between).chain(LEDGER - 40..LEDGER + 40) {
+        let mut pair = Pair::holding(&station);
         pair.lend_ledger(&resized(&station.ledger, length));
         for call in calls() {
             pair.call(call, beside(call));
         }
     }
-    tell_compared("every_length_of_ledger_and_buffer");
+    tell_compared("lengths_of_the_ledger");
 }
 
 /// Lengths of a timestamp and an answer of which only the low bits are right: 2.
@@ -142,7 +154,7 @@ fn every_length_of_a_views_buffer() {
 /// Image lengths about every multiple of a sector.
 #[test]
 fn every_length_of_a_small_image() {
-    let station = saved(12);
+    let station = saved(20);
     for image in 0..3 * SECTOR {
         for kinds in [0, 1, 2, 3] {
             let lent = Station {

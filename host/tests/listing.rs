@@ -7,6 +7,7 @@ use std::io::Write;
 use std::path::Path;
 use std::process::{Command, Stdio};
 
+use common::large::{map_over, places, Large, SIZES};
 use common::station::Station;
 use common::tables::{most_attributes, vat_behind};
 use station_model::answer::Refusal;
@@ -204,5 +205,29 @@ fn tables_behind_attributes_are_listed() {
         station.put_sector(3, 1, &foreign);
         assert!(listed(&input(&station)).ends_with(end));
         assert_listed(&station);
+    }
+}
+
+/// Tables of every size in own sectors, ours and another writer's, alone and in a chain;
+/// and what is listed where one of their sectors is lost.
+#[test]
+fn tables_in_own_sectors_are_listed() {
+    for size in SIZES {
+        let mut station = Station::blank(31);
+        station.kinds[..25].fill(1);
+        let first = Large::recorded_from(1, &map_over(1, size), NONE);
+        first.put(&mut station);
+        let own: Vec<u32> = (12..).take(places(size)).collect();
+        let reversed: Vec<u32> = own.into_iter().rev().collect();
+        let mut second = Large::lying_in(&reversed, 24, &map_over(24, size), first.block);
+        second.attributes = vec![0xA7; 220];
+        second.put(&mut station);
+        assert!(listed(&input(&station)).ends_with("clean\n"));
+        assert_listed(&station);
+        for (lost, kind) in [(1, 3), (first.block, 2), (12, 2), (24, 3)] {
+            let mut broken = station.clone();
+            broken.kinds[lost as usize] = kind;
+            assert_listed(&broken);
+        }
     }
 }

@@ -7,6 +7,7 @@ mod common;
 
 use common::closing::disc_of_closings;
 use common::forge;
+use common::large;
 use common::pair::Pair;
 use common::random::{cases, Random};
 use common::runs::{aimed, plant_entries};
@@ -17,8 +18,8 @@ use station_model::ledger::{LEDGER, READ_ONLY};
 use station_model::table::SECTOR;
 
 /// A disc of a few sectors, so that comparing it is cheap: blank, used, with
-/// tables, or with chains of them, and some with entries of runs; rarely a larger
-/// one, that has room for a closing or is closed.
+/// tables, also in own sectors, or with chains of them, and some with entries of runs;
+/// rarely a larger one, that has room for a closing or is closed.
 fn small_disc(random: &mut Random) -> Station {
     if random.one_in(24) {
         let mut station = disc_of_closings(random);
@@ -26,14 +27,15 @@ fn small_disc(random: &mut Random) -> Station {
         return station;
     }
     let sectors = match random.below(8) {
-        0 => 1 + random.below(12),
+        0 => 1 + random.below(20),
         1 => 50 + random.below(14),
-        _ => 12 + random.below(28),
+        _ => 20 + random.below(36),
     };
-    let mut station = match random.below(6) {
+    let mut station = match random.below(8) {
         0..=1 => Station::blank(sectors),
         2 => forge::used_disc(random, sectors),
         3 => forge::disc_of_chains(random, sectors),
+        4..=5 => large::disc_to_go_on(random),
         _ => forge::used_disc_with_vats(random, sectors),
     };
     if random.one_in(2) {

@@ -1,6 +1,6 @@
-//! Every byte of a table sector: tested by recognition or not, as document 01
-//! says. Each sector is held against the core and the model in every place
-//! where a call asks whether it is one.
+//! Every byte of a table sector with its table embedded: tested by recognition or
+//! not, as document 01 says. Each sector is held against the core and the model in
+//! every place where a call asks whether it is one.
 
 mod common;
 
@@ -9,10 +9,10 @@ use common::pair::tell_compared;
 use common::random::{cases, Random};
 use common::recogniser::Recogniser;
 use common::station::{done, Station};
-use common::tables::{most_attributes, vat_behind};
+use common::tables::{most_attributes, vat_behind, MOST_EMBEDDED};
 use station_model::calls::Call;
 use station_model::disc::{DATA, UNREADABLE};
-use station_model::table::{seal, LIMIT, NONE, SECTOR};
+use station_model::table::{seal, NONE, SECTOR};
 
 const BLOCK: u32 = 11;
 
@@ -123,7 +123,8 @@ fn each_byte_of_other_tables() {
     tell_compared("each_byte_of_other_tables");
 }
 
-/// "flags (16 bits): low three bits 3, embedded"
+/// "flags (16 bits): low three bits 3, embedded"; what stands behind the head is no
+/// descriptors of own sectors, so that it is no table with low three bits 0.
 #[test]
 fn only_the_low_bits_of_the_flags() {
     let mut recogniser = Recogniser::at(BLOCK);
@@ -169,7 +170,7 @@ fn entries_and_previous_below_the_block() {
 #[test]
 fn each_entry_below_the_block() {
     let mut recogniser = Recogniser::at(BLOCK);
-    for (attributes, size) in [(0, LIMIT), (220, 403)] {
+    for (attributes, size) in [(0, MOST_EMBEDDED), (220, 403)] {
         for v in 0..size {
             for (block, allowed) in [(BLOCK - 1, true), (BLOCK, false), (NONE, true)] {
                 let mut map = vec![NONE; size];

@@ -41,7 +41,7 @@ fn earlier_refusals_win(mut station: Station, call: Call, buffer: &[u8]) {
         assert_eq!(outcome(&station, call, buffer), 5, "{call:?}");
     }
     if reads_ledger {
-        station.change(|volume| volume.size = 459);
+        station.change(|volume| volume.size = 4088);
         assert_eq!(outcome(&station, call, buffer), 4, "{call:?}");
     }
     station.kinds[0] = 4;
@@ -63,21 +63,22 @@ fn earlier_refusals_win(mut station: Station, call: Call, buffer: &[u8]) {
 
 #[test]
 fn write() {
-    let mut station = Station::begun(9);
+    let mut station = Station::begun(17);
     assert_eq!(outcome(&station, Call::Write(0), &BLOCK), 0);
     let table = vat_sector(0, &[], NONE);
     assert_eq!(outcome(&station, Call::Write(0), &table), 15);
-    station.shorten(8);
+    station.shorten(16);
     assert_eq!(outcome(&station, Call::Write(0), &table), 14);
-    assert_eq!(outcome(&station, Call::Write(1), &table), 12);
-    assert_eq!(outcome(&station, Call::Write(457), &table), 12);
-    for size in [0, 457, 458] {
+    for v in [1, 457, 458, 500, 4086] {
+        assert_eq!(outcome(&station, Call::Write(v), &table), 12);
+    }
+    for size in [0, 458, 4086, 4087] {
         station.change(|volume| volume.size = size);
-        for v in [458, 459, 500, NONE] {
+        for v in [4087, 4088, 5000, NONE] {
             assert_eq!(outcome(&station, Call::Write(v), &table), 13);
         }
     }
-    earlier_refusals_win(station, Call::Write(500), &table);
+    earlier_refusals_win(station, Call::Write(5000), &table);
     tell_compared("write");
 }
 
@@ -86,15 +87,15 @@ fn write() {
 #[test]
 fn write_unnumbered() {
     let call = Call::WriteUnnumbered;
-    let mut station = Station::begun(9);
-    for size in [0, 1, 457, 458] {
+    let mut station = Station::begun(17);
+    for size in [0, 1, 458, 4086, 4087] {
         station.change(|volume| volume.size = size);
         assert_eq!(outcome(&station, call, &BLOCK), 0);
     }
     let table = vat_sector(0, &[], NONE);
     assert_eq!(outcome(&station, call, &table), 15);
     assert_eq!(outcome(&station, call, &pointer(0, 0)), 15);
-    station.shorten(8);
+    station.shorten(16);
     assert_eq!(outcome(&station, call, &BLOCK), 14);
     assert_eq!(outcome(&station, call, &table), 14);
     earlier_refusals_win(station, call, &table);
@@ -103,7 +104,7 @@ fn write_unnumbered() {
         volume.map.fill(0);
         volume.size = LIMIT as u32;
     });
-    assert_eq!(outcome(&taken, Call::Write(458), &BLOCK), 13);
+    assert_eq!(outcome(&taken, Call::Write(LIMIT as u32), &BLOCK), 13);
     assert_eq!(taken.write_unnumbered(&BLOCK), done(2));
     tell_compared("write_unnumbered");
 }
@@ -307,7 +308,7 @@ fn closed_disc() {
         (Call::Write(0), &BLOCK[..]),
         (Call::Write(0), &table),
         (Call::Write(2), &table),
-        (Call::Write(500), &table),
+        (Call::Write(5000), &table),
         (Call::WriteUnnumbered, &BLOCK),
         (Call::WriteUnnumbered, &table),
         (Call::Release(0), &[]),
@@ -348,10 +349,12 @@ fn ledger_that_does_not_fit() {
     let (fits, does_not_fit) = (10, 4);
     assert_eq!(outcome_with(&|_| ()), fits);
     assert_eq!(outcome_with(&|volume| volume.size = 458), fits);
-    assert_eq!(outcome_with(&|volume| volume.size = 459), does_not_fit);
+    assert_eq!(outcome_with(&|volume| volume.size = 4087), fits);
+    assert_eq!(outcome_with(&|volume| volume.size = 4088), does_not_fit);
     assert_eq!(outcome_with(&|volume| volume.size = NONE), does_not_fit);
     assert_eq!(outcome_with(&|volume| volume.map[1] = 0), does_not_fit);
     assert_eq!(outcome_with(&|volume| volume.map[457] = 0), does_not_fit);
+    assert_eq!(outcome_with(&|volume| volume.map[4086] = 0), does_not_fit);
     assert_eq!(outcome_with(&|volume| volume.map[0] = 1), fits);
     assert_eq!(outcome_with(&|volume| volume.map[0] = 2), does_not_fit);
     assert_eq!(outcome_with(&|volume| volume.map[0] = NONE), fits);

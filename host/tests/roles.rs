@@ -7,6 +7,7 @@ mod common;
 use common::built::BLOCK;
 use common::closing::{CLOSE, CLOSING};
 use common::pair::{tell_compared, Pair};
+use common::roles::assert_roles;
 use common::stamps::HALF_PAST;
 use common::station::{done, Station};
 use station_model::calls::Call;
@@ -14,14 +15,6 @@ use station_model::disc::{DATA, LINK, UNREADABLE};
 use station_model::table::{vat_sector, NONE, SECTOR};
 
 const LINKS: &str = "4444444";
-
-/// The roles are these digits, and the rest of the disc is blank.
-#[track_caller]
-fn assert_roles(station: &Station, recorded: &str) {
-    let digits = station.roles.iter().map(|role| char::from(b'0' + role));
-    let blank = "6".repeat(station.roles.len() - recorded.len());
-    assert_eq!(digits.collect::<String>(), recorded.to_string() + &blank);
-}
 
 /// A disc of 60 with sectors of these kinds, and behind them a table of this map,
 /// mounted.
@@ -79,7 +72,7 @@ fn the_disc_of_the_listing() {
 /// that the map does not name.
 #[test]
 fn blocks_without_a_number() {
-    let mut station = Station::begun(31);
+    let mut station = Station::begun(40);
     station.write_unnumbered(&BLOCK);
     station.write_unnumbered(&BLOCK);
     station.write(0, &BLOCK);
@@ -292,7 +285,7 @@ fn a_full_map() {
 /// A cut leaves an unreadable sector, and the next mount tells it from the rest.
 #[test]
 fn a_cut() {
-    let mut station = Station::begun(31);
+    let mut station = Station::begun(40);
     station.write(0, &BLOCK);
     station.call(Call::Commit);
     station.call(Call::ClosePacket);

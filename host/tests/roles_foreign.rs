@@ -1,6 +1,6 @@
 //! Random lists on discs of other decks, whose maps name blocks that no map of ours
-//! names: one block by several numbers, tables, links, unreadable sectors, a closing's
-//! sectors, blocks without a number.
+//! names: one block by several numbers, tables and their own sectors, links, unreadable
+//! sectors, a closing's sectors, blocks without a number.
 //!
 //! After each call the pair compares the roles with the model's, and with those worked
 //! out afresh from the history. What a call may change is also read off kinds and
@@ -13,6 +13,7 @@ mod common;
 use common::built::beside;
 use common::closing::{closed_by_another, disc_with_room, CLOSE};
 use common::forge;
+use common::large::Large;
 use common::pair::{tell_compared, Pair};
 use common::random::{cases, Random};
 use common::stamps::HALF_PAST;
@@ -58,6 +59,8 @@ struct Reach {
     superseded: usize,
     /// A number let go of a table, a link, an unreadable sector.
     of_another_kind: [usize; 3],
+    /// A number let go of an own sector of a table.
+    of_an_own_sector: usize,
     /// A foreign table named a block without a number, or a closing's.
     named_unnumbered: usize,
     closed: usize,
@@ -66,7 +69,12 @@ struct Reach {
 impl Reach {
     fn is_wide(&self) -> bool {
         let kinds = self.of_another_kind;
-        let met = [self.still_named, self.superseded, self.named_unnumbered];
+        let met = [
+            self.still_named,
+            self.superseded,
+            self.of_an_own_sector,
+            self.named_unnumbered,
+        ];
         self.closed > 20 && met.iter().chain(&kinds).all(|count| *count > 300)
     }
 
@@ -80,6 +88,7 @@ impl Reach {
             Some(LINK) => self.of_another_kind[1] += 1,
             Some(UNREADABLE) => self.of_another_kind[2] += 1,
             _ if disc.vat_at(block).is_some() => self.of_another_kind[0] += 1,
+            _ if disc.vat_blocks().contains(&block) => self.of_an_own_sector += 1,
             _ if after.volume().names(block) => self.still_named += 1,
             _ => self.superseded += 1,
         }
@@ -128,8 +137,8 @@ fn foreign_map(random: &mut Random, table: u32) -> Vec<u32> {
     (0..size).map(|_| random.pick(&named)).collect()
 }
 
-/// Another deck records a table with a foreign map behind the last sector; the next
-/// call is a mount.
+/// Another deck records a table with a foreign map behind the last sector, embedded or
+/// in a sector of its own that the disc has; the next call is a mount.
 fn foreign_table(random: &mut Random, pair: &mut Pair, reach: &mut Reach) {
     let table = pair.station().disc().recorded();
     if table as usize == pair.station().kinds.len() {
@@ -142,7 +151,15 @@ fn foreign_table(random: &mut Random, pair: &mut Pair, reach: &mut Reach) {
     let map = foreign_map(random, table);
     let is_unnumbered = |block: &u32| pair.station().roles.get(*block as usize) == Some(&2);
     reach.named_unnumbered += usize::from(map.iter().any(is_unnumbered));
-    pair.put_sector(table, DATA, &vat_sector(table, &map, previous));
+    let own = random.below(table as usize + 1) as u32;
+    if own < table && random.one_in(2) {
+        let large = Large::lying_in(&[own], table, &map, previous);
+        let (_, bytes) = large.sectors()[0];
+        pair.put_sector(own, DATA, &bytes);
+        pair.put_sector(table, DATA, &large.icb());
+    } else {
+        pair.put_sector(table, DATA, &vat_sector(table, &map, previous));
+    }
     pair.call(Call::Mount, &[]);
 }
 
@@ -246,7 +263,8 @@ fn junk_lent_as_roles() {
 }
 
 /// One byte throughout, each of the 256, before each call on a station where it is
-/// done: a role is set whatever it was, and is not read.
+/// done: the role of a sector that is recorded is set whatever it was, and that of one
+/// that is let go if it was in use.
 #[test]
 fn every_byte_lent_as_a_role() {
     let mut station = disc_with_room(&mut Random::of_case(0));

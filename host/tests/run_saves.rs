@@ -37,7 +37,7 @@ fn writes_in_all_but_the_entry() {
 /// or more, with links and without.
 #[test]
 fn room_for_an_unnumbered_write() {
-    for (sectors, reserve) in [(20, 8), (999, 8), (1000, 264), (2000, 264)] {
+    for (sectors, reserve) in [(28, 16), (999, 16), (1000, 264), (2000, 264)] {
         for (mode, links) in [(0, 7), (1, 0)] {
             let most = sectors - (links + 1 + reserve);
             for (recorded, has_room) in [(most - 1, true), (most, true), (most + 1, false)] {

@@ -8,6 +8,7 @@ use mathlib.Core.List.{List, [], _∷_, _++_}
 use mathlib.Core.Option.{Option, some}
 use lib.Dec.{eqb, ltb}
 use lib.ListN.{length, replicate}
+use Rattle.extent.specs.declared.Extent.{Extent}
 use Rattle.timestamp.specs.Timestamp.{valid, told}
 use Rattle.vat.specs.Table.{Lower, isTable}
 use Rattle.vat.specs.Sector.{noStamp, tableBytes}
@@ -15,18 +16,19 @@ use Rattle.anchor.specs.Anchor.{farthestStart, anchorTagged}
 use Rattle.disc.specs.Disc.{Disc, recorded, Sector, link, puts}
 use Rattle.disc.specs.declared.Walk.{Walk}
 use Rattle.disc.specs.declared.Walk.the-variants.{Reached}
-use Rattle.disc.specs.Tables.{tableAt, mapAt, newest, blockFound}
+use Rattle.disc.specs.Tables.{tableAt, mapAt, namedBy, newest, blockFound}
 use Rattle.disc.specs.Session.{closing, closingLength}
+use Rattle.disc.specs.Again.{freshOf}
 use Rattle.disc.specs.Save.{saveSectors, lastBlock}
-use Rattle.disc.proofs.Told.{below-same}
+use Rattle.disc.proofs.Told.{below-same, names-same, same-everywhere}
 use Rattle.disc.proofs.Found.{newest-table}
-use Rattle.disc.proofs.Save.{same-save}
+use Rattle.disc.proofs.Save.{save-same}
 use Rattle.disc.proofs.Recording.{AllWhole}
 use Rattle.volume.specs.declared.Volume.{Volume}
 use Rattle.volume.specs.Volume.{idle, readOnly, unpack, pack, mapOf, begun, filled, committed}
 use Rattle.recorder.specs.Calls.{Call, begin, mount, write, release, closePacket, commit, closeSession, read, lookBack, timeOf, stampOf, stampBuffer, bufferOf}
 use Rattle.recorder.specs.Refusals.{test, first, links, target, reserve, basic, ledgerLent, blockLent, stampLent, answerLent, unfit, gate, forbiddenAt, numberTests, stampWrong, noRoom, blockOf, notInUse, isSome, walked, isBroken, isEnded, walkTests, tests, outcome}
-use Rattle.recorder.specs.Effects.{Effect, settles, saved, blockReached, cleanNumber, effect, settled, after, ifDone, sectorsIf, secondNumber, sectorsOf}
+use Rattle.recorder.specs.Effects.{Effect, settles, saved, closingFirst, blockReached, cleanNumber, effect, settled, after, ifDone, sectorsIf, secondNumber, sectorsOf}
 use Rattle.alike.specs.Alike.{Alike, SameCall}
 use Rattle.recorder.proofs.Done.{mount-done, look-back-done, read-done}
 use Rattle.recorder.proofs.Answers.{walked-table}
@@ -57,10 +59,21 @@ module _ {d e : Disc} (a : Alike d e) where
   same-room : (v : Volume) {m n : ℕ} → m ≡ n → noRoom d v m ≡ noRoom e v n
   same-room v p = λ i. test 14 (ltb (same-blanks a i) (links v + p i))
 
-  -- the sectors of a save, behind what it puts first
+  -- the sectors of a save, behind what it puts first, and the own sectors among them: the table named as previous names the same blocks, which read the same
+  same-save : (l : List ℕ) (stamp : List ℕ) (b : ℕ) → let v : Volume = unpack l in
+      let t : List ℕ = tableBytes (mapOf v) (v .last) in
+      (saveSectors e t (v .last) stamp b ≡ saveSectors d t (v .last) stamp b) × (freshOf e t (v .last) ≡ freshOf d t (v .last))
+  same-save l stamp b =
+      let v : Volume = unpack l in
+      save-same d e (tableBytes (mapOf v) (v .last)) (v .last) (names-same d e (v .last) (λ c h. same-content a c) (same-content a (v .last)))
+      (same-everywhere d e (same-content a) (namedBy d (v .last))) stamp b
+
   same-sectors : (l : List ℕ) (stamp : List ℕ) (b : ℕ) → let v : Volume = unpack l in
       let t : List ℕ = tableBytes (mapOf v) (v .last) in saveSectors d t (v .last) stamp b ≡ saveSectors e t (v .last) stamp b
-  same-sectors l stamp b = let v : Volume = unpack l in same-save d e (tableBytes (mapOf v) (v .last)) (v .last) stamp b
+  same-sectors l stamp b = sym (same-save l stamp b .0)
+
+  same-first : (l : List ℕ) (main reserve : Extent) (start : ℕ) → closingFirst d (unpack l) main reserve start ≡ closingFirst e (unpack l) main reserve start
+  same-first l main reserve start = ap (λ (ss : List (List ℕ)). closing main reserve start (target (unpack l)) (length ss)) (sym (same-save l noStamp 0 .1))
 
   same-saved : (l : List ℕ) (first : List Sector) (stamp buffer : List ℕ) → let v : Volume = unpack l in saved d v (mapOf v) (v .last) first stamp buffer ≡ saved e v (mapOf v) (v .last) first stamp buffer
   same-saved l first stamp buffer = λ i.
@@ -132,7 +145,10 @@ module _ {d e : Disc} (a : Alike d e) where
   same-effect l (release n) h = refl
   same-effect l closePacket h = refl
   same-effect l (commit stamp) h = same-saved l [] (stampOf stamp) (stampBuffer stamp)
-  same-effect l (closeSession main reserve start) h = same-saved l (closing main reserve start (target (unpack l))) noStamp []
+  same-effect l (closeSession main reserve start) h =
+      let v : Volume = unpack l in
+      same-saved l (closingFirst d v main reserve start) noStamp []
+      ∙ ap (λ (first : List Sector). saved e v (mapOf v) (v .last) first noStamp []) (same-first l main reserve start)
   same-effect l (read n block) h = λ i.
       record {
         second = 0;

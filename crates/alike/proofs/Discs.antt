@@ -19,11 +19,11 @@ use Rattle.anchor.specs.Anchor.{anchorTagged}
 use Rattle.disc.specs.Disc.{Disc, lent, mostSectors, sized, leading, recorded, inOrder, blanks, kindAt, sectorAt, readable, content, Sector, link, plain, torn, stored, put, puts}
 use Rattle.disc.specs.declared.Walk.{Walk}
 use Rattle.disc.specs.declared.Walk.the-variants.{Reached, Broken, Ended}
-use Rattle.disc.specs.Tables.{tableAt, mapAt, previousAt, newestBelow, newest, stepped, walk}
+use Rattle.disc.specs.Tables.{tableAt, mapAt, previousAt, namedBy, newestBelow, newest, stepped, walk}
 use Rattle.disc.specs.Session.{closingLength, sessionClosed}
 use Rattle.disc.proofs.Recording.{Sound, Whole, leading-le, kind-recorded, AllWhole}
 use Rattle.disc.proofs.Order.{and-false}
-use Rattle.disc.proofs.Told.{table-same, Same, told}
+use Rattle.disc.proofs.Told.{table-same, same-everywhere, Same, told}
 use Rattle.disc.proofs.Found.{newest-table}
 use Rattle.volume.specs.declared.Volume.{Volume}
 use Rattle.volume.specs.Volume.{fits}
@@ -211,7 +211,7 @@ module _ {d e : Disc} (a : Alike d e) where
 
   -- of a table, all that it holds
   same-held : (b : ℕ) → tableAt d b ≡ true → Same d e b
-  same-held b t = told d e b (same-content b) t
+  same-held b t = told d e b (same-content b) (same-everywhere d e same-content (namedBy d b)) t
 
   pub same-map : (b : ℕ) → tableAt d b ≡ true → mapAt d b ≡ mapAt e b
   same-map b t = sym (same-held b t .its-map)

@@ -44,7 +44,7 @@ abbrev pub seenBack : Disc → List ℕ → ℕ → ℕ → ℕ → List ℕ →
 seenBack d l k n offset buffer = seen (view d (after d l (lookBack k) .ledger) n offset buffer)
 
 -- From here on: whatever events follow and make m saves more, each number of each save that a look back reaches now, also of one from before the list, is
--- seen as it is seen now. Any 1,848 bytes may be lent as ledger, now and then.
+-- seen as it is seen now. Any 16,364 bytes may be lent as ledger, now and then.
 abbrev pub SeenLater : World → History → Type 0
 SeenLater w h =
     (later : List Event) → AllAllowed w later

@@ -7,6 +7,7 @@ use mathlib.Core.Bool.{Bool, true, false, _&&_, not, and-true}
 use mathlib.Core.List.{List, [], _∷_, _++_}
 use mathlib.Core.Option.{Option, none, some}
 use lib.Dec.{eqb, leb}
+use lib.ListN.{length}
 use borrow.Author.Tests.{eq-eqb, ne-eqb, le-ltb, lt-ltb, le-leb, lt-leb}
 use Rattle.timestamp.specs.Timestamp.{valid}
 use Rattle.vat.specs.Table.{limit, unused}
@@ -18,7 +19,9 @@ use Rattle.disc.specs.Disc.{Disc, mostSectors, kindAt}
 use Rattle.disc.specs.Tables.{timeAt, blockFound, newestBelow, newest}
 use Rattle.disc.specs.Session.{closingLength, sessionClosed}
 use Rattle.disc.proofs.Found.{newest-below}
-use Rattle.disc.proofs.Save.{one-sector}
+use Rattle.disc.specs.Again.{freshOf}
+use Rattle.disc.specs.Save.{saveSectors}
+use Rattle.disc.proofs.Save.{save-count}
 use Rattle.volume.specs.Volume.{readOnly, unpack, mapOf, fits}
 use Rattle.volume.specs.declared.Volume.{Volume}
 use Rattle.recorder.specs.Calls.{begin, mount, write, release, closePacket, commit, closeSession, read, lookBack, timeOf, stampOf}
@@ -231,11 +234,15 @@ module _ (d : Disc) (l : List ℕ) (stamp : Option (List ℕ)) where
   unfolding first
   commit-16 z e = commit-rest z ∙ rw e
 
-  pub commit-tested : first (workingTests d l (stampLent l stamp)) ≡ 0 → stampWrong stamp ≡ false → outcome d l (commit stamp) ≡ first (noRoom d (unpack l) 1 ∷ [])
+  pub commit-tested : first (workingTests d l (stampLent l stamp)) ≡ 0 → stampWrong stamp ≡ false → (recording : ℕ)
+      → recording ≡ length (freshOf d (tableBytes (mapOf (unpack l)) (unpack l .last)) (unpack l .last)) + 1
+      → outcome d l (commit stamp) ≡ first (noRoom d (unpack l) recording ∷ [])
   unfolding first
-  commit-tested z e =
+  commit-tested z e recording is =
       let v : Volume = unpack l in
-      commit-rest z ∙ rw (e, one-sector d (tableBytes (mapOf v) (v .last)) (v .last) (stampOf stamp) (target v))
+      let all : length (saveSectors d (tableBytes (mapOf v) (v .last)) (v .last) (stampOf stamp) (target v)) ≡ recording =
+      save-count d (tableBytes (mapOf v) (v .last)) (v .last) (stampOf stamp) (target v) ∙ sym is in
+      commit-rest z ∙ rw (e, all)
 
 module _ (d : Disc) (l : List ℕ) (main reserved : Extent) (start : ℕ) where
   pub closing-stopped : (first (workingTests d l (ledgerLent l && true)) ≡ 0 → ⊥) → outcome d l (closeSession main reserved start) ≡ first (workingTests d l (ledgerLent l && true))

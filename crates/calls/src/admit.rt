@@ -1,6 +1,5 @@
 // The outcome of each call, its tests in order.
 use crate::Plan;
-use crate::basic::LEDGER;
 use crate::refused;
 use anchor::FARTHEST_START;
 use disc::session::CLOSING;
@@ -10,6 +9,7 @@ use timestamp::TOLD;
 use vat::table::LIMIT;
 use vat::table::SECTOR;
 use vat::table::UNUSED;
+use volume::LEDGER;
 ghost use mathlib.Core.Path.{_≡_};
 ghost use mathlib.Core.Bool.{true};
 ghost use mathlib.Core.Option.{none, some};
@@ -17,7 +17,7 @@ ghost use Prim.Native.Nat.{_≤_};
 ghost use lib.ListN.{length};
 ghost use Rattle.vat.specs.Table.{sectorLength};
 ghost use Rattle.disc.specs.declared.Walk.the-variants.{Reached};
-ghost use Rattle.disc.specs.Disc.{lent, leading, recorded};
+ghost use Rattle.disc.specs.Disc.{lent, sized, leading, recorded};
 ghost use Rattle.disc.specs.Tables.{tableAt, newest};
 ghost use Rattle.volume.specs.Volume.{ledgerLength, unpack};
 ghost use Rattle.recorder.specs.Calls.{begin, mount, write, release, closePacket, commit, closeSession, read, lookBack, timeOf};
@@ -65,10 +65,10 @@ pub fn time_of(image: &[u8], kinds: &[u8], ledger: &[u8], k: u32, answer: &[u8])
 
 // 15, what no write may put at block b of this disc: a table sector, or a pointer's tag.
 fn forbidden_at(image: &[u8], kinds: &[u8], block: &[u8], b: u32) -> bool
-    requires { ⌜ length (now block) ≡ sectorLength ⌝ }
+    requires { ⌜ (sized (lent (now image) (now kinds)) ≡ true) × (b ≤ length (now kinds)) × (length (now block) ≡ sectorLength) ⌝ }
     ensures { λ r. ⌜ r ≡ forbiddenAt (lent (now (image .entry)) (now (kinds .entry))) b (now (block .entry)) ⌝ }
 {
-    if vat::table::is_table(block, b) {
+    if disc::bytes::is_table(image, kinds, block, b) {
         return true;
     }
     anchor::tagged(block, b)
@@ -76,7 +76,7 @@ fn forbidden_at(image: &[u8], kinds: &[u8], block: &[u8], b: u32) -> bool
 
 // 14 and 15 of a write: room for the links, the block and the reserve, and a block that may stand behind the links.
 fn recordable(image: &[u8], kinds: &[u8], ledger: &[u8], block: &[u8]) -> u32
-    requires { ⌜ (length (now ledger) ≡ ledgerLength) × (unpack (now ledger) .recorded ≡ leading (now kinds)) × (length (now kinds) ≤ 360000) × (length (now block) ≡ sectorLength) ⌝ }
+    requires { ⌜ (sized (lent (now image) (now kinds)) ≡ true) × (length (now ledger) ≡ ledgerLength) × (unpack (now ledger) .recorded ≡ leading (now kinds)) × (length (now block) ≡ sectorLength) ⌝ }
     ensures { λ r. ⌜ r ≡ first (blockTests (lent (now (image .entry)) (now (kinds .entry))) (unpack (now (ledger .entry))) (now (block .entry))) ⌝ }
 {
     let links = crate::basic::links(ledger);
@@ -144,7 +144,8 @@ pub fn commit(image: &[u8], kinds: &[u8], ledger: &[u8]) -> u32
     if outcome != 0 {
         return outcome;
     }
-    crate::basic::room(kinds, ledger, 1)
+    let own = crate::basic::own_recorded(image, kinds, ledger);
+    crate::basic::room(kinds, ledger, own + 1)
 }
 
 pub fn commit_at(image: &[u8], kinds: &[u8], ledger: &[u8], stamp: &[u8]) -> u32
@@ -157,7 +158,8 @@ pub fn commit_at(image: &[u8], kinds: &[u8], ledger: &[u8], stamp: &[u8]) -> u32
     if !timestamp::valid(stamp) {
         return 16;
     }
-    crate::basic::room(kinds, ledger, 1)
+    let own = crate::basic::own_recorded(image, kinds, ledger);
+    crate::basic::room(kinds, ledger, own + 1)
 }
 
 pub fn close_session(

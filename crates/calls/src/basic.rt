@@ -3,20 +3,22 @@ use crate::Plan;
 use crate::refused;
 use disc::Walk;
 use vat::table::UNUSED;
+use volume::LEDGER;
 ghost use mathlib.Core.Path.{_≡_};
-ghost use mathlib.Core.Bool.{true, _&&_, not};
+ghost use mathlib.Core.Bool.{true, _&&_, _||_, not};
 ghost use mathlib.Core.List.{[], _∷_, _++_};
 ghost use mathlib.Core.Option.{some};
 ghost use Prim.Native.Nat.{_≤_};
+ghost use lib.Dec.{eqb};
 ghost use lib.ListN.{length};
-ghost use Rattle.vat.specs.Table.{limit};
+ghost use Rattle.vat.specs.Table.{limit, unused};
+ghost use Rattle.vat.specs.Sector.{tableBytes};
 ghost use Rattle.disc.specs.declared.Walk.the-variants.{Reached};
-ghost use Rattle.disc.specs.Disc.{lent, leading, recorded};
+ghost use Rattle.disc.specs.Disc.{lent, sized, leading, recorded};
 ghost use Rattle.disc.specs.Tables.{tableAt, newest};
-ghost use Rattle.volume.specs.Volume.{ledgerLength, unpack};
+ghost use Rattle.disc.specs.Again.{freshOf};
+ghost use Rattle.volume.specs.Volume.{ledgerLength, unpack, mapOf};
 ghost use Rattle.recorder.specs.Refusals.{test, first, links, basic, ledgerLent, unfit, gate, noRoom, reserve, notInUse, isSome, walked, walkTests};
-
-pub const LEDGER: usize = 1848;
 
 // 1, 2, 3: the disc's size, the lent lengths, the kinds. No ledger is read, so no count is likely.
 pub fn sound(image: &[u8], kinds: &[u8], lengths: bool) -> Plan
@@ -132,14 +134,24 @@ pub fn links(ledger: &[u8]) -> u32
     7
 }
 
-// "On discs of 1,000 sectors or more a write must leave 264 instead of 8."
+// "On discs of 1,000 sectors or more a write must leave 264", on others 16.
 pub fn reserve(sectors: usize) -> u32
     ensures { λ r. ⌜ r ≡ reserve sectors ⌝ }
 {
     if sectors < 1000 {
-        return 8;
+        return 16;
     }
     264
+}
+
+// How many own sectors a save of the ledger's state records.
+pub fn own_recorded(image: &[u8], kinds: &[u8], ledger: &[u8]) -> u32
+    requires { ⌜ (sized (lent (now image) (now kinds)) ≡ true) × (length (now ledger) ≡ ledgerLength) × (unpack (now ledger) .size ≤ limit) × ((eqb (unpack (now ledger) .last) unused || tableAt (lent (now image) (now kinds)) (unpack (now ledger) .last)) ≡ true) ⌝ }
+    ensures { λ r. ⌜ r ≡ length (freshOf (lent (now (image .entry)) (now (kinds .entry))) (tableBytes (mapOf (unpack (now (ledger .entry)))) (unpack (now (ledger .entry)) .last)) (unpack (now (ledger .entry)) .last)) ⌝ }
+{
+    let size = volume::ledger::size(ledger);
+    let last = volume::ledger::last(ledger);
+    disc::again::own_blocks(image, kinds, ledger, size, last, 0).fresh
 }
 
 // 14 of a save that records so many sectors behind its links.

@@ -14,12 +14,11 @@ use lib.ListN.{length, getD, drop, List·getD-eq-default}
 use lib.Seq.{drop-cons}
 use borrow.Author.Tests.{ne-eqb}
 use Rattle.disc.specs.Disc.{Disc, recorded, kindAt}
-use Rattle.disc.specs.Tables.{tableAt}
 use Rattle.volume.specs.Volume.{unpack, mapOf, grown}
 use Rattle.recorder.specs.Calls.{Call, mayRecord}
 use Rattle.recorder.specs.Refusals.{outcome}
 use Rattle.recorder.specs.Effects.{After, after}
-use Rattle.roles.specs.Roles.{inUse, names, roleOfKind, roleOfData, roleAt, rolesOf}
+use Rattle.roles.specs.Roles.{inUse, names, ofTable, roleOfKind, roleOfData, roleAt, rolesOf}
 use Rattle.roles.specs.Keeping.{afterRoles}
 use Rattle.roles.proofs.Roles.{length-tabulate, getD-tabulate}
 use Rattle.roles.proofs.Lent.{fit-same, done-fit, call-same, kept-fit}
@@ -72,9 +71,9 @@ afresh-roles (c ∷ cs) s apart fit =
     let rest = afresh-roles cs (leaves s c) apart′ (kept-fit (s .disc) (s .roles) (s .ledger) fit c ∙ ap (λ (a : After). length (a .disc .kinds)) (sym same)) in
     (rest .0, ap (λ (a : After). afresh (a .disc) (a .ledger) apart′ cs) (sym same) ∙ rest .1)
 
-role-in-use : (d : Disc) (map apart : List ℕ) (b : ℕ) → eqb (roleAt d map apart b) inUse ≡ (eqb (kindAt d b) 1 && (not (tableAt d b) && names map b))
+role-in-use : (d : Disc) (map apart : List ℕ) (b : ℕ) → eqb (roleAt d map apart b) inUse ≡ (eqb (kindAt d b) 1 && (not (ofTable d b) && names map b))
 unfolding roleAt
-role-in-use d map apart b = go (kindAt d b) (tableAt d b) (names map b) (names apart b)
+role-in-use d map apart b = go (kindAt d b) (ofTable d b) (names map b) (names apart b)
   where
     go : (k : ℕ) (t n a : Bool) → eqb (roleOfKind k (roleOfData t n a)) inUse ≡ (eqb k 1 && (not t && n))
     go zero t n a = refl
@@ -109,5 +108,5 @@ module _ {roles : List ℕ} (s : Lent) (c : Call) (cs : List Call) (left : Roles
 
   pub is-not-held : (b : ℕ) → length roles ≤ b → false ≡ holding ends b
   is-not-held b h =
-      ap (λ (k : ℕ). eqb k 1 && (not (tableAt (ends .disc) b) && names (mapOf (unpack (ends .ledger))) b))
+      ap (λ (k : ℕ). eqb k 1 && (not (ofTable (ends .disc) b) && names (mapOf (unpack (ends .ledger))) b))
       (sym (List·getD-eq-default (ends .disc .kinds) 0 (omega (arith, as-many))))

@@ -275,7 +275,7 @@ moved-back (c ∷ cs) x h ok a k =
     go true is e r = moved-on (saved-page (x .disc) (x .ledger) h k c is e (secondNumber (x .disc) (x .ledger) c)) r
     go false is e {qs} r = subst (λ (ps : List Snapshot). MovedBack ps qs (savesAmong cs)) (unsaved c is (secondNumber (x .disc) (x .ledger) c) h) r
 
--- a later day on the disc that the calls left, lent any bytes as roles, one a sector, any 1,848 bytes as ledger and a block
+-- a later day on the disc that the calls left, lent any bytes as roles, one a sector, any 16,364 bytes as ledger and a block
 pub record Later (x : Day) (cs : List Call) (y : Day) (out : List ℕ) : Type 0 where
   pub ok : y .answer < 4294967296
   pub there : day x cs .disc ≡ y .disc

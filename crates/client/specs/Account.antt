@@ -5,10 +5,9 @@ use mathlib.Core.List.{List, _∷_}
 use mathlib.Core.Path.{_≡_}
 use lib.Dec.{eqb}
 use Rattle.disc.specs.Disc.{kindAt}
-use Rattle.disc.specs.Tables.{tableAt}
 use Rattle.volume.specs.Volume.{unpack, mapOf}
 use Rattle.recorder.specs.Calls.{Call, restores}
-use Rattle.roles.specs.Roles.{names}
+use Rattle.roles.specs.Roles.{names, ofTable}
 use Rattle.roles.specs.Keeping.{outcomeRoles}
 use Rattle.space.specs.Space.{Lent, leavesAll}
 
@@ -18,6 +17,6 @@ pub record RolesLeft (s : Lent) (c : Call) (cs : List Call) (roles : List ℕ) :
   pub is-done : outcomeRoles (s .disc) (s .roles) (s .ledger) c ≡ 0
   pub all-left : leavesAll s (c ∷ cs) .roles ≡ roles
 
--- Block b is data and no table, and the ledger's map names it.
+-- Block b is data and no table's, and the ledger's map names it.
 abbrev pub holding : Lent → ℕ → Bool
-holding s b = eqb (kindAt (s .disc) b) 1 && (not (tableAt (s .disc) b) && names (mapOf (unpack (s .ledger))) b)
+holding s b = eqb (kindAt (s .disc) b) 1 && (not (ofTable (s .disc) b) && names (mapOf (unpack (s .ledger))) b)

@@ -22,7 +22,7 @@ ghost use Rattle.archive.specs.Earlier.{seenBack, showing};
 ghost use Rattle.alike.specs.Alike.{Alike};
 ghost use Rattle.client.specs.Day.{Day, ended, day, AllDone, opening, savesAmong, sectorsBehind, CutBehind, tableKept, readsOf, StoppedStoring, StoppedMarking, leftBy, world, NoSave, ClosedAnswer, filling, storing, joinedBlocks};
 
-// Whatever was done since a save of x, with k saves among it: k saves back, v reads x. Any 1,848 bytes will do as ledger, and
+// Whatever was done since a save of x, with k saves among it: k saves back, v reads x. Any 16,364 bytes will do as ledger, and
 // any bytes as roles, one a sector.
 pub fn long_ago(
     image: &[u8],
@@ -38,7 +38,7 @@ pub fn long_ago(
     crate::show_back(image, kinds, roles, ledger, k, v, out)
 }
 
-// Whatever was done before a save and since, with k saves among what came since: k saves back its time is told, and 16 of a save without one. Any 1,848
+// Whatever was done before a save and since, with k saves among what came since: k saves back its time is told, and 16 of a save without one. Any 16,364
 // bytes will do as ledger.
 pub fn told_long_ago(image: &[u8], kinds: &[u8], ledger: &[u8], k: u32, answer: &mut [u8]) -> u64
     ensures { λ r. ⌜ ((start : Day) (fresh : Bool) (before since : List Call) (stamp : List ℕ) → start .answer < 4294967296 → AllDone start (opening fresh ∷ (before ++ (commit (some stamp) ∷ since))) → savesAmong since ≡ k → (lent (now (image .entry)) (now (kinds .entry))) ≡ day start (opening fresh ∷ (before ++ (commit (some stamp) ∷ since))) .disc → length (now (ledger .entry)) ≡ ledgerLength → length (now (answer .entry)) ≡ toldLength → (r ≡ 0) × (now (answer .exit) ≡ told stamp)) ⌝ }
@@ -48,7 +48,7 @@ pub fn told_long_ago(image: &[u8], kinds: &[u8], ledger: &[u8], k: u32, answer: 
 }
 
 // Whatever was done before a save and since, with k saves among what came since: k saves back, number v shows of its run what it showed directly behind
-// that save. Any 1,848 bytes will do as ledger, then and now, any bytes as roles, one a sector, and any bytes in the sectors that are not data.
+// that save. Any 16,364 bytes will do as ledger, then and now, any bytes as roles, one a sector, and any bytes in the sectors that are not data.
 pub fn seen_long_ago(
     image: &[u8],
     kinds: &[u8],
@@ -82,7 +82,7 @@ pub fn view_run(
     viewer::view(image, kinds, ledger, v, offset, out)
 }
 
-// A disc whose session was closed mounts clean, whatever was tried on it since, done, refused or cut. Any 1,848 bytes will do as ledger, and any bytes as
+// A disc whose session was closed mounts clean, whatever was tried on it since, done, refused or cut. Any 16,364 bytes will do as ledger, and any bytes as
 // roles, one a sector.
 pub fn mount_closed(image: &[u8], kinds: &[u8], roles: &mut [u8], ledger: &mut [u8]) -> u64
     ensures { λ r. ⌜ ((start : Day) (fresh : Bool) (before : List Call) (main reserve : Extent) (n : ℕ) (held : Option (List ℕ)) (tried : List Event) → start .answer < 4294967296 → AllDone start (opening fresh ∷ (before ++ (closeSession main reserve n ∷ []))) → (lent (now (image .entry)) (now (kinds .entry))) ≡ leftBy (day start (opening fresh ∷ (before ++ (closeSession main reserve n ∷ []))) .disc) held tried → length (now (roles .entry)) ≡ length (now (kinds .entry)) → length (now (ledger .entry)) ≡ ledgerLength → r ≡ 1) ⌝ }
@@ -90,7 +90,7 @@ pub fn mount_closed(image: &[u8], kinds: &[u8], roles: &mut [u8], ledger: &mut [
     keeper::mount(image, kinds, roles, ledger)
 }
 
-// Whatever was tried on a disc since its session was closed, done, refused or cut: v reads what was saved. Any 1,848 bytes will do as ledger,
+// Whatever was tried on a disc since its session was closed, done, refused or cut: v reads what was saved. Any 16,364 bytes will do as ledger,
 // and any bytes as roles, one a sector.
 pub fn after_closing(
     image: &[u8],
@@ -119,7 +119,7 @@ pub fn write_on_closed(
     keeper::write(image, kinds, roles, ledger, v, block)
 }
 
-// Whatever happened since a save of x, calls done, refused or cut of which none made a save: v reads x. Any 1,848 bytes will do as ledger, any bytes as
+// Whatever happened since a save of x, calls done, refused or cut of which none made a save: v reads x. Any 16,364 bytes will do as ledger, any bytes as
 // roles, one a sector, and any bytes in the sectors that are not data.
 pub fn after_events(
     image: &[u8],
@@ -135,7 +135,7 @@ pub fn after_events(
 }
 
 // The morning after a power cut. After a save of x and a write of y, whatever call was cut, and after however many of its sectors: v reads y if that
-// call saves and kept its table, and else x. Any 1,848 bytes will do as ledger, any bytes as roles, one a sector, and any bytes in the sectors that are
+// call saves and kept its table, and else x. Any 16,364 bytes will do as ledger, any bytes as roles, one a sector, and any bytes in the sectors that are
 // not data.
 pub fn after_cut(
     image: &[u8],

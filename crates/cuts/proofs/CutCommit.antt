@@ -3,7 +3,7 @@
 --     cut-pages     the pages are the list's, and the draft before them exactly if the cut kept the last sector
 -- Assumes nothing.
 use Prim.Native.Nat.{ℕ, _≤_}
-use mathlib.Core.Bool.{Bool, true, false, _&&_}
+use mathlib.Core.Bool.{Bool, false, _&&_}
 use mathlib.Core.List.{List, [], _∷_, _++_}
 use mathlib.Core.Option.{Option, none, some}
 use mathlib.Core.Path.{_≡_, refl, sym, ap, _∙_, subst, subst₂}
@@ -14,34 +14,28 @@ use Rattle.recorder.specs.Calls.{Call, commit}
 use Rattle.recorder.specs.Refusals.{outcome}
 use Rattle.recorder.specs.Effects.{sectorsOf}
 use Rattle.history.specs.History.{Snapshot, History, savedIf, feed}
-use Rattle.history.specs.Events.{World, Event, cuts, ledgerHeld, Torn, Allowed, cutDisc, next, fed, AllAllowed, runs, remembers, afterCall}
-use Rattle.bench.proofs.Starred.{opened, same, full, both}
+use Rattle.history.specs.Events.{World, Event, cuts, ledgerHeld, Torn, Allowed, cutDisc, next, fed, AllAllowed, runs, remembers, shown, afterCall}
+use Rattle.bench.proofs.States.{outcomeOf, both, outcome-same, sectorsHeld, sectors-same}
+use Rattle.bench.proofs.Starred.{opened, full}
 use Rattle.cuts.proofs.Pages.{same-entry, same-page, same-pages, page-same, pages-same}
-use Rattle.cuts.proofs.Worked.{some-none, Played, played, all-allowed, world-left, past-left}
+use Rattle.cuts.proofs.Worked.{Kept, Matches, some-none, Played, So, played-from, from-started, from-so}
 
 -- ---- the test
-
-unfoldable pub held : Option (List ℕ) → Bool
-held none = false
-held (some l) = true
 
 unfoldable pub same-draft : Option Snapshot → Snapshot → Bool
 same-draft none p = false
 same-draft (some q) p = same-page q p
 
 -- A state is at hand, a commit would be done with n sectors, and the history has these pages and this draft.
-unfoldable pub commits : World → History → ℕ → List Snapshot → Snapshot → Bool
-commits w h n ps draft =
-    let l : List ℕ = ledgerHeld (w .ledger) [] in
-    held (w .ledger)
-    && (eqb (outcome (w .disc) l (commit none)) 0
-    && (eqb (length (sectorsOf (w .disc) l (commit none))) n && (same-pages (h .pages) ps && same-draft (h .draft) draft)))
+unfoldable pub commits : Disc → Option Kept → History → ℕ → List Snapshot → Snapshot → Bool
+commits d none h n ps draft = false
+commits d (some k) h n ps draft =
+    eqb (outcomeOf d (k .long) (k .state) (commit none)) 0
+    && (eqb (length (sectorsHeld d (k .long) (k .state) (commit none))) n && (same-pages (h .pages) ps && same-draft (h .draft) draft))
 
 unfoldable pub commit-works : Disc → Call → History → List Event → ℕ → List Snapshot → Snapshot → Bool
-unfolding opened same same-entry same-page same-pages cutDisc next fed feed played held same-draft commits
-commit-works d c h es n ps draft =
-    let p : Played = played true (afterCall d full c) h es in
-    eqb (outcome d full c) 0 && (p .allowed && commits (p .world) (p .past) n ps draft)
+unfolding opened same-entry same-page same-pages cutDisc feed played-from same-draft commits shown
+commit-works d c h es n ps draft = let p : Played = played-from d c h es in p .allowed && commits (p .disc) (p .kept) (p .past) n ps draft
 
 -- ---- what it says
 
@@ -52,32 +46,28 @@ record Commits (w : World) (h : History) (n : ℕ) (ps : List Snapshot) (p : Sna
   pages : h .pages ≡ ps
   draft : h .draft ≡ some p
 
-held-some : (o : Option (List ℕ)) → T (held o) → o ≡ none → ⊥
-unfolding held
-held-some none t lost = t
-held-some (some l) t lost = some-none lost
-
 draft-same : (o : Option Snapshot) (p : Snapshot) → T (same-draft o p) → o ≡ some p
 unfolding same-draft
 draft-same none p t = absurd t
 draft-same (some q) p t = ap (λ (x : Snapshot). some x) (page-same q p t)
 
-commits-so : (w : World) (h : History) (n : ℕ) (ps : List Snapshot) (draft : Snapshot) → T (commits w h n ps draft) → Commits w h n ps draft
+commits-so : (d : Disc) (o : Option (List ℕ)) (k : Option Kept) (h : History) (n : ℕ) (ps : List Snapshot) (draft : Snapshot) → Matches o k
+    → T (commits d k h n ps draft) → Commits (record { disc = d; ledger = o }) h n ps draft
 unfolding commits
-commits-so w h n ps draft t =
-    let l : List ℕ = ledgerHeld (w .ledger) [] in
-    let done : Bool = eqb (outcome (w .disc) l (commit none)) 0 in
-    let counted : Bool = eqb (length (sectorsOf (w .disc) l (commit none))) n in
+commits-so d o none h n ps draft m t = absurd t
+commits-so d none (some k) h n ps draft m t = absurd m
+commits-so d (some l) (some k) h n ps draft m t =
+    let done : Bool = eqb (outcomeOf d (k .long) (k .state) (commit none)) 0 in
+    let counted : Bool = eqb (length (sectorsHeld d (k .long) (k .state) (commit none))) n in
     let paged : Bool = same-pages (h .pages) ps in
     let drafted : Bool = same-draft (h .draft) draft in
-    let a = both (held (w .ledger)) (done && (counted && (paged && drafted))) t in
-    let b = both done (counted && (paged && drafted)) (a .1) in
+    let b = both done (counted && (paged && drafted)) t in
     let c = both counted (paged && drafted) (b .1) in
     let e = both paged drafted (c .1) in
     record {
-      has-state = held-some (w .ledger) (a .0);
-      is-done = eqb→eq (outcome (w .disc) l (commit none)) 0 (b .0);
-      sectors = eqb→eq (length (sectorsOf (w .disc) l (commit none))) n (c .0);
+      has-state = some-none;
+      is-done = outcome-same d l (commit none) m ∙ eqb→eq (outcomeOf d (k .long) (k .state) (commit none)) 0 (b .0);
+      sectors = ap length (sectors-same d l (commit none) m) ∙ eqb→eq (length (sectorsHeld d (k .long) (k .state) (commit none))) n (c .0);
       pages = pages-same (h .pages) ps (e .0);
       draft = draft-same (h .draft) draft (e .1);
     }
@@ -105,24 +95,27 @@ module _ (d : Disc) (c : Call) (h : History) (es : List Event) (n : ℕ) (ps : L
   abbrev w : World
   w = afterCall d full c
 
-  parts : T (eqb (outcome d full c) 0) × (T (played true w h es .allowed) × T (commits (played true w h es .world) (played true w h es .past) n ps draft))
+  abbrev p : Played
+  p = played-from d c h es
+
+  parts : T (p .allowed) × T (commits (p .disc) (p .kept) (p .past) n ps draft)
   unfolding commit-works
-  parts =
-      let p : Played = played true w h es in
-      let s = both (eqb (outcome d full c) 0) (p .allowed && commits (p .world) (p .past) n ps draft) t in
-      (s .0, both (p .allowed) (commits (p .world) (p .past) n ps draft) (s .1))
+  parts = both (p .allowed) (commits (p .disc) (p .kept) (p .past) n ps draft) t
+
+  so : So w h es p
+  so = from-so d c h es (parts .0)
 
   ready : Commits (runs w es) (remembers w h es) n ps draft
   ready =
-      subst₂ (λ (x : World) (k : History). Commits x k n ps draft) (world-left es true w h) (past-left es true w h)
-      (commits-so (played true w h es .world) (played true w h es .past) n ps draft (parts .1 .1))
+      subst₂ (λ (x : Disc) (g : History). Commits (record { disc = x; ledger = runs w es .ledger }) g n ps draft) (sym (so .disc)) (sym (so .past))
+      (commits-so (p .disc) (runs w es .ledger) (p .kept) (p .past) n ps draft (so .ledger) (parts .1))
 
   pub cut-started : outcome d full c ≡ 0
-  cut-started = eqb→eq (outcome d full c) 0 (parts .0)
+  cut-started = from-started d c h es (parts .0)
 
   pub cut-allowed : (j : ℕ) → j ≤ n → (tear : Option (List ℕ)) → Torn tear → AllAllowed w (es ++ (cuts (commit none) [] j tear ∷ []))
   cut-allowed j most tear long =
-      allowed-then es w (cuts (commit none) [] j tear) (all-allowed es true w h (parts .1 .0) .1)
+      allowed-then es w (cuts (commit none) [] j tear) (so .allowed)
       ((λ lost done. absurd (ready .has-state lost)), subst (λ (k : ℕ). j ≤ k) (sym (ready .sectors)) most, long)
 
   pub cut-pages : (j : ℕ) (tear : Option (List ℕ)) → remembers w h (es ++ (cuts (commit none) [] j tear ∷ [])) .pages ≡ savedIf (eqb j n) (some draft) ps

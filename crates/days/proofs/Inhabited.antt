@@ -3,7 +3,7 @@
 -- Assumes nothing.
 use Prim.Native.Nat.{ℕ, _+_, _*_, _≤_, _<_}
 use native.Mathlib.Omega.{arith}
-use mathlib.Core.Bool.{Bool, true, false, _&&_}
+use mathlib.Core.Bool.{Bool, true, false}
 use mathlib.Core.List.{List, [], _∷_, _++_}
 use mathlib.Core.Option.{none, some}
 use mathlib.Core.Path.{_≡_, refl, sym, _∙_, subst}
@@ -19,11 +19,11 @@ use Rattle.volume.specs.Volume.{ledgerLength}
 use Rattle.recorder.specs.Calls.{Call, begin, write, release, closePacket, commit, closeSession}
 use Rattle.recorder.specs.Effects.{after}
 use Rattle.recorder.proofs.Answers.{done-small}
-use Rattle.roles.specs.Roles.{names, roleAt, tabulate}
+use Rattle.roles.specs.Roles.{names, namedBelow, ofTable, roleAt, tabulate}
 use Rattle.roles.specs.Keeping.{scanned, letGo, marked, keptUp, outcomeRoles, afterRoles}
 use Rattle.run.specs.Entry.{totalSectors, fileRows, entry}
 use Rattle.space.specs.Space.{Lent, leavesAll}
-use Rattle.bench.proofs.Starred.{opened, blank, block, both, full, stamp}
+use Rattle.bench.proofs.Starred.{opened, blank, block, full, stamp}
 use Rattle.client.specs.Day.{Day, day, AllDone, opening, CutBehind, StoppedStoring, StoppedMarking, storing}
 use Rattle.client.specs.Account.{RolesLeft}
 use Rattle.client.proofs.Days.{part-done, did, Fit, first-fit, next-fit}
@@ -49,39 +49,42 @@ abbrev pub save-at : List Call
 save-at = opening true ∷ write (some 0) (block 1) ∷ commit (some (stamp 60 1970 1 1 0 30)) ∷ []
 
 abbrev pub stored : List Call
-stored = storing (fresh 12) true 0 (block 1) (block 2 ∷ []) 2051
+stored = storing (fresh 20) true 0 (block 1) (block 2 ∷ []) 2051
 
 unfoldable pub all-done : Day → List Call → Bool
 all-done x cs = ltb (day x cs .answer) 4294967296
 
-all-days : T (all-done (fresh 31) (save ++ (save-again ++ save-released)) && (all-done (fresh 10) save-at && all-done (fresh 12) stored))
-unfolding opened names roleAt tabulate scanned letGo marked keptUp outcomeRoles afterRoles totalLength descriptors totalSectors fileRows entry day all-done
-all-days = tt
+thrice : T (all-done (fresh 39) (save ++ (save-again ++ save-released)))
+unfolding opened names namedBelow ofTable roleAt tabulate scanned letGo marked keptUp outcomeRoles afterRoles totalLength descriptors totalSectors fileRows entry day all-done
+thrice = tt
 
-pub saved-thrice : AllDone (fresh 31) (save ++ (save-again ++ save-released))
+pub saved-thrice : AllDone (fresh 39) (save ++ (save-again ++ save-released))
 unfolding all-done
-saved-thrice =
-    ltb→lt (day (fresh 31) (save ++ (save-again ++ save-released)) .answer) 4294967296
-    (both (all-done (fresh 31) (save ++ (save-again ++ save-released))) (all-done (fresh 10) save-at && all-done (fresh 12) stored) all-days .0)
+saved-thrice = ltb→lt (day (fresh 39) (save ++ (save-again ++ save-released)) .answer) 4294967296 thrice
 
-pub saved-at : AllDone (fresh 10) save-at
+timed : T (all-done (fresh 18) save-at)
+unfolding opened names namedBelow ofTable roleAt tabulate scanned letGo marked keptUp outcomeRoles afterRoles totalLength descriptors totalSectors fileRows entry day all-done
+timed = tt
+
+pub saved-at : AllDone (fresh 18) save-at
 unfolding all-done
-saved-at =
-    let rest = both (all-done (fresh 31) (save ++ (save-again ++ save-released))) (all-done (fresh 10) save-at && all-done (fresh 12) stored) all-days .1 in
-    ltb→lt (day (fresh 10) save-at .answer) 4294967296 (both (all-done (fresh 10) save-at) (all-done (fresh 12) stored) rest .0)
+saved-at = ltb→lt (day (fresh 18) save-at .answer) 4294967296 timed
 
-pub run-stored : AllDone (fresh 12) stored
+storing-done : T (all-done (fresh 20) stored)
+unfolding opened names namedBelow ofTable roleAt tabulate scanned letGo marked keptUp outcomeRoles afterRoles totalLength descriptors totalSectors fileRows entry day all-done
+storing-done = tt
+
+pub run-stored : AllDone (fresh 20) stored
 unfolding all-done
-run-stored =
-    let rest = both (all-done (fresh 31) (save ++ (save-again ++ save-released))) (all-done (fresh 10) save-at && all-done (fresh 12) stored) all-days .1 in
-    ltb→lt (day (fresh 12) stored .answer) 4294967296 (both (all-done (fresh 10) save-at) (all-done (fresh 12) stored) rest .1)
+run-stored = ltb→lt (day (fresh 20) stored .answer) 4294967296 storing-done
 
--- the earlier parts of that day
-pub saved-twice : AllDone (fresh 31) (save ++ save-again)
-saved-twice = part-done (save ++ save-again) save-released (fresh 31) saved-thrice
+-- the earlier parts of the first day
 
-pub saved-once : AllDone (fresh 31) (save ++ (write (some 0) (block 2) ∷ []))
-saved-once = part-done (save ++ (write (some 0) (block 2) ∷ [])) (closePacket ∷ commit none ∷ []) (fresh 31) saved-twice
+pub saved-twice : AllDone (fresh 39) (save ++ save-again)
+saved-twice = part-done (save ++ save-again) save-released (fresh 39) saved-thrice
+
+pub saved-once : AllDone (fresh 39) (save ++ (write (some 0) (block 2) ∷ []))
+saved-once = part-done (save ++ (write (some 0) (block 2) ∷ [])) (closePacket ∷ commit none ∷ []) (fresh 39) saved-twice
 
 -- ---- behind any calls that are done
 

@@ -112,7 +112,7 @@ module _ (x : Day) where
       none-made cut-save (world x) (call-leaves (world x) (write (some 0) (block 2)) (λ done h second. refl), (call-leaves written closePacket (λ done h second. refl), rest))
 
 abbrev saved-day : Day
-saved-day = day (fresh 31) save
+saved-day = day (fresh 39) save
 
-pub unsaved : AllDone (fresh 31) save × AllAllowed (world saved-day) cut-save × NoSave (world saved-day) cut-save
-unsaved = (part-done save (write (some 0) (block 2) ∷ []) (fresh 31) saved-once, allowed saved-day, no-save saved-day)
+pub unsaved : AllDone (fresh 39) save × AllAllowed (world saved-day) cut-save × NoSave (world saved-day) cut-save
+unsaved = (part-done save (write (some 0) (block 2) ∷ []) (fresh 39) saved-once, allowed saved-day, no-save saved-day)

@@ -12,6 +12,7 @@ use Rattle.timestamp.proofs.Stamps as stamps
 use Rattle.vat.proofs.Theorems as tables
 use Rattle.anchor.proofs.Theorems as pointers
 use Rattle.disc.proofs.Told.{other-kind}
+use Rattle.disc.proofs.Fresh as own
 use Rattle.volume.proofs.State.{unpack-pack, pack-unpack}
 use Rattle.recorder.proofs.Answers.{done-small}
 use Rattle.run.proofs.Theorems as runs
@@ -26,6 +27,7 @@ use Rattle.space.proofs.Called as called
 use Rattle.alike.proofs.Views as alike
 use Rattle.alike.proofs.Scribbles as scribbles
 use Rattle.bench.proofs.Starred as bench
+use Rattle.bench.proofs.Apart as apart
 use Rattle.delivery.specs.Delivery.{Delivery}
 
 refusals : (d : Disc) (rs l : List ℕ) (c : Call) (n : ℕ) → outcomeRoles d rs l c ≡ suc n → afterRoles d rs l c ≡ leftRoles (suc n * 4294967296) (d .image) (d .kinds) rs l (bufferOf c)
@@ -73,4 +75,6 @@ delivered =
       unnumbered-rows = bench.unnumbered-rows;
       space = roles.space;
       as-without-roles = called.as-without-roles;
+      own-neither = own.fresh-neither;
+      apart-rows = apart.apart-rows;
     }

@@ -32,14 +32,14 @@ module _ (d : Disc) (l : List ℕ) (e : outcome d l mount ≡ 0) (es : List Even
   abbrev past : History
   past = remembers (afterCall d l mount) (mountedHistory d) es
 
-  pub looks-back : (m : List ℕ) → length m ≡ 1848 → (k : ℕ) → k < length (past .pages) → (n : ℕ)
+  pub looks-back : (m : List ℕ) → length m ≡ 16364 → (k : ℕ) → k < length (past .pages) → (n : ℕ)
       → getD (unpack (after (w .disc) m (lookBack k) .ledger) .entries) n unused ≡ blockNumber (getD (getD (past .pages) k []) n unusedEntry)
   looks-back m long k below n = delivered .power-cuts .after-mount d l e es a .looks m long k below .showing .entry n
 
   -- a closing that is done closes the disc, which mounts clean
   pub closes : (m : List ℕ) → w .ledger ≡ some m → (main reserve : Extent) (start : ℕ) → outcome (w .disc) m (closeSession main reserve start) ≡ 0
       → let left : Disc = after (w .disc) m (closeSession main reserve start) .disc in
-      (sessionClosed left ≡ true) × ((held : List ℕ) → length held ≡ 1848 → after left held mount .answer ≡ 1)
+      (sessionClosed left ≡ true) × ((held : List ℕ) → length held ≡ 16364 → after left held mount .answer ≡ 1)
   closes m here main reserve start c =
       let closed = delivered .closed-discs .after-mount d l e es a m here main reserve start c .2 in
       (closed .is-closed, closed .clean)
@@ -47,7 +47,7 @@ module _ (d : Disc) (l : List ℕ) (e : outcome d l mount ≡ 0) (es : List Even
   -- and each save that is there is seen later as it is now
   pub seen-back : (later : List Event) → AllAllowed w later → (m : ℕ)
       → length (remembers w past later .pages) ≡ m + length (past .pages)
-      → (k : ℕ) (now then : List ℕ) → outcome (w .disc) now (lookBack k) ≡ 0 → length then ≡ 1848 → (n offset : ℕ) (buffer : List ℕ)
+      → (k : ℕ) (now then : List ℕ) → outcome (w .disc) now (lookBack k) ≡ 0 → length then ≡ 16364 → (n offset : ℕ) (buffer : List ℕ)
       → view (runs w later .disc) (after (runs w later .disc) then (lookBack (m + k)) .ledger) n offset buffer .buffer ≡ view (w .disc) (after (w .disc) now (lookBack k) .ledger) n offset buffer .buffer
   seen-back later follow m counted k now then done long n offset buffer =
       ap (λ s. s .buffer) (delivered .earlier-entries .after-mount d l e es a later follow m counted k now then done long n offset buffer)
@@ -55,7 +55,7 @@ module _ (d : Disc) (l : List ℕ) (e : outcome d l mount ≡ 0) (es : List Even
   -- and of each save that an event makes its time is told, however many saves later
   pub tells-time : (made : Event) → Allowed w made → Saves w past made → (later : List Event) → AllAllowed (next w made) later
       → (k : ℕ) → length (remembers (next w made) (feed past (fed w made)) later .pages) ≡ k + length (feed past (fed w made) .pages)
-      → (m answer : List ℕ) → length m ≡ 1848 → length answer ≡ 8
+      → (m answer : List ℕ) → length m ≡ 16364 → length answer ≡ 8
       → after (runs (next w made) later .disc) m (timeOf k answer) ≡ telling (valid (savedStamp (callOf made))) (runs (next w made) later .disc) m answer (savedStamp (callOf made))
   tells-time made allowed saving later follow k counted = delivered .save-times .after-mount d l e es a made allowed saving later follow k counted
 

@@ -17,13 +17,18 @@ use Rattle.timestamp.specs.declared.Moment.{Moment}
 use Rattle.timestamp.specs.Calendar.{moment, real, minutesBefore, nextMinute}
 use Rattle.timestamp.specs.Timestamp.{stampLength, valid, zoneOf, notGiven, marked, minutesOf, utcMinutes, told}
 use Rattle.timestamp.proofs.Theorems.{Risen}
-use Rattle.vat.specs.Table.{sectorLength, limit, unused, unusedOrBelow, Lower, tableOf, entryCount, entriesOf, previousOf, isTable}
-use Rattle.vat.specs.Sector.{tableBytes, sector}
+use Rattle.vat.specs.Table.{sectorLength, mostBytes, limit, unused, unusedOrBelow, Lower, tableOf, entryCount, entriesOf, previousOf, isTable}
+use Rattle.vat.specs.Own.{ownCount, ownSectors}
+use Rattle.vat.specs.Sector.{tableBytes, icb}
+use Rattle.vat.proofs.Joined.{Stand, AllSmall}
 use Rattle.vat.proofs.Theorems.{Tells, ReadsBack}
 use Rattle.extent.specs.declared.Extent.{Extent}
 use Rattle.anchor.specs.Anchor.{farthestStart, anchor, anchorTagged}
-use Rattle.disc.specs.Disc.{Disc, kindAt}
+use Rattle.disc.specs.Disc.{Disc, recorded, kindAt}
 use Rattle.disc.specs.Tables.{tableAt}
+use Rattle.disc.specs.Again.{freshOf}
+use Rattle.disc.proofs.Recording.{Sound}
+use Rattle.disc.proofs.Fresh.{NeitherFrom}
 use Rattle.volume.specs.declared.Volume.{Volume}
 use Rattle.volume.specs.Volume.{ledgerLength, unpack, pack}
 use Rattle.volume.proofs.State.{Proper}
@@ -45,6 +50,7 @@ use Rattle.space.specs.Called.{AsWithoutRoles}
 use Rattle.alike.specs.Alike.{MeanNothing}
 use Rattle.alike.specs.Scribbles.{ScribbledPowerCuts}
 use Rattle.bench.proofs.Starred.{all-right, starred, requested, closings, unnumbered}
+use Rattle.bench.proofs.Apart.{apart}
 
 pub record Delivery : Type 0 where
   -- ---- the tender
@@ -56,15 +62,16 @@ pub record Delivery : Type 0 where
   pub refusals : (d : Disc) (roles l : List ℕ) (c : Call) (n : ℕ) → outcomeRoles d roles l c ≡ suc n
       → afterRoles d roles l c ≡ leftRoles (suc n * 4294967296) (d .image) (d .kinds) roles l (bufferOf c)
   pub answers : (d : Disc) (l : List ℕ) (c : Call) → outcome d l c ≡ 0 → after d l c .answer < 4294967296
-  -- Demand 2: "Every map of up to 458 numbers, once recorded, reads back as that map."
-  pub reads-back : (lower : Lower) (map : List ℕ) (previous : ℕ) (stamp : List ℕ) (b : ℕ) → length map ≤ limit → every (unusedOrBelow b) map ≡ true → unusedOrBelow b previous ≡ true
-      → length stamp ≡ stampLength → b < 4294967296 → ReadsBack lower map previous stamp b
+  -- Demand 2: "Every map of up to 458 numbers, once recorded, reads back as that map", which reads 4,087 (R-8), and is of both forms: where the table has own
+  -- sectors, these stand at its blocks.
+  pub reads-back : (lower : Lower) (map : List ℕ) (previous : ℕ) (blocks stamp : List ℕ) (b : ℕ) → length map ≤ limit → every (unusedOrBelow b) map ≡ true → unusedOrBelow b previous ≡ true
+      → Stand lower blocks (ownSectors (tableBytes map previous)) → AllSmall blocks → length stamp ≡ stampLength → b < 4294967296 → ReadsBack lower map previous blocks stamp b
   -- "Every table sector is read as the map it holds, and no other sector is taken for one."
   pub tells : (lower : Lower) (s : List ℕ) (b : ℕ) → isTable lower s b ≡ true → Tells lower s b
   pub of-kind-1 : (d : Disc) (b : ℕ) → (kindAt d b ≡ 1 → ⊥) → tableAt d b ≡ false
   pub at-one-block : (lower lower′ : Lower) (s : List ℕ) (b b′ : ℕ) → isTable lower s b ≡ true → isTable lower′ s b′ ≡ true → b ≡ b′
-  pub not-elsewhere : (map : List ℕ) (previous : ℕ) (stamp : List ℕ) (b : ℕ) → length map ≤ limit → length stamp ≡ stampLength → b < 4294967296
-      → (lower : Lower) (b′ : ℕ) → (b′ ≡ b → ⊥) → isTable lower (sector (tableBytes map previous) stamp b) b′ ≡ false
+  pub not-elsewhere : (map : List ℕ) (previous : ℕ) (blocks stamp : List ℕ) (b : ℕ) → length map ≤ limit → length blocks ≡ ownCount (length (tableBytes map previous)) → length stamp ≡ stampLength
+      → b < 4294967296 → (lower : Lower) (b′ : ℕ) → (b′ ≡ b → ⊥) → isTable lower (icb (tableBytes map previous) blocks stamp b) b′ ≡ false
   pub unused-at-block-0 : (lower : Lower) (s : List ℕ) → isTable lower s 0 ≡ true
       → let t : List ℕ = tableOf lower s in ((i : ℕ) → i < entryCount t → getD (entriesOf t) i 0 ≡ unused) × (previousOf t ≡ unused)
   -- Demand 3, which document 01 states as the book.
@@ -76,7 +83,7 @@ pub record Delivery : Type 0 where
   -- "Bytes of a sector whose kind is not 1 mean nothing", to each call, and to demand 3.
   pub mean-nothing : MeanNothing
   pub scribbled-power-cuts : ScribbledPowerCuts
-  -- The ledger "is 1,848 bytes": its bytes and what they say determine each other.
+  -- The ledger, of "16,364 bytes" (R-8): its bytes and what they say determine each other.
   pub unpacked : (v : Volume) → Proper v → unpack (pack v) ≡ v
   pub packed : (l : List ℕ) → AllBytes l → length l ≡ ledgerLength → pack (unpack l) ≡ l
   -- "After each call that is done, the ledger's recorded equals the disc's."
@@ -119,3 +126,8 @@ pub record Delivery : Type 0 where
   pub space : Space
   -- "Each call that alters disc or ledger is lent these bytes too": what such calls leave is what every claim above speaks of.
   pub as-without-roles : AsWithoutRoles
+  -- R-8: "no own sector that we record can pass for a table ICB or a closing's pointer", from any block behind what is recorded on.
+  pub own-neither : (d : Disc) → Sound d → (map : List ℕ) (previous at : ℕ) → length (tableBytes map previous) ≤ mostBytes → every (unusedOrBelow (recorded d)) map ≡ true
+      → unusedOrBelow (recorded d) previous ≡ true → recorded d ≤ at → at ≤ 400000 → NeitherFrom at (freshOf d (tableBytes map previous) previous)
+  -- R-8 in rows: tables in sectors of their own, recognised and not, and saves that record some.
+  pub apart-rows : T (all-right apart)

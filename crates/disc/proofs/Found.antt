@@ -18,12 +18,12 @@ use Rattle.le.proofs.Bytes.{part-take}
 use Rattle.le.proofs.Runs.{words-none, words-step}
 use Rattle.timestamp.specs.Timestamp.{stampLength}
 use Rattle.tag.specs.Tag.{sealed}
-use Rattle.vat.specs.Table.{sectorLength, limit, unused, unusedOrBelow, Lower, wholeLength, framed, modifiedAt, modifiedOf, tableOf, entryCount, entriesOf, enclosed, listed, isTable}
-use Rattle.vat.proofs.Frame.{untagged-frame, table-short, few-entries}
+use Rattle.vat.specs.Table.{sectorLength, unused, unusedOrBelow, Lower, ownOf, framed, modifiedAt, modifiedOf, laid, tableOf, entriesOf, enclosed, listed, isTable}
+use Rattle.vat.proofs.Frame.{untagged-frame}
 use Rattle.disc.specs.declared.Walk.{Walk}
 use Rattle.disc.specs.declared.Walk.the-variants.{Reached, Broken, Ended}
 use Rattle.disc.specs.Disc.{Disc, recorded, kindAt, sectorAt}
-use Rattle.disc.specs.Tables.{below, tableAt, bytesAt, timeAt, found, newestBelow, newest, stepped, walk}
+use Rattle.disc.specs.Tables.{tableAt, timeAt, found, newestBelow, newest, stepped, walk}
 use Rattle.disc.proofs.Order.{and-false}
 use Rattle.disc.proofs.Told.{data-kind, other-kind}
 use Rattle.disc.proofs.Recording.{Sized, Sound, blank-kind, kind-recorded}
@@ -122,14 +122,6 @@ length-time d b h =
     let sector : List ℕ = sectorAt d b in
     length-take-le stampLength (drop modifiedAt sector) (rw (length-drop modifiedAt sector, sector-there d b h) (lit≤ tt))
 
--- the bytes of a table that ends before its sector does
-pub bytes-fit : (d : Disc) (b : ℕ) → sectorLength * b + sectorLength ≤ length (d .image) → wholeLength (sectorAt d b) < sectorLength
-    → (length (bytesAt d b) < sectorLength) × (entryCount (bytesAt d b) ≤ limit)
-unfolding bytesAt
-bytes-fit d b inside ends =
-    let whole : length (sectorAt d b) ≡ sectorLength = sector-there d b inside in
-    (table-short (below d b) (sectorAt d b) whole ends, few-entries (below d b) (sectorAt d b) whole ends)
-
 -- ---- whether it is a table sector
 
 beyond-kind : (ks : List ℕ) (b : ℕ) → length ks ≤ b → getD ks b 0 ≡ 0
@@ -151,21 +143,25 @@ module _ (lower : Lower) (s : List ℕ) (b : ℕ) where
   abbrev T : List ℕ
   T = tableOf lower s
 
+  abbrev rest : Bool
+  rest = laid lower (ownOf s) && (listed T b && sealed s)
+
   pub not-framed : framed s b ≡ false → isTable lower s b ≡ false
   unfolding isTable
-  not-framed e =
-      let rest : Bool = listed T b && sealed s in
-      and-false (eqb (length s) sectorLength) (framed s b && rest) (ap (λ (t : Bool). t && rest) e)
+  not-framed e = and-false (eqb (length s) sectorLength) (framed s b && rest) (ap (λ (t : Bool). t && rest) e)
 
   pub untagged : eqb (readLe 2 s 0) 261 ≡ false → isTable lower s b ≡ false
   untagged e = not-framed (untagged-frame s b e)
 
-  not-listed : listed T b ≡ false → isTable lower s b ≡ false
+  rest-fails : rest ≡ false → isTable lower s b ≡ false
   unfolding isTable
-  not-listed e =
-      let l : Bool = listed T b in
-      let f : Bool = framed s b in
-      and-false (eqb (length s) sectorLength) (f && (l && sealed s)) (and-false f (l && sealed s) (ap (λ (t : Bool). t && sealed s) e))
+  rest-fails e = and-false (eqb (length s) sectorLength) (framed s b && rest) (and-false (framed s b) rest e)
+
+  pub not-laid : laid lower (ownOf s) ≡ false → isTable lower s b ≡ false
+  not-laid e = rest-fails (ap (λ (t : Bool). t && (listed T b && sealed s)) e)
+
+  not-listed : listed T b ≡ false → isTable lower s b ≡ false
+  not-listed e = rest-fails (and-false (laid lower (ownOf s)) (listed T b && sealed s) (ap (λ (t : Bool). t && sealed s) e))
 
   pub not-enclosed : enclosed T b ≡ false → isTable lower s b ≡ false
   unfolding listed
@@ -175,13 +171,9 @@ module _ (lower : Lower) (s : List ℕ) (b : ℕ) where
   unfolding listed
   not-held e = not-listed (and-false (enclosed T b) (every (unusedOrBelow b) (entriesOf T)) e)
 
-  pub all-but-sums : length s ≡ sectorLength → framed s b ≡ true → enclosed T b ≡ true → every (unusedOrBelow b) (entriesOf T) ≡ true → isTable lower s b ≡ sealed s
+  pub all-but-sums : length s ≡ sectorLength → framed s b ≡ true → laid lower (ownOf s) ≡ true → enclosed T b ≡ true → every (unusedOrBelow b) (entriesOf T) ≡ true → isTable lower s b ≡ sealed s
   unfolding isTable listed
-  all-but-sums l f n e = rw (eq-eqb (length s) sectorLength l, f, n, e)
-
-  pub sector-held : length s ≡ sectorLength → isTable lower s b ≡ (framed s b && (listed T b && sealed s))
-  unfolding isTable
-  sector-held l = rw (eq-eqb (length s) sectorLength l)
+  all-but-sums l f o n e = rw (eq-eqb (length s) sectorLength l, f, o, n, e)
 
 -- ---- its entries, group by group
 

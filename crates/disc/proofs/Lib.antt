@@ -5,4 +5,6 @@ pub mod Found
 pub mod Save
 pub mod Pieces
 pub mod Growing
-pub mod Again
+pub mod Fresh
+pub mod Forms
+pub mod Planned

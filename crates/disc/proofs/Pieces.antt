@@ -4,25 +4,26 @@
 --     piece-words, field-read  fields that end with their sector or before it
 -- Assumes nothing.
 use Prim.Native.Nat.{ℕ, zero, suc, _+_, _-_, _*_, _/_, _%_, _≤_, _<_}
-use native.Mathlib.Nat.{not-suc-le-zero}
+use native.Mathlib.Nat.{not-suc-le-zero, add-zero, zero-add, suc-add}
 use native.Mathlib.Omega.{arith}
 use mathlib.Core.Path.{_≡_, refl, sym, ap, ap₂, _∙_}
 use mathlib.Core.Bool.{Bool, true, false, _&&_, _||_, and-assoc, false≢true}
 use mathlib.Core.List.{List, [], _∷_, _++_}
+use mathlib.Core.Logic.{_⊎_, inl, inr}
 use lib.Dec.{eqb, ltb, leb}
 use lib.ListN.{length, take, drop, getD, length-append, List·getD-append}
-use lib.Seq.{length-take-le, getD-take, getD-drop, getD-append-add}
+use lib.Seq.{sets, length-take-le, getD-take, getD-drop, getD-append-add}
 use borrow.Author.Tests.{eqb-true, eqb-false, eq-eqb, ne-eqb, ltb-true, ltb-false, lt-ltb, le-ltb, leb-true}
 use Rattle.le.specs.Bytes.{every, holdsText}
-use Rattle.le.specs.Field.{readLe, words}
-use Rattle.le.proofs.Fields.{read-shift}
+use Rattle.le.specs.Field.{le, readLe, putLe, words, leWords}
+use Rattle.le.proofs.Bytes.{sets-append}
+use Rattle.le.proofs.Fields.{length-le, read-shift}
 use Rattle.le.proofs.Rows.{and-left, and-right}
-use Rattle.le.proofs.Runs.{words-shift, text-taken}
+use Rattle.le.proofs.Runs.{words-none, words-step, words-shift, text-taken}
 use Rattle.extent.specs.declared.Extent.{Extent}
 use Rattle.extent.specs.Extents.{extent, extentsFrom, totalLength}
 use Rattle.extent.proofs.Extents.{extentAt, extentsLeft, extent-taken}
-use Rattle.vat.specs.Table.{sectorLength}
-use Rattle.vat.specs.Own.{isThere, bytesOf, lies, fullBefore, laid, joined}
+use Rattle.vat.specs.Table.{sectorLength, isThere, bytesOf, lies, fullBefore, laid, joined}
 use Rattle.disc.specs.Disc.{Disc, kindAt, sectorAt, readable}
 use Rattle.disc.specs.Tables.{below}
 use Rattle.disc.proofs.Recording.{Sized}
@@ -192,10 +193,45 @@ pub byte-taken : (same : Bool) (t image text : List ℕ) (j place i : ℕ) → i
 byte-taken same t image text j place i h e =
     ap (λ (x : ℕ). (same && eqb x (getD text i 0)) && holdsText t (j + 1) (drop (i + 1) text)) (sym e) ∙ text-taken same t text j i h
 
+-- a piece is not empty
+pub some-taken : (q left k : ℕ) → 0 < left → 0 < k → (q ≡ left) ⊎ (q ≡ k) → 0 < q
+some-taken q left k h g (inl e) = omega arith
+some-taken q left k h g (inr e) = omega arith
+
 pub piece-taken : (held : Bool) (f : ℕ → Bool) (t : List ℕ) (j count left : ℕ) → count ≤ left
     → ((held && every f (words count t j)) && every f (words (left - count) t (j + 4 * count))) ≡ (held && every f (words left t j))
 piece-taken held f t j count left h =
     and-assoc held (every f (words count t j)) (every f (words (left - count) t (j + 4 * count))) ∙ ap (λ (u : Bool). held && u) (groups-held f count left t j h)
+
+-- fields put where others stand, and those behind them
+field-put : (l : List ℕ) (j n at : ℕ) (t : List ℕ) → sets l j (leWords (words (suc n) t at)) ≡ sets (putLe 4 l j (readLe 4 t at)) (j + 4) (leWords (words n t (at + 4)))
+unfolding leWords
+field-put l j n at t =
+    ap (λ (xs : List ℕ). sets l j (leWords xs)) (words-step n t at)
+    ∙ sets-append (le 4 (readLe 4 t at)) (leWords (words n t (at + 4))) l j
+    ∙ ap (λ (k : ℕ). sets (putLe 4 l j (readLe 4 t at)) (j + k) (leWords (words n t (at + 4)))) (length-le 4 (readLe 4 t at))
+
+fields-put : (k m : ℕ) (l : List ℕ) (j at : ℕ) (t : List ℕ)
+    → sets (sets l j (leWords (words k t at))) (j + 4 * k) (leWords (words m t (at + 4 * k))) ≡ sets l j (leWords (words (k + m) t at))
+unfolding leWords
+fields-put zero m l j at t =
+    ap₂ (λ (xs : List ℕ) (p : ℕ). sets (sets l j (leWords xs)) (j + 4 * 0) (leWords (words m t p))) (words-none t at) (add-zero at)
+    ∙ ap₂ (λ (n p : ℕ). sets l p (leWords (words n t at))) (sym (zero-add m)) (add-zero j)
+fields-put (suc k) m l j at t =
+    let l₁ : List ℕ = putLe 4 l j (readLe 4 t at) in
+    let to : j + 4 * suc k ≡ j + 4 + 4 * k = omega arith in
+    let from : at + 4 * suc k ≡ at + 4 + 4 * k = omega arith in
+    ap (λ (x : List ℕ). sets x (j + 4 * suc k) (leWords (words m t (at + 4 * suc k)))) (field-put l j k at t)
+    ∙ ap₂ (λ (p q : ℕ). sets (sets l₁ (j + 4) (leWords (words k t (at + 4)))) p (leWords (words m t q))) to from
+    ∙ fields-put k m l₁ (j + 4) (at + 4) t
+    ∙ sym (field-put l j (k + m) at t)
+    ∙ ap (λ (n : ℕ). sets l j (leWords (words n t at))) (sym (suc-add k m))
+
+pub piece-put : (l t : List ℕ) (j count left : ℕ) → count ≤ left
+    → sets (sets l j (leWords (words count t j))) (j + 4 * count) (leWords (words (left - count) t (j + 4 * count))) ≡ sets l j (leWords (words left t j))
+piece-put l t j count left h =
+    let all : count + (left - count) ≡ left = omega arith in
+    fields-put count (left - count) l j j t ∙ ap (λ (n : ℕ). sets l j (leWords (words n t j))) all
 
 -- ---- one descriptor after another
 

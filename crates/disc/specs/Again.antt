@@ -5,9 +5,10 @@ use mathlib.Core.Bool.{Bool, true, false, _&&_}
 use mathlib.Core.List.{List, [], _∷_}
 use mathlib.Core.Option.{Option, none, some}
 use lib.Dec.{eqb}
-use Rattle.vat.specs.Table.{Lower}
-use Rattle.vat.specs.Own.{bytesOf, ownSectors}
+use Rattle.vat.specs.Table.{Lower, bytesOf}
+use Rattle.vat.specs.Own.{ownSectors}
 use Rattle.disc.specs.Disc.{Disc, content, Sector, plain}
+use Rattle.disc.specs.Tables.{namedBy}
 
 -- The lists are equal.
 unfoldable pub same : List ℕ → List ℕ → Bool
@@ -38,12 +39,12 @@ fresh (r ∷ rs) [] = []
 fresh (some o ∷ rs) (s ∷ ss) = fresh rs ss
 fresh (none ∷ rs) (s ∷ ss) = s ∷ fresh rs ss
 
--- The bytes t of a table, on a disc: which of its own sectors are named again, and which are recorded.
-unfoldable pub againOf : Disc → List ℕ → List ℕ → List (Option ℕ)
-againOf d olds t = namedAgain (content d) olds (ownSectors t)
+-- The bytes t of a table, on a disc with the table named as previous: which of its own sectors are named again, and which are recorded.
+unfoldable pub againOf : Disc → List ℕ → ℕ → List (Option ℕ)
+againOf d t previous = namedAgain (content d) (namedBy d previous) (ownSectors t)
 
-unfoldable pub freshOf : Disc → List ℕ → List ℕ → List (List ℕ)
-freshOf d olds t = fresh (againOf d olds t) (ownSectors t)
+unfoldable pub freshOf : Disc → List ℕ → ℕ → List (List ℕ)
+freshOf d t previous = fresh (againOf d t previous) (ownSectors t)
 
 abbrev pub plains : List (List ℕ) → List Sector
 plains [] = []

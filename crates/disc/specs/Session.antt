@@ -19,11 +19,12 @@ zeroSectors = 255
 abbrev pub zeroSector : Sector
 zeroSector = plain (replicate sectorLength 0)
 
--- "an Anchor Volume Descriptor Pointer, 255 zero sectors", from block b on: "the pointer's tag location is that start plus its block".
-unfoldable pub closing : Extent → Extent → ℕ → ℕ → List Sector
-closing main reserve start b = plain (anchor tagVersion main reserve (start + b)) ∷ replicate zeroSectors zeroSector
+-- "an Anchor Volume Descriptor Pointer, 255 zero sectors", from block b on: "the pointer's tag location is that start plus its block". Own sectors of the
+-- table, so many of which are recorded behind these, "take the last of the 255".
+unfoldable pub closing : Extent → Extent → ℕ → ℕ → ℕ → List Sector
+closing main reserve start b own = plain (anchor tagVersion main reserve (start + b)) ∷ replicate (zeroSectors - own) zeroSector
 
--- How many these are: "the 256 before it".
+-- How many stand before the table's ICB, with these: "the 256 before it".
 abbrev pub closingLength : ℕ
 closingLength = 256
 

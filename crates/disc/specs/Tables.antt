@@ -1,10 +1,11 @@
 -- The tables on a disc: the newest one, and the walk back from table to table.
 use Prim.Native.Nat.{ℕ, zero, suc}
 use mathlib.Core.Bool.{Bool, true, false, _&&_}
-use mathlib.Core.List.{List}
+use mathlib.Core.List.{List, []}
 use mathlib.Core.Option.{Option, none, some}
 use lib.Dec.{eqb, ltb}
-use Rattle.vat.specs.Table.{unused, Lower, modifiedOf, tableOf, entriesOf, previousOf, isTable}
+use Rattle.extent.specs.Extents.{locations}
+use Rattle.vat.specs.Table.{unused, Lower, ownOf, modifiedOf, tableOf, entriesOf, previousOf, isTable}
 use Rattle.disc.specs.declared.Walk.{Walk}
 use Rattle.disc.specs.declared.Walk.the-variants.{Reached, Broken, Ended}
 use Rattle.disc.specs.Disc.{Disc, recorded, kindAt, sectorAt, readable}
@@ -28,6 +29,14 @@ previousAt d b = previousOf (bytesAt d b)
 
 unfoldable pub timeAt : Disc → ℕ → List ℕ
 timeAt d b = modifiedOf (sectorAt d b)
+
+-- The blocks of the sectors that the table at block b names as its own; none where there is no table.
+abbrev pub namedIf : Bool → List ℕ → List ℕ
+namedIf true blocks = blocks
+namedIf false blocks = []
+
+unfoldable pub namedBy : Disc → ℕ → List ℕ
+namedBy d b = namedIf (tableAt d b) (locations (ownOf (sectorAt d b)))
 
 -- "starts at the last recorded sector and goes towards block 0. The first table sector met ends the search."
 abbrev pub found : Bool → ℕ → Option ℕ → Option ℕ

@@ -7,12 +7,13 @@ ghost use mathlib.Core.Bool.{true};
 ghost use mathlib.Core.List.{List};
 ghost use Prim.Native.Nat.{ℕ, _+_, _*_, _/_, _%_, _≤_, _<_};
 ghost use lib.ListN.{length};
+ghost use lib.Seq.{sets};
 ghost use Rattle.le.specs.Bytes.{every, holdsText};
-ghost use Rattle.le.specs.Field.{readLe, words};
+ghost use Rattle.le.specs.Field.{readLe, words, leWords};
 ghost use Rattle.extent.specs.Extents.{extent, descriptorsLength, extentsFrom, totalLength};
-ghost use Rattle.vat.specs.Table.{sectorLength, tableLength, unusedOrBelow, enclosed, listed};
+ghost use Rattle.vat.specs.Table.{sectorLength, mostOwn, mostBytes, unusedOrBelow, bytesOf, lies, laid, joined, tableLength, previousOf, enclosed};
 ghost use Rattle.vat.specs.Sector.{tableBytes};
-ghost use Rattle.vat.specs.Own.{mostOwn, mostBytes, bytesOf, lies, laid, joined, ownSector};
+ghost use Rattle.vat.specs.Own.{ownSector};
 ghost use Rattle.disc.specs.Disc.{lent, sized, content};
 ghost use Rattle.disc.specs.Tables.{below};
 ghost use Rattle.disc.specs.Again.{same};
@@ -122,6 +123,30 @@ pub fn own_entries(
     held
 }
 
+// The previous table that it names; it has so many bytes in all.
+pub fn own_previous(
+    image: &[u8],
+    kinds: &[u8],
+    s: &[u8],
+    at: usize,
+    m: u32,
+    b: u32,
+    total: u32,
+) -> u32
+    requires { ⌜ (sized (lent (now image) (now kinds)) ≡ true) × (b ≤ length (now kinds)) × (at + 8 * m ≤ length (now s)) × (laid (below (lent (now image) (now kinds)) b) (extentsFrom m (now s) at) ≡ true) × (total ≡ totalLength (extentsFrom m (now s) at)) × (total ≤ mostBytes) × (36 ≤ total) × (total % 4 ≡ 0) ⌝ }
+    ensures { λ r. ⌜ r ≡ previousOf (joined (below (lent (now (image .entry)) (now (kinds .entry))) b) (extentsFrom m (now (s .entry)) at)) ⌝ }
+{
+    own_field(
+        image,
+        kinds,
+        s,
+        at,
+        m,
+        b,
+        4 * (vat::table::count_entries(total) as usize) + 32,
+    )
+}
+
 // All of the table but its entries; it has so many bytes in all.
 pub fn own_enclosed(
     image: &[u8],
@@ -140,37 +165,33 @@ pub fn own_enclosed(
         return false;
     }
     let name = TABLE_NAME;
-    let regid = 4 * (n as usize);
-    let named = own_holds(image, kinds, s, at, m, b, regid + 1, &name);
-    let previous = own_field(image, kinds, s, at, m, b, regid + 32);
+    let named = own_holds(image, kinds, s, at, m, b, 4 * (n as usize) + 1, &name);
+    let previous = own_previous(image, kinds, s, at, m, b, total);
     named & vat::table::may_name(b, previous)
 }
 
-pub fn own_listed(
+// The first n entries of the table, which has as many, copied to the beginning of l, piece by piece.
+pub fn own_copied(
+    l: &mut [u8],
     image: &[u8],
     kinds: &[u8],
     s: &[u8],
     at: usize,
     m: u32,
     b: u32,
-    total: u32,
-) -> bool
-    requires { ⌜ (sized (lent (now image) (now kinds)) ≡ true) × (b ≤ length (now kinds)) × (at + 8 * m ≤ length (now s)) × (laid (below (lent (now image) (now kinds)) b) (extentsFrom m (now s) at) ≡ true) × (total ≡ totalLength (extentsFrom m (now s) at)) × (total ≤ mostBytes) ⌝ }
-    ensures { λ r. ⌜ r ≡ listed (joined (below (lent (now (image .entry)) (now (kinds .entry))) b) (extentsFrom m (now (s .entry)) at)) b ⌝ }
+    n: usize,
+)
+    requires { ⌜ (sized (lent (now image) (now kinds)) ≡ true) × (b ≤ length (now kinds)) × (at + 8 * m ≤ length (now s)) × (laid (below (lent (now image) (now kinds)) b) (extentsFrom m (now s) at) ≡ true) × (4 * n ≤ totalLength (extentsFrom m (now s) at)) × (totalLength (extentsFrom m (now s) at) ≤ mostBytes) × (4 * n ≤ length (now l)) ⌝ }
+    ensures { λ _. ⌜ now (l .exit) ≡ sets (now (l .entry)) 0 (leWords (words n (joined (below (lent (now (image .entry)) (now (kinds .entry))) b) (extentsFrom m (now (s .entry)) at)) 0)) ⌝ }
 {
-    if !own_enclosed(image, kinds, s, at, m, b, total) {
-        return false;
+    let mut left = n;
+    let mut j: usize = 0;
+    while left > 0 {
+        let count = smaller(left, (SECTOR - j % SECTOR) / 4);
+        le::run::copy_words(l, j, image, place_of(s, at, j), count);
+        left -= count;
+        j += 4 * count;
     }
-    own_entries(
-        image,
-        kinds,
-        s,
-        at,
-        m,
-        b,
-        0,
-        vat::table::count_entries(total) as usize,
-    )
 }
 
 // Own sector i of the table of the first n numbers that the bytes of a map hold stands at block o already. One of entries alone is the map's bytes as they

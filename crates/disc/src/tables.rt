@@ -6,14 +6,24 @@ use vat::table::SECTOR;
 use vat::table::UNUSED;
 ghost use mathlib.Core.Path.{_≡_};
 ghost use mathlib.Core.Bool.{true};
-ghost use mathlib.Core.List.{List, []};
+ghost use mathlib.Core.List.{List};
 ghost use Prim.Native.Nat.{ℕ, _+_, _*_, _≤_, _<_};
 ghost use lib.ListN.{length};
+ghost use Rattle.vat.specs.Table.{sectorLength};
 ghost use Rattle.disc.specs.Disc.{lent, sized, sectorAt};
-ghost use Rattle.vat.specs.Table.{sectorLength, wholeLength};
-ghost use Rattle.disc.specs.Tables.{tableAt, bytesAt, previousAt, timeAt, blockFound, newestBelow, walk};
+ghost use Rattle.disc.specs.Tables.{tableAt, previousAt, timeAt, blockFound, newestBelow, walk};
 
-// A block beyond the disc is no table sector.
+// The sector at block b.
+pub fn sector_at(image: &[u8], b: u32) -> &[u8]
+    requires { ⌜ sectorLength * b + sectorLength ≤ length (now image) ⌝ }
+    ensures { λ r. ⌜ ((kinds : List ℕ) → now r ≡ sectorAt (lent (now (image .entry)) kinds) b) ⌝ }
+{
+    let at = SECTOR * (b as usize);
+    let end = at + SECTOR;
+    &image[at..end]
+}
+
+// A block beyond the disc is no table sector. The tag identifier first: of nearly every data sector no other byte is looked at.
 pub fn table_at(image: &[u8], kinds: &[u8], b: u32) -> bool
     requires { ⌜ sized (lent (now image) (now kinds)) ≡ true ⌝ }
     ensures { λ r. ⌜ r ≡ tableAt (lent (now (image .entry)) (now (kinds .entry))) b ⌝ }
@@ -25,9 +35,11 @@ pub fn table_at(image: &[u8], kinds: &[u8], b: u32) -> bool
     if kinds[place] != 1 {
         return false;
     }
-    let at = SECTOR * place;
-    let end = at + SECTOR;
-    vat::table::is_table(&image[at..end], b)
+    let s = sector_at(image, b);
+    if !vat::table::tagged(s) {
+        return false;
+    }
+    crate::bytes::is_table(image, kinds, s, b)
 }
 
 // How many of the entries that are left are looked at together: within a group no test waits for another.
@@ -56,24 +68,24 @@ pub fn newest(image: &[u8], kinds: &[u8], recorded: u32) -> u32
         if kinds[place] != 1 {
             continue 'scan;
         }
-        let at = SECTOR * place;
-        let end = at + SECTOR;
-        let s = &image[at..end];
+        let s = sector_at(image, b);
         if !vat::table::tagged(s) {
             continue 'scan;
         }
         if !vat::table::framed(s, b) {
             continue 'scan;
         }
-        let t = vat::table::table(s);
-        if !vat::table::enclosed(t, b) {
+        if !crate::bytes::laid(kinds, s, b) {
             continue 'scan;
         }
-        let n = vat::table::entry_count(t);
+        if !crate::bytes::enclosed(image, kinds, s, b) {
+            continue 'scan;
+        }
+        let n = crate::bytes::entry_count(kinds, s, b);
         let mut i = 0;
         while i < n {
             let count = group(n - i);
-            if !vat::table::words_held(t, 4 * (i as usize), count, b) {
+            if !crate::bytes::entries_held(image, kinds, s, b, i, count) {
                 continue 'scan;
             }
             i += count;
@@ -85,22 +97,12 @@ pub fn newest(image: &[u8], kinds: &[u8], recorded: u32) -> u32
     found
 }
 
-// The bytes of the table at block b.
-pub fn bytes_at(image: &[u8], b: u32) -> &[u8]
-    requires { ⌜ (sectorLength * b + sectorLength ≤ length (now image)) × (wholeLength (sectorAt (lent (now image) []) b) < sectorLength) ⌝ }
-    ensures { λ r. ⌜ ((kinds : List ℕ) → now r ≡ bytesAt (lent (now (image .entry)) kinds) b) ⌝ }
-{
-    let at = SECTOR * (b as usize);
-    let end = at + SECTOR;
-    vat::table::table(&image[at..end])
-}
-
 // The previous table of the table at block b.
 fn step_back(image: &[u8], kinds: &[u8], b: u32) -> Walk
     requires { ⌜ (sized (lent (now image) (now kinds)) ≡ true) × (tableAt (lent (now image) (now kinds)) b ≡ true) ⌝ }
     ensures { λ r. ⌜ r ≡ walk (tableAt (lent (now (image .entry)) (now (kinds .entry)))) (previousAt (lent (now (image .entry)) (now (kinds .entry)))) 1 b ⌝ }
 {
-    let previous = vat::table::previous(bytes_at(image, b));
+    let previous = crate::bytes::previous(image, kinds, sector_at(image, b), b);
     if previous == UNUSED {
         return Walk::Ended;
     }

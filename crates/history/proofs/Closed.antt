@@ -2,6 +2,7 @@
 --     closed-discs   the claim of specs/Closed.antt
 -- Assumes nothing.
 use Prim.Native.Nat.{ℕ, zero, suc, _+_, _-_, _≤_, _<_}
+use native.Mathlib.Nat.{add-zero}
 use native.Mathlib.Numerals.{add-one}
 use native.Mathlib.Omega.{arith}
 use mathlib.Core.Path.{_≡_, refl, sym, ap, _∙_, subst, subst₂}
@@ -15,28 +16,29 @@ use lib.Seq.{drop-cons}
 use borrow.Author.Tests.{le-leb}
 use Rattle.le.specs.Bytes.{every}
 use Rattle.extent.specs.declared.Extent.{Extent}
-use Rattle.vat.specs.Sector.{noStamp, tableBytes}
+use Rattle.vat.specs.Sector.{tableBytes}
 use Rattle.vat.specs.Table.{tagVersion}
 use Rattle.anchor.specs.Anchor.{anchor, anchorTagged}
 use Rattle.anchor.proofs.Theorems.{tagged-anchor}
 use Rattle.disc.specs.Disc.{Disc, sized, inOrder, recorded, kindAt, sectorAt, content, Sector, link, plain, torn, put, puts}
 use Rattle.disc.specs.Session.{zeroSectors, zeroSector, closing, closingLength, sessionClosed}
+use Rattle.disc.specs.Again.{freshOf}
 use Rattle.disc.proofs.Recording.{Sound, AllWhole, whole-append, Recorded, put-recorded, puts-append}
-use Rattle.disc.proofs.Save.{NoTables, AllData, own-whole, own-data, own-no-tables, save-count, one-sector}
+use Rattle.disc.proofs.Save.{NoTables, AllData, own-count, own-whole, own-data}
 use Rattle.volume.specs.Volume.{ledgerLength, readOnly, unpack, mapOf, fits}
 use Rattle.volume.proofs.State.{Proper}
 use Rattle.recorder.specs.Calls.{Call, begin, mount, write, release, closePacket, commit, closeSession, read, lookBack, timeOf, mayRecord}
 use Rattle.recorder.specs.Refusals.{Test, test, first, basic, gate, links, target, ledgerLent, blockLent, stampLent, writeTests, commitTests, closingTests, notInUse, tests, outcome}
-use Rattle.recorder.specs.Effects.{effect, after, sectorsOf}
+use Rattle.recorder.specs.Effects.{closingFirst, effect, after, sectorsOf}
 use Rattle.recorder.proofs.Done.{ClosingDone, closing-done}
-use Rattle.recorder.proofs.Sectors.{links-whole, closing-whole, length-closing}
+use Rattle.recorder.proofs.Sectors.{links-whole, closing-whole, length-closing, own-few}
 use Rattle.history.specs.History.{Snapshot, History, Fed, feed}
 use Rattle.history.specs.Events.{World, Event, calls, cuts, ledgerHeld, cutDisc, AllAllowed, next, fed, runs, remembers, afterCall, begunHistory, mountedHistory}
 use Rattle.history.specs.Claim.{DoneShowing, Mounts, Claim}
 use Rattle.history.specs.Closed.{ClosedShowing, Closes, TurnedAway, ClosedDiscs}
 use Rattle.history.proofs.Log.{none-some, Extends}
 use Rattle.disc.proofs.Told.{data-there}
-use Rattle.history.proofs.Growth.{F, data-within, plain-content, Grown, puts-plain, links-no-tables, no-tables-append, closing-no-tables, behind-counted, behind-extends}
+use Rattle.history.proofs.Growth.{F, data-within, plain-content, Grown, puts-plain, links-no-tables, behind-counted, behind-extends}
 use Rattle.history.proofs.Saving.{Saving, closing-saving, own, tableSector, beforeTable, length-before, before-whole, before-no-tables, room, sector-long, savedDisc, save}
 use Rattle.history.proofs.Steps.{done-fed, refused-records-none, records-nothing}
 use Rattle.history.proofs.Recorded.{after-disc, cut-nothing}
@@ -55,9 +57,16 @@ zeros-data : (n : ℕ) → AllData (replicate n zeroSector)
 zeros-data zero = tt
 zeros-data (suc n) = zeros-data n
 
-closing-data : (main reserve : Extent) (start b : ℕ) → AllData (closing main reserve start b)
+pub closing-data : (main reserve : Extent) (start b own : ℕ) → AllData (closing main reserve start b own)
 unfolding closing
-closing-data main reserve start b = zeros-data zeroSectors
+closing-data main reserve start b own = zeros-data (zeroSectors - own)
+
+-- those behind others
+no-tables-behind : (xs ys : List Sector) (b : ℕ) → NoTables b (xs ++ ys) → NoTables (b + length xs) ys
+no-tables-behind [] ys b n = subst (λ (k : ℕ). NoTables k ys) (sym (add-zero b)) n
+no-tables-behind (x ∷ xs) ys b n =
+    let e : suc b + length xs ≡ b + suc (length xs) = omega arith in
+    subst (λ (k : ℕ). NoTables k ys) e (no-tables-behind xs ys (suc b) (n .1))
 
 data-append : (xs ys : List Sector) → AllData xs → AllData ys → AllData (xs ++ ys)
 data-append [] ys p q = q
@@ -96,10 +105,10 @@ kinds-of (plain t ∷ ss) d b s =
     let is : kindAt d b ≡ 1 = data-there d b t (s .0) .0 in
     rw (drop-cons (d .kinds) b 0 (data-within (d .kinds) b is), is) (kinds-of ss d (suc b) (s .1))
 
-first-of : (main reserve : Extent) (start b : ℕ) (own : List Sector) (d : Disc) (at : ℕ) → Stands d at (closing main reserve start b ++ own)
+first-of : (main reserve : Extent) (start b n : ℕ) (own : List Sector) (d : Disc) (at : ℕ) → Stands d at (closing main reserve start b n ++ own)
     → content d at ≡ some (anchor tagVersion main reserve (start + b))
 unfolding closing
-first-of main reserve start b own d at s = s .0
+first-of main reserve start b n own d at s = s .0
 
 -- ---- what a closing leaves
 
@@ -111,32 +120,38 @@ module _ (d : Disc) (l : List ℕ) (ok : Sound d) (good : Proper (unpack l)) (ma
   abbrev own-part : List Sector
   own-part = own d l ok good (closeSession main reserve start) s
 
+  -- how many own sectors are recorded, and what is put before them
+  abbrev ownCount : ℕ
+  ownCount = length (freshOf d (tableBytes (mapOf (unpack l)) (unpack l .last)) (unpack l .last))
+
+  abbrev ahead-part : List Sector
+  ahead-part = closingFirst d (unpack l) main reserve start
+
   abbrev between : List Sector
-  between = closing main reserve start (target (unpack l)) ++ own-part
+  between = ahead-part ++ own-part
 
   between-long : length between ≡ closingLength
   between-long =
-      let first : List Sector = closing main reserve start (target (unpack l)) in
       let t : List ℕ = tableBytes (mapOf (unpack l)) (unpack l .last) in
-      let at : ℕ = target (unpack l) + length first in
-      let long : length between ≡ length first + length own-part = length-append first own-part in
-      omega (arith, long, length-closing main reserve start (target (unpack l)), save-count d t (unpack l .last) noStamp at, one-sector d t (unpack l .last) noStamp at)
+      let long : length between ≡ length ahead-part + length own-part = length-append ahead-part own-part in
+      omega (arith, long, length-closing main reserve start (target (unpack l)) ownCount (omega (arith, own-few d (unpack l) (f .saving .fit .few))), own-count d t (unpack l .last))
 
   between-whole : AllWhole between
   between-whole =
-      whole-append (closing main reserve start (target (unpack l))) own-part (closing-whole main reserve start (target (unpack l)))
+      whole-append ahead-part own-part (closing-whole main reserve start (target (unpack l)) ownCount)
       (own-whole d (tableBytes (mapOf (unpack l)) (unpack l .last)) (unpack l .last))
 
   between-data : AllData between
   between-data =
-      data-append (closing main reserve start (target (unpack l))) own-part (closing-data main reserve start (target (unpack l)))
+      data-append ahead-part own-part (closing-data main reserve start (target (unpack l)) ownCount)
       (own-data d (tableBytes (mapOf (unpack l)) (unpack l .last)) (unpack l .last))
 
-  between-no-tables : (b : ℕ) → NoTables b between
-  between-no-tables b =
-      let first : List Sector = closing main reserve start (target (unpack l)) in
-      no-tables-append first own-part b (closing-no-tables main reserve start (target (unpack l)) b)
-      (own-no-tables d (tableBytes (mapOf (unpack l)) (unpack l .last)) (unpack l .last) (b + length first))
+  -- as they stand behind the links
+  between-no-tables : NoTables (recorded d + links (unpack l)) between
+  between-no-tables =
+      let n : ℕ = links (unpack l) in
+      subst (λ (k : ℕ). NoTables (recorded d + k) between) (length-replicate n link)
+      (no-tables-behind (replicate n link) between (recorded d) (before-no-tables d l ok good (closeSession main reserve start) s))
 
   abbrev left : Disc
   left = savedDisc d l ok good (closeSession main reserve start) s
@@ -152,9 +167,7 @@ module _ (d : Disc) (l : List ℕ) (ok : Sound d) (good : Proper (unpack l)) (ma
   at-pointer = ap (λ (r : ℕ). r + links (unpack l)) (f .saving .fit .same-recorded)
 
   counted : table ≡ pointer + closingLength
-  counted =
-      let first : List Sector = closing main reserve start (target (unpack l)) in
-      omega (arith, length-before d l ok good (closeSession main reserve start) s, length-append first own-part, between-long)
+  counted = omega (arith, length-before d l ok good (closeSession main reserve start) s, length-append ahead-part own-part, between-long)
 
   linked : Disc
   linked = puts d (recorded d) (replicate (links (unpack l)) link)
@@ -178,7 +191,7 @@ module _ (d : Disc) (l : List ℕ) (ok : Sound d) (good : Proper (unpack l)) (ma
       puts-append (replicate n link) between d (recorded d) ∙ ap (λ (k : ℕ). puts linked k between) (ap (λ (k : ℕ). recorded d + k) (length-replicate n link) ∙ sym (linked-grown .counted)) in
       let inside : recorded linked + length between ≤ length (linked .kinds) = omega (arith, linked-grown .counted, linked-grown .same-length, counted, between-long, room d l ok good c s) in
       let there : Stands (puts linked (recorded linked) between) (recorded linked) between =
-      stand between linked (linked-grown .still-sound) inside between-whole between-data (between-no-tables (recorded linked)) in
+      stand between linked (linked-grown .still-sound) inside between-whole between-data (subst (λ (b : ℕ). NoTables b between) (sym (linked-grown .counted)) between-no-tables) in
       let all : Grown d before (length ss) = puts-plain ss d ok (omega (arith, room d l ok good c s)) (before-whole d l ok good c s) (before-no-tables d l ok good c s) in
       stand-on (behind-extends d ok ss (before-whole d l ok good c s) (before-no-tables d l ok good c s) (tableSector d l ok good c s) (sector-long d l ok good c s) (room d l ok good c s))
       between pointer (omega (arith, all .counted, counted, between-long))
@@ -188,7 +201,7 @@ module _ (d : Disc) (l : List ℕ) (ok : Sound d) (good : Proper (unpack l)) (ma
   pointed : sectorAt left pointer ≡ anchor tagVersion main reserve (start + target (unpack l))
   pointed =
       let b : ℕ = target (unpack l) in
-      data-there left pointer (anchor tagVersion main reserve (start + b)) (first-of main reserve start b own-part left pointer standing) .1
+      data-there left pointer (anchor tagVersion main reserve (start + b)) (first-of main reserve start b ownCount own-part left pointer standing) .1
 
   tagged : anchorTagged (sectorAt left pointer) pointer ≡ true
   tagged =

@@ -1,6 +1,6 @@
 -- The real format as an instance of the log, and what recording a list of sectors does to its disc: plain sectors, a table, or what a cut leaves.
 -- Assumes nothing.
-use Prim.Native.Nat.{ℕ, zero, suc, _+_, _≤_, _<_}
+use Prim.Native.Nat.{ℕ, zero, suc, _+_, _-_, _≤_, _<_}
 use native.Mathlib.Nat.{add-zero, le-refl}
 use native.Mathlib.Numerals.{add-one}
 use native.Mathlib.Omega.{arith}
@@ -180,9 +180,9 @@ zeros-no-tables : (n b : ℕ) → NoTables b (replicate n zeroSector)
 zeros-no-tables zero b = tt
 zeros-no-tables (suc n) b = (λ lower. zeros-no-table lower b, zeros-no-tables n (suc b))
 
-pub closing-no-tables : (main reserve : Extent) (start b c : ℕ) → NoTables c (closing main reserve start b)
+pub closing-no-tables : (main reserve : Extent) (start b own c : ℕ) → NoTables c (closing main reserve start b own)
 unfolding closing
-closing-no-tables main reserve start b c = (λ lower. anchor-no-table tagVersion main reserve (start + b) lower c, zeros-no-tables zeroSectors (suc c))
+closing-no-tables main reserve start b own c = (λ lower. anchor-no-table tagVersion main reserve (start + b) lower c, zeros-no-tables (zeroSectors - own) (suc c))
 
 module _ (d : Disc) (ok : Sound d) (ss : List Sector) (w : AllWhole ss) (n : NoTables (recorded d) ss) (s : List ℕ) (long : length s ≡ sectorLength) (room : recorded d + (length ss + 1) ≤ length (d .kinds)) where
   before : Disc

@@ -19,17 +19,17 @@ use Rattle.vat.specs.Sector.{noStamp, tableBytes}
 use Rattle.disc.specs.Disc.{Disc, sized, counted, leading, recorded, inOrder, blanks, kindAt, sectorAt, readable, content, Sector, link, plain, torn, stored, put, puts}
 use Rattle.disc.specs.declared.Walk.{Walk}
 use Rattle.disc.specs.Tables.{tableAt, newest, blockFound}
-use Rattle.disc.specs.Session.{closing}
+use Rattle.disc.specs.Again.{freshOf}
 use Rattle.disc.specs.Save.{saveSectors, lastBlock}
 use Rattle.disc.proofs.Recording.{Sound, Recorded, put-recorded, sized-tells, leading-le, AllWhole, whole-append}
 use Rattle.disc.proofs.Found.{newest-table}
-use Rattle.disc.proofs.Save.{ownSectors, save-count, sectors-whole}
+use Rattle.disc.proofs.Save.{save-count, sectors-whole}
 use Rattle.volume.specs.declared.Volume.{Volume}
 use Rattle.volume.specs.Volume.{idle, readOnly, unpack, pack, mapOf, begun, filled, entriesWith, wrote, released, closed, committed}
 use Rattle.volume.proofs.State.{recorded-kept, proper-begun, long-unpack}
 use Rattle.recorder.specs.Calls.{Call, begin, mount, write, release, closePacket, commit, closeSession, read, lookBack, timeOf, stampBuffer, bufferOf, onlyTells, stampOf}
 use Rattle.recorder.specs.Refusals.{Test, test, first, basic, gate, links, target, ledgerLent, blockLent, stampLent, answerLent, writeTests, commitTests, closingTests, notInUse, numberedTests, isSome, walkTests, timeWrong, tests, outcome}
-use Rattle.recorder.specs.Effects.{Effect, blockReached, saved, effect, settled, after, sectorsIf, sectorsOf, shownAt}
+use Rattle.recorder.specs.Effects.{Effect, blockReached, saved, closingFirst, effect, settled, after, sectorsIf, sectorsOf, shownAt}
 use Rattle.recorder.proofs.Done.{stop, Fits, mount-done, write-done, release-done, close-done, SaveDone, commit-done, closing-done, read-done, begin-done, look-back-done}
 use Rattle.recorder.proofs.Answers.{walked-table}
 use Rattle.recorder.proofs.Sectors.{links-whole, behind, length-behind, behind-whole}
@@ -247,7 +247,7 @@ effect-whole d l (release n) e = tt
 effect-whole d l closePacket e = tt
 effect-whole d l (commit stamp) e = save-whole d l [] (stampOf stamp) (stampBuffer stamp) (commit-done d l stamp e .saving)
 effect-whole d l (closeSession main reserve start) e =
-    save-whole d l (closing main reserve start (target (unpack l))) noStamp [] (closing-done d l main reserve start e .saving)
+    save-whole d l (closingFirst d (unpack l) main reserve start) noStamp [] (closing-done d l main reserve start e .saving)
 effect-whole d l (read n block) e = tt
 effect-whole d l (lookBack k) e = tt
 effect-whole d l (timeOf k answer) e = tt
@@ -289,7 +289,7 @@ save-left d l first stamp buffer f =
     let save : List Sector = saveSectors d t (v .last) stamp at in
     let b : ℕ = lastBlock at save in
     let all : List Sector = replicate (links v) link ++ (first ++ save) in
-    let some-there : length save ≡ length (ownSectors d t (v .last)) + 1 = save-count d t (v .last) stamp at in
+    let some-there : length save ≡ length (freshOf d t (v .last)) + 1 = save-count d t (v .last) stamp at in
     let long : length all ≡ links v + (length first + length save) =
     length-append (replicate (links v) link) (first ++ save) ∙ ap₂ _+_ (length-replicate (links v) link) (length-append first save) in
     recorded-kept (committed b v) (long-unpack l) (omega (arith, f .room, some-there, f .fit .same-recorded, f .sound-disc .few, leading-le (d .kinds)))
@@ -332,7 +332,7 @@ effect-left d l (release n) e t =
 effect-left d l closePacket e t = let f = close-done d l e in working-left d l (closed (unpack l)) (f .0) (f .1 .fit) (long-unpack l) refl
 effect-left d l (commit stamp) e t = save-left d l [] (stampOf stamp) (stampBuffer stamp) (commit-done d l stamp e .saving)
 effect-left d l (closeSession main reserve start) e t =
-    save-left d l (closing main reserve start (target (unpack l))) noStamp [] (closing-done d l main reserve start e .saving)
+    save-left d l (closingFirst d (unpack l) main reserve start) noStamp [] (closing-done d l main reserve start e .saving)
 effect-left d l (read n block) e t = read-done d l n block e .fit .same-recorded
 effect-left d l (lookBack k) e t =
     let f = look-back-done d l k e in

@@ -6,32 +6,33 @@
 -- Assumes nothing.
 use Prim.Native.Nat.{ℕ, _+_, _≤_, _<_}
 use native.Mathlib.Omega.{arith}
-use mathlib.Core.Path.{_≡_, refl, ap, _∙_, subst}
+use mathlib.Core.Path.{_≡_, refl, sym, ap, _∙_, subst, subst₂}
 use mathlib.Core.Bool.{Bool, true, false, _||_}
-use mathlib.Core.List.{List, [], _++_}
+use mathlib.Core.List.{List, [], _++_, append-assoc}
 use mathlib.Core.Logic.{inl, inr}
 use mathlib.Core.Option.{Option, none, some}
 use lib.Dec.{eqb}
-use lib.ListN.{length, replicate}
+use lib.ListN.{length, replicate, length-append, length-replicate}
 use borrow.Author.Tests.{eqb-true}
-use Rattle.vat.specs.Table.{sectorLength, unused, unusedOrBelow, Lower}
+use Rattle.le.specs.Bytes.{every}
+use Rattle.vat.specs.Table.{sectorLength, limit, unused, unusedOrBelow, Lower}
 use Rattle.vat.specs.Sector.{tableBytes}
 use Rattle.extent.specs.declared.Extent.{Extent}
 use Rattle.disc.specs.Disc.{Disc, recorded, Sector, link, puts}
-use Rattle.disc.specs.Tables.{tableAt, timeAt}
-use Rattle.disc.specs.Session.{closing}
-use Rattle.disc.specs.Save.{lastBlock}
-use Rattle.disc.proofs.Recording.{Sound, AllWhole}
+use Rattle.disc.specs.Tables.{below, tableAt, timeAt}
+use Rattle.disc.specs.Again.{freshOf, ownBlocks, againOf}
+use Rattle.disc.specs.Save.{icbOf, lastBlock}
+use Rattle.disc.proofs.Recording.{Sound, AllWhole, whole-append}
 use Rattle.disc.proofs.Found.{table-recorded}
-use Rattle.disc.proofs.Save.{NoTables, ownSectors, icbOf, own-no-tables, save-count, icb-long, IcbReads, icb-reads}
+use Rattle.disc.proofs.Save.{NoTables, ownRecorded, own-count, own-no-tables, save-count, icb-whole, IcbReads, icb-reads}
 use Rattle.volume.specs.declared.Volume.{Volume}
 use Rattle.volume.specs.Volume.{unpack, mapOf}
 use Rattle.volume.proofs.State.{Proper, length-map}
 use Rattle.recorder.specs.Calls.{Call, begin, mount, write, release, closePacket, commit, closeSession, read, lookBack, timeOf, stampBuffer, bufferOf, saves, stampOf}
 use Rattle.recorder.specs.Refusals.{links, target, outcome}
-use Rattle.recorder.specs.Effects.{saved, commits, closes, effect}
+use Rattle.recorder.specs.Effects.{saved, commits, closingFirst, closes, effect}
 use Rattle.recorder.proofs.Done.{Fits, saveOf, SaveDone, CommitDone, commit-done, ClosingDone, closing-done}
-use Rattle.recorder.proofs.Sectors.{behind, beforeIcb, length-beforeIcb, whole-beforeIcb, ends-in-icb}
+use Rattle.recorder.proofs.Sectors.{links-whole, behind, beforeIcb, length-beforeIcb, whole-beforeIcb, ends-in-icb}
 use Rattle.history.specs.History.{History, Told, done}
 use Rattle.history.specs.Events.{told}
 use Rattle.history.specs.Times.{savedStamp}
@@ -90,9 +91,10 @@ closing-leaves d l main reserve start = refl
 abbrev pub closing-saving : (d : Disc) (l : List ℕ) (main reserve : Extent) (start : ℕ) → ClosingDone d l main reserve start → Saving d l (closeSession main reserve start)
 closing-saving d l main reserve start f =
     record {
-      first = closing main reserve start (target (unpack l));
+      first = closingFirst d (unpack l) main reserve start;
       done = f .saving;
-      no-tables = closing-no-tables main reserve start (target (unpack l));
+      no-tables =
+          closing-no-tables main reserve start (target (unpack l)) (length (freshOf d (tableBytes (mapOf (unpack l)) (unpack l .last)) (unpack l .last)));
       leaves = closing-leaves d l main reserve start;
     }
 
@@ -126,7 +128,7 @@ module _ (d : Disc) (l : List ℕ) (sound : Sound d) (good : Proper (unpack l)) 
     table = tableBytes (mapOf (unpack l)) (unpack l .last)
 
     abbrev pub own : List Sector
-    own = ownSectors d table (unpack l .last)
+    own = ownRecorded d table (unpack l .last)
 
     unfoldable pub tableSector : List ℕ
     tableSector = icbOf d table (unpack l .last) (savedStamp c) (target (unpack l) + length (s .first))
@@ -140,15 +142,43 @@ module _ (d : Disc) (l : List ℕ) (sound : Sound d) (good : Proper (unpack l)) 
     pub before-whole : AllWhole beforeTable
     before-whole = whole-beforeIcb d (unpack l) (mapOf (unpack l)) (unpack l .last) (s .first) (s .done .whole)
 
-    pub before-no-tables : NoTables (recorded d) beforeTable
-    before-no-tables =
-        let linked : List Sector = replicate (links (unpack l)) link in
-        let b : ℕ = recorded d + length linked in
-        no-tables-append linked (s .first ++ own) (recorded d) (links-no-tables (links (unpack l)) (recorded d))
-        (no-tables-append (s .first) own b (s .no-tables b) (own-no-tables d table (unpack l .last) (b + length (s .first))))
+    -- the links, and what a closing puts first
+    abbrev linked : List Sector
+    linked = replicate (links (unpack l)) link
+
+    abbrev ahead : List Sector
+    ahead = linked ++ s .first
+
+    ahead-whole : AllWhole ahead
+    ahead-whole = whole-append linked (s .first) (links-whole (links (unpack l))) (s .done .whole)
+
+    length-ahead : length ahead ≡ links (unpack l) + length (s .first)
+    length-ahead = length-append linked (s .first) ∙ ap (λ (n : ℕ). n + length (s .first)) (length-replicate (links (unpack l)) link)
+
+    -- the map and the last table lie below what is recorded
+    map-few : length (mapOf (unpack l)) ≤ limit
+    map-few = omega (arith, length-map (unpack l) (enough (s .done .fit)), s .done .fit .few)
+
+    map-below : every (unusedOrBelow (recorded d)) (mapOf (unpack l)) ≡ true
+    map-below = subst (λ (r : ℕ). every (unusedOrBelow r) (mapOf (unpack l)) ≡ true) (s .done .fit .same-recorded) (s .done .fit .entries-below)
+
+    last-low : unusedOrBelow (recorded d) (unpack l .last) ≡ true
+    last-low = last-below (s .done .fit) (recorded d) (omega arith)
 
     counted : length (saveOf d l (s .first) (savedStamp c)) ≡ length own + 1
-    counted = save-count d table (unpack l .last) (savedStamp c) (target (unpack l) + length (s .first))
+    counted =
+        save-count d table (unpack l .last) (savedStamp c) (target (unpack l) + length (s .first))
+        ∙ ap (λ (n : ℕ). n + 1) (sym (own-count d table (unpack l .last)))
+
+    inside : recorded d + length ahead + length own + 1 ≤ length (d .kinds)
+    inside = omega (arith, length-ahead, counted, s .done .room)
+
+    pub before-no-tables : NoTables (recorded d) beforeTable
+    before-no-tables =
+        subst (NoTables (recorded d)) (append-assoc linked (s .first) own)
+        (no-tables-append ahead own (recorded d)
+        (no-tables-append linked (s .first) (recorded d) (links-no-tables (links (unpack l)) (recorded d)) (s .no-tables (recorded d + length linked)))
+        (own-no-tables d sound ahead ahead-whole (mapOf (unpack l)) (unpack l .last) map-few map-below last-low (omega (arith, inside))))
 
     pub room : recorded d + (length beforeTable + 1) ≤ length (d .kinds)
     room = omega (arith, length-before, counted, s .done .room)
@@ -168,24 +198,9 @@ module _ (d : Disc) (l : List ℕ) (sound : Sound d) (good : Proper (unpack l)) 
     leaves-behind =
         ap (λ e. e .sectors) (s .leaves) ∙ ends-in-icb d (unpack l) (mapOf (unpack l)) (unpack l .last) (s .first) (savedStamp c) (bufferOf c)
 
-    -- it is a table of the working map there
-    pub read-back : (lower : Lower) → IcbReads lower tableSector (mapOf (unpack l)) (unpack l .last) (savedStamp c) (recorded d + length beforeTable)
-    unfolding tableSector
-    read-back lower =
-        let v : Volume = unpack l in
-        let at : ℕ = target v + length (s .first) in
-        let b : ℕ = at + length own in
-        let f : SaveDone d l (s .first) (savedStamp c) = s .done in
-        let here : b ≡ recorded d + length beforeTable = omega (arith, length-before, f .fit .same-recorded) in
-        let under : recorded d + length beforeTable < unused = small in
-        let below : AllBelow b (mapOf v) = all-below-more (v .recorded) b (mapOf v) (omega arith) (all-below-of (v .recorded) (mapOf v) (f .fit .entries-below)) in
-        subst (λ (n : ℕ). IcbReads lower (icbOf d table (v .last) (savedStamp c) at) (mapOf v) (v .last) (savedStamp c) n) here
-        (icb-reads lower d (mapOf v) (v .last) (savedStamp c) at (omega (arith, length-map v (enough (f .fit)), f .fit .few)) (all-below-to b (mapOf v) below)
-        (last-below (f .fit) b (omega (arith, here))) (f .timely) (omega (arith, here)))
-
     pub sector-long : length tableSector ≡ sectorLength
     unfolding tableSector
-    sector-long = icb-long d table (unpack l .last) (savedStamp c) (target (unpack l) + length (s .first))
+    sector-long = icb-whole d table (unpack l .last) (savedStamp c) (target (unpack l) + length (s .first))
 
     abbrev pub savedDisc : Disc
     savedDisc = puts d (recorded d) (behind beforeTable tableSector)
@@ -194,16 +209,31 @@ module _ (d : Disc) (l : List ℕ) (sound : Sound d) (good : Proper (unpack l)) 
     abbrev readable : Lower
     readable = lower d sound beforeTable before-whole before-no-tables tableSector sector-long room
 
+    -- it is a table of the working map there, and names its own sectors
+    pub read-back : IcbReads readable tableSector (mapOf (unpack l)) (unpack l .last) (savedStamp c) (recorded d + length beforeTable)
+        (ownBlocks (againOf d table (unpack l .last)) (target (unpack l) + length (s .first)))
+    unfolding tableSector
+    read-back =
+        let v : Volume = unpack l in
+        let f : SaveDone d l (s .first) (savedStamp c) = s .done in
+        let fresh : ℕ = length (freshOf d table (v .last)) in
+        let at : recorded d + length ahead ≡ target v + length (s .first) = omega (arith, length-ahead, f .fit .same-recorded) in
+        let here : recorded d + length ahead + fresh ≡ recorded d + length beforeTable = omega (arith, length-ahead, length-before, own-count d table (v .last)) in
+        let all : ahead ++ own ≡ beforeTable = append-assoc linked (s .first) own in
+        let reads = icb-reads d sound ahead ahead-whole (mapOf v) (v .last) map-few map-below last-low (savedStamp c) (f .timely) (omega (arith, inside, own-count d table (v .last))) in
+        subst (λ (ss : List Sector). IcbReads (below (puts d (recorded d) ss) (recorded d + length beforeTable)) (icbOf d table (v .last) (savedStamp c) (target v + length (s .first))) (mapOf v) (v .last) (savedStamp c)
+        (recorded d + length beforeTable) (ownBlocks (againOf d table (v .last)) (target v + length (s .first)))) all
+        (subst₂ (λ (n k : ℕ). IcbReads (below (puts d (recorded d) (ahead ++ own)) n) (icbOf d table (v .last) (savedStamp c) k) (mapOf v) (v .last) (savedStamp c) n (ownBlocks (againOf d table (v .last)) k)) here at reads)
+
     pub save : Saved F d savedDisc (working F (mapOf (unpack l)) (unpack l .last)) (recorded d + length beforeTable)
     save =
         let v : Volume = unpack l in
-        let reads : IcbReads readable tableSector (mapOf v) (v .last) (savedStamp c) (recorded d + length beforeTable) = read-back readable in
-        behind-saved d sound beforeTable before-whole before-no-tables tableSector sector-long room (working F (mapOf v) (v .last)) small (reads .is-table) (reads .entries)
-        (reads .previous-table)
+        behind-saved d sound beforeTable before-whole before-no-tables tableSector sector-long room (working F (mapOf v) (v .last)) small (read-back .is-table) (read-back .entries)
+        (read-back .previous-table)
 
     pub save-sound : Sound savedDisc
     save-sound = behind-sound d sound beforeTable before-whole before-no-tables tableSector sector-long room
 
     -- and its time is the call's
     pub save-time : timeAt savedDisc (recorded d + length beforeTable) ≡ savedStamp c
-    save-time = behind-time d sound beforeTable before-whole before-no-tables tableSector sector-long room ∙ read-back readable .modified
+    save-time = behind-time d sound beforeTable before-whole before-no-tables tableSector sector-long room ∙ read-back .modified

@@ -3,7 +3,7 @@
 --     begun-kept, mounted-kept, all-kept  what holds of disc, ledger and history after a begin or a mount, and after any events that follow
 --     all-extends, all-since  these only add to the disc, and leave each save where it was, further back by the saves that they make
 --     remounts           a save that is done, then a mount or a look back on the disc that it leaves
---     save-then-mount    the same of any 1,848 bytes as ledger
+--     save-then-mount    the same of any 16,364 bytes as ledger
 -- Assumes nothing.
 use Prim.Native.Nat.{ℕ, suc, _+_, _*_, _<_}
 use native.Mathlib.Omega.{arith}
@@ -223,7 +223,7 @@ module _ (d : Disc) (l : List ℕ) (h : History) (k : Kept (record { disc = d; l
 
 -- ---- a save, then a mount
 
--- what mount and look back 1 say of the disc that a save left, lent any 1,848 bytes: the same map and size, that block as last table, clean; and one
+-- what mount and look back 1 say of the disc that a save left, lent any 16,364 bytes: the same map and size, that block as last table, clean; and one
 -- step back the table that was the ledger's last, if there was one
 pub record Remounted (d : Disc) (l : List ℕ) (c : Call) (m : List ℕ) : Type 0 where
   pub clean : after (after d l c .disc) m mount .answer ≡ 1

@@ -35,7 +35,7 @@ pub record DoneShowing (d : Disc) (l : List ℕ) (c : Call) (p : Snapshot) : Typ
   pub is-done : outcome d l c ≡ 0
   pub showing : Shows d (after d l c .ledger) p
 
--- "a mount, lent any 1,848 bytes as ledger, is done exactly if there is a page, else 7".
+-- "a mount, lent any 1,848 bytes as ledger, is done exactly if there is a page, else 7": any of the ledger's length.
 abbrev pub Mounts : Disc → List ℕ → List Snapshot → Type 0
 Mounts d l [] = outcome d l mount ≡ 7
 Mounts d l (p ∷ ps) = DoneShowing d l mount p

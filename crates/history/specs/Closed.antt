@@ -19,7 +19,7 @@ use Rattle.history.specs.History.{Snapshot, History}
 use Rattle.history.specs.Events.{World, Event, AllAllowed, runs, remembers, afterCall, begunHistory, mountedHistory}
 use Rattle.history.specs.Claim.{DoneShowing}
 
--- A closed disc on which a mount, lent any 1,848 bytes as ledger, is done, finds its table clean and shows the page p.
+-- A closed disc on which a mount, lent any 16,364 bytes as ledger, is done, finds its table clean and shows the page p.
 pub record ClosedShowing (d : Disc) (p : Snapshot) : Type 0 where
   pub is-closed : sessionClosed d ≡ true
   pub clean : (m : List ℕ) → length m ≡ ledgerLength → after d m mount .answer ≡ 1

@@ -19,7 +19,7 @@ abbrev pub telling : Bool → Disc → List ℕ → List ℕ → List ℕ → Af
 telling true d l answer stamp = record { answer = 0; disc = d; ledger = l; buffer = told stamp }
 telling false d l answer stamp = record { answer = 16 * 4294967296; disc = d; ledger = l; buffer = answer }
 
--- Of the save k saves back this time is told, lent any 1,848 bytes, since "the ledger is not read", and any 8 bytes for the answer.
+-- Of the save k saves back this time is told, lent any 16,364 bytes, since "the ledger is not read", and any 8 bytes for the answer.
 abbrev pub TellsTime : Disc → ℕ → List ℕ → Type 0
 TellsTime d k stamp =
     (l answer : List ℕ) → length l ≡ ledgerLength → length answer ≡ toldLength → after d l (timeOf k answer) ≡ telling (valid stamp) d l answer stamp

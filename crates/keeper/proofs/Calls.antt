@@ -1,37 +1,38 @@
 -- What a call that is done leaves for its roles, call by call: a ledger of few numbers, where the tables end, the place of what it recorded, and the
 -- roles kept up.
 -- Assumes nothing.
-use Prim.Native.Nat.{ℕ, _+_, _-_, _*_, _≤_, _<_}
+use Prim.Native.Nat.{ℕ, _+_, _-_, _≤_, _<_}
 use native.Mathlib.Omega.{arith}
 use mathlib.Core.Path.{_≡_, refl, sym, ap, ap₂, _∙_, subst}
-use mathlib.Core.Bool.{Bool, true, false, _&&_}
+use mathlib.Core.Bool.{true, false, _&&_, _||_, not}
 use mathlib.Core.List.{List, []}
 use mathlib.Core.Option.{Option, none, some}
-use lib.Dec.{eqb, ltb, leb, lit≤}
-use lib.ListN.{length, length-set}
-use Rattle.vat.specs.Table.{sectorLength, limit, unused}
+use lib.Dec.{eqb, lit≤}
+use lib.ListN.{length, getD, length-set, List·getD-eq-default}
+use Rattle.vat.specs.Table.{mostOwn, limit, unused}
 use Rattle.vat.specs.Sector.{noStamp, tableBytes}
 use Rattle.extent.specs.declared.Extent.{Extent}
 use Rattle.disc.specs.declared.Walk.{Walk}
-use Rattle.disc.specs.Disc.{Disc, lent, mostSectors, sized, Sector, recorded, blanks, kindAt, sectorAt}
+use Rattle.disc.specs.Disc.{Disc, lent, mostSectors, sized, Sector, recorded, blanks}
 use Rattle.disc.specs.Tables.{tableAt, mapAt, blockFound, newest}
-use Rattle.disc.specs.Session.{closing}
+use Rattle.disc.specs.Session.{closingLength}
+use Rattle.disc.specs.Again.{freshOf}
 use Rattle.disc.specs.Save.{lastBlock}
 use Rattle.disc.proofs.Recording.{Sound, leading-le}
 use Rattle.disc.proofs.Told.{few-at}
 use Rattle.disc.proofs.Found.{newest-table, newest-below, none-recorded, none-newer}
-use Rattle.disc.proofs.Save.{ownSectors, save-count}
+use Rattle.disc.proofs.Save.{save-count}
 use Rattle.volume.specs.Volume.{ledgerLength, idle, readOnly, unpack, pack, mapOf, begun, filled, wrote, released}
 use Rattle.volume.specs.declared.Volume.{Volume}
 use Rattle.volume.proofs.State.{proper-begun, long-unpack, long-filled, size-kept, recorded-kept, last-kept}
 use Rattle.recorder.specs.Calls.{Call, begin, mount, write, release, commit, closeSession, lookBack, stampOf}
 use Rattle.recorder.specs.Refusals.{first, links, target, blockOf, outcome}
-use Rattle.recorder.specs.Effects.{effect, blockReached, After, left, after, shownAt}
+use Rattle.recorder.specs.Effects.{closingFirst, effect, blockReached, After, left, after, shownAt}
 use Rattle.recorder.proofs.Done.{Fits, ledger-accepted, begin-done, mount-done, size-fits, WriteDone, write-done, release-done, saveOf, SaveDone, commit-done, closing-done, look-back-done}
 use Rattle.recorder.proofs.Answers.{walked-table}
-use Rattle.roles.specs.Roles.{inUse, unnumbered}
+use Rattle.recorder.proofs.Sectors.{length-closing, own-few}
+use Rattle.roles.specs.Roles.{inUse, unnumbered, blankRole, names}
 use Rattle.roles.specs.Keeping.{scanned, supersedeIf, letGo, marked, markedSave, keptUp, rolesTests}
-use Rattle.roles.proofs.Naming.{beyond-kept}
 use Rattle.keeper.proofs.Kept.{lengths-told}
 
 -- ---- the numbers of the ledger
@@ -75,15 +76,6 @@ module _ (d : Disc) (l : List ℕ) where
 
 -- ---- what is asked behind the log
 
--- lengths decide whether a disc is sized
-sized-same : (d : Disc) (i k : List ℕ) → length i ≡ length (d .image) → length k ≡ length (d .kinds) → sized (lent i k) ≡ sized d
-unfolding sized
-sized-same d i k p q = ap₂ (λ (x n : ℕ). ltb 0 n && (leb n mostSectors && eqb x (sectorLength * n))) p q
-
--- a scan and a block let go ask this of the buffers
-abbrev pub Ready : List ℕ → List ℕ → List ℕ → List ℕ → Type 0
-Ready i k rs m = (sized (lent i k) ≡ true) × (length rs ≡ length k) × (length m ≡ ledgerLength) × (unpack m .size ≤ limit)
-
 module _ (d : Disc) (l : List ℕ) (c : Call) (z : outcome d l c ≡ 0) {a : ℕ} {i k m b : List ℕ} (e : left a i k m b ≡ after d l c) where
   answered : a ≡ effect d l c .second
   unfolding after
@@ -93,19 +85,18 @@ module _ (d : Disc) (l : List ℕ) (c : Call) (z : outcome d l c ≡ 0) {a : ℕ
   unfolding after
   ledger-left = ap (λ (x : After). x .ledger) e ∙ rw z
 
-  pub ready : (roles : List ℕ) → first (rolesTests true d roles) ≡ 0 → length i ≡ length (d .image) → length k ≡ length (d .kinds) → length m ≡ length l → unpack (effect d l c .ledger) .size ≤ limit
-      → (rs : List ℕ) → length rs ≡ length roles → Ready i k rs m
-  ready roles h p q r few rs s =
-      let t = lengths-told d roles h in (
-        sized-same d i k p q ∙ t .0,
-        s ∙ t .1 ∙ sym q,
-        r ∙ ledger-accepted d l c z,
-        subst (λ (x : List ℕ). unpack x .size ≤ limit) (sym ledger-left) few,
-      )
+  -- a block let go asks this of the ledger
+  pub known : length m ≡ length l → unpack (effect d l c .ledger) .size ≤ limit → (length m ≡ ledgerLength) × (unpack m .size ≤ limit)
+  known r few = (r ∙ ledger-accepted d l c z, subst (λ (x : List ℕ). unpack x .size ≤ limit) (sym ledger-left) few)
+
+  -- a scan asks this of all buffers
+  pub ready : (roles : List ℕ) → first (rolesTests true d roles) ≡ 0 → length m ≡ length l → unpack (effect d l c .ledger) .size ≤ limit
+      → (sized d ≡ true) × (length roles ≡ length (d .kinds)) × (length m ≡ ledgerLength) × (unpack m .size ≤ limit)
+  ready roles h r few = let t = lengths-told d roles h in let u = known r few in (t .0, t .1, u .0, u .1)
 
 -- a scan asks where the tables end, too
 abbrev pub Ends : Disc → ℕ → Type 0
-Ends d end = (end ≤ length (d .kinds)) × ((b : ℕ) → end ≤ b → tableAt d b ≡ false)
+Ends d end = (end ≤ recorded d) × ((b : ℕ) → end ≤ b → tableAt d b ≡ false)
 
 module _ (d : Disc) (l : List ℕ) where
   pub begin-ends : outcome d l begin ≡ 0 → Ends d 0
@@ -132,13 +123,12 @@ module _ (d : Disc) (l : List ℕ) where
     look-back-ends j z e =
         let f = look-back-done d l j z in
         let t : ℕ = f .1 .0 in
-        let within : recorded d ≤ length (d .kinds) = leading-le (d .kinds) in
         let few : length (mapAt d t) ≤ limit = few-at d t (walked-table d j t (f .1 .1)) in
         let recorded-is : unpack m .recorded ≡ recorded d =
         ap (λ (x : List ℕ). unpack x .recorded) (ledger-left d l (lookBack j) z e)
         ∙ ap (λ (w : Walk). unpack (pack (shownAt d (blockReached w) readOnly)) .recorded) (f .1 .1)
-        ∙ recorded-kept (shownAt d t readOnly) (long-filled (mapAt d t) t (recorded d) readOnly few) (omega (arith, f .0 .few)) in
-        subst (Ends d) (sym recorded-is) (within, none-recorded d (f .0))
+        ∙ recorded-kept (shownAt d t readOnly) (long-filled (mapAt d t) t (recorded d) readOnly few) (omega (arith, f .0 .few, leading-le (d .kinds))) in
+        subst (Ends d) (sym recorded-is) (omega arith, none-recorded d (f .0))
 
 -- a call that records starts at the count of what was recorded, and its answer is its last block
 pub record Placed (d : Disc) (l : List ℕ) (between count a : ℕ) : Type 0 where
@@ -161,7 +151,7 @@ module _ (d : Disc) (l : List ℕ) where
       → Placed d l (length first) (length (saveOf d l first stamp)) a
   save-placed first stamp a f at =
       let v : Volume = unpack l in
-      let count : length (saveOf d l first stamp) ≡ length (ownSectors d (tableBytes (mapOf v) (v .last)) (v .last)) + 1 =
+      let count : length (saveOf d l first stamp) ≡ length (freshOf d (tableBytes (mapOf v) (v .last)) (v .last)) + 1 =
       save-count d (tableBytes (mapOf v) (v .last)) (v .last) stamp (target v + length first) in
       placed (length first) (length (saveOf d l first stamp)) a (f .sound-disc) (f .fit) (f .room) (omega (arith, at, count))
 
@@ -178,10 +168,28 @@ module _ (d : Disc) (l : List ℕ) where
     commit-placed stamp z e = save-placed [] (stampOf stamp) a (commit-done d l stamp z .saving) (answered d l (commit stamp) z e)
 
     pub closing-placed : (main reserve : Extent) (start : ℕ) → outcome d l (closeSession main reserve start) ≡ 0 → left a i k m b ≡ after d l (closeSession main reserve start)
-        → let first : List Sector = closing main reserve start (target (unpack l)) in Placed d l (length first) (length (saveOf d l first noStamp)) a
+        → let first : List Sector = closingFirst d (unpack l) main reserve start in Placed d l (length first) (length (saveOf d l first noStamp)) a
     unfolding effect
     closing-placed main reserve start z e =
-        save-placed (closing main reserve start (target (unpack l))) noStamp a (closing-done d l main reserve start z .saving) (answered d l (closeSession main reserve start) z e)
+        save-placed (closingFirst d (unpack l) main reserve start) noStamp a (closing-done d l main reserve start z .saving) (answered d l (closeSession main reserve start) z e)
+
+  -- of a closing, by the own sectors that it records
+  pub closing-own : (main reserve : Extent) (start : ℕ) → outcome d l (closeSession main reserve start) ≡ 0
+      → (length l ≡ ledgerLength) × (unpack l .size ≤ limit) × ((eqb (unpack l .last) unused || tableAt d (unpack l .last)) ≡ true)
+  closing-own main reserve start z =
+      let f : Fits d (unpack l) = closing-done d l main reserve start z .saving .fit in
+      (ledger-accepted d l (closeSession main reserve start) z, f .few, f .last-known)
+
+  pub closing-counts : (main reserve : Extent) (start own : ℕ) → outcome d l (closeSession main reserve start) ≡ 0
+      → own ≡ length (freshOf d (tableBytes (mapOf (unpack l)) (unpack l .last)) (unpack l .last))
+      → let first : List Sector = closingFirst d (unpack l) main reserve start in (closingLength - own ≡ length first) × (own + 1 ≡ length (saveOf d l first noStamp))
+  closing-counts main reserve start own z is =
+      let v : Volume = unpack l in
+      let t : List ℕ = tableBytes (mapOf v) (v .last) in
+      let fresh : ℕ = length (freshOf d t (v .last)) in
+      let few : fresh ≤ mostOwn = own-few d v (closing-done d l main reserve start z .saving .fit .few) in
+      let all : length (closingFirst d v main reserve start) + fresh ≡ closingLength = length-closing main reserve start (target v) fresh (omega arith) in
+      (omega (arith, all, is), omega (arith, save-count d t (v .last) noStamp (target v + length (closingFirst d v main reserve start)), is))
 
 -- from the counts that were taken before the call: what it recorded, run by run
 module _ (d : Disc) (roles l : List ℕ) {a r n between count : ℕ} (p : Placed d l between count a) (own : r ≡ unpack l .recorded) (links-are : n ≡ links (unpack l)) where
@@ -214,34 +222,35 @@ module _ (d : Disc) (roles l : List ℕ) {a : ℕ} {i k m b rs : List ℕ} where
   unfolding keptUp
   look-back-kept j e q = q ∙ ap (λ (x : After). scanned (x .disc) (x .ledger)) e
 
-  -- a block let go, on the disc and the ledger that are left
-  let-go-left : (c : Call) {name : ℕ} {ss : List ℕ} → left a i k m b ≡ after d l c → (name′ : ℕ) → name ≡ name′ → (ss′ : List ℕ) → ss ≡ ss′ → rs ≡ letGo (lent i k) m name ss
-      → rs ≡ letGo (after d l c .disc) (after d l c .ledger) name′ ss′
-  let-go-left c {name} {ss} e name′ p ss′ r q = q ∙ ap₂ (λ (x : ℕ) (y : List ℕ). letGo (lent i k) m x y) p r ∙ ap (λ (x : After). letGo (x .disc) (x .ledger) name′ ss′) e
+  -- a block let go, with the ledger that is left
+  let-go-left : (c : Call) {name : ℕ} {ss : List ℕ} → left a i k m b ≡ after d l c → (name′ : ℕ) → name ≡ name′ → (ss′ : List ℕ) → ss ≡ ss′ → rs ≡ letGo m name ss
+      → rs ≡ letGo (after d l c .ledger) name′ ss′
+  let-go-left c {name} {ss} e name′ p ss′ r q = q ∙ ap₂ (λ (x : ℕ) (y : List ℕ). letGo m x y) p r ∙ ap (λ (x : After). letGo (x .ledger) name′ ss′) e
 
-  pub release-kept : (n : ℕ) {name : ℕ} → left a i k m b ≡ after d l (release n) → name ≡ blockOf (unpack l) n → rs ≡ letGo (lent i k) m name roles → rs ≡ keptUp d roles l (release n)
+  pub release-kept : (n : ℕ) {name : ℕ} → left a i k m b ≡ after d l (release n) → name ≡ blockOf (unpack l) n → rs ≡ letGo m name roles → rs ≡ keptUp d roles l (release n)
   unfolding keptUp
   release-kept n e p q = let-go-left (release n) e (blockOf (unpack l) n) p roles refl q
 
   pub write-kept : (n : ℕ) (block : List ℕ) {name : ℕ} {ss : List ℕ} → left a i k m b ≡ after d l (write (some n) block) → name ≡ blockOf (unpack l) n
-      → ss ≡ marked (recorded d) (links (unpack l)) 0 1 inUse roles → rs ≡ letGo (lent i k) m name ss → rs ≡ keptUp d roles l (write (some n) block)
+      → ss ≡ marked (recorded d) (links (unpack l)) 0 1 inUse roles → rs ≡ letGo m name ss → rs ≡ keptUp d roles l (write (some n) block)
   unfolding keptUp
   write-kept n block e p r q = let-go-left (write (some n) block) e (blockOf (unpack l) n) p (marked (recorded d) (links (unpack l)) 0 1 inUse roles) r q
 
   -- a write without a number lets go of none: no block lies there
-  pub unnumbered-kept : (block : List ℕ) → left a i k m b ≡ after d l (write none block) → length k ≡ length (d .kinds) → length (d .kinds) ≤ mostSectors
+  pub unnumbered-kept : (block : List ℕ) → left a i k m b ≡ after d l (write none block) → length rs ≤ mostSectors
       → rs ≡ marked (recorded d) (links (unpack l)) 0 1 unnumbered roles → rs ≡ keptUp d roles l (write none block)
   unfolding keptUp letGo
-  unnumbered-kept block e long few q =
+  unnumbered-kept block e few q =
       let ss : List ℕ = marked (recorded d) (links (unpack l)) 0 1 unnumbered roles in
+      let none-there : getD rs unused blankRole ≡ blankRole = List·getD-eq-default rs blankRole {n = unused} (omega arith) in
       let-go-left (write none block) e unused refl ss q
-      (ap (λ (t : Bool). supersedeIf t unused rs) (sym (beyond-kept (lent i k) (mapOf (unpack m)) unused (omega (arith, long)))))
+      (sym (ap (λ (r : ℕ). supersedeIf (eqb r inUse && not (names (mapOf (unpack m)) unused)) unused rs) none-there))
 
 module _ (d : Disc) (roles l : List ℕ) {rs : List ℕ} where
   pub commit-kept : (stamp : Option (List ℕ)) → rs ≡ markedSave d (unpack l) [] (stampOf stamp) roles → rs ≡ keptUp d roles l (commit stamp)
   unfolding keptUp
   commit-kept stamp q = q
 
-  pub closing-kept : (main reserve : Extent) (start : ℕ) → rs ≡ markedSave d (unpack l) (closing main reserve start (target (unpack l))) noStamp roles → rs ≡ keptUp d roles l (closeSession main reserve start)
+  pub closing-kept : (main reserve : Extent) (start : ℕ) → rs ≡ markedSave d (unpack l) (closingFirst d (unpack l) main reserve start) noStamp roles → rs ≡ keptUp d roles l (closeSession main reserve start)
   unfolding keptUp
   closing-kept main reserve start q = q

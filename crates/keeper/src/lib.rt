@@ -1,7 +1,6 @@
 // The calls of the log, each lent the roles too and keeping them up: "Each call that alters disc or ledger is lent these bytes too" (document 02, R-7). No
 // function has a precondition. Its promise is one equation: the answer and every lent buffer at the end, the roles among them, are what the definition
 // `afterRoles` says of what the buffers held at the beginning.
-use calls::basic::LEDGER;
 use disc::session::CLOSING;
 use extent::Extent;
 use roles::IN_USE;
@@ -9,15 +8,20 @@ use roles::TABLE;
 use roles::UNNUMBERED;
 use vat::table::LIMIT;
 use vat::table::UNUSED;
+use volume::LEDGER;
 ghost use mathlib.Core.Path.{_≡_};
-ghost use mathlib.Core.Bool.{true};
+ghost use mathlib.Core.Bool.{true, _||_};
 ghost use mathlib.Core.List.{[]};
 ghost use mathlib.Core.Option.{none, some};
-ghost use Prim.Native.Nat.{_<_};
+ghost use Prim.Native.Nat.{_≤_, _<_};
+ghost use lib.Dec.{eqb};
 ghost use lib.ListN.{length};
-ghost use Rattle.vat.specs.Table.{limit};
-ghost use Rattle.disc.specs.Disc.{lent};
-ghost use Rattle.volume.specs.Volume.{ledgerLength, unpack};
+ghost use Rattle.vat.specs.Table.{mostOwn, limit, unused};
+ghost use Rattle.vat.specs.Sector.{tableBytes};
+ghost use Rattle.disc.specs.Disc.{lent, sized};
+ghost use Rattle.disc.specs.Tables.{tableAt};
+ghost use Rattle.disc.specs.Again.{freshOf};
+ghost use Rattle.volume.specs.Volume.{places, ledgerLength, unpack, mapOf};
 ghost use Rattle.recorder.specs.Calls.{begin, mount, write, release, closePacket, commit, closeSession, lookBack};
 ghost use Rattle.recorder.specs.Refusals.{first, links, blockOf};
 ghost use Rattle.roles.specs.Keeping.{rolesTests, leftRoles, afterRoles};
@@ -58,9 +62,26 @@ fn links_ahead(ledger: &[u8]) -> u32
     calls::basic::links(ledger)
 }
 
+// The own sectors that a save of the ledger's state is about to record. There are none in a ledger that does not fit: the log refuses it.
+fn own_ahead(image: &[u8], kinds: &[u8], ledger: &[u8]) -> u32
+    requires { ⌜ sized (lent (now image) (now kinds)) ≡ true ⌝ }
+    ensures { λ r. ⌜ (r ≤ mostOwn) × (length (now (ledger .entry)) ≡ ledgerLength → unpack (now (ledger .entry)) .size ≤ limit → (eqb (unpack (now (ledger .entry)) .last) unused || tableAt (lent (now (image .entry)) (now (kinds .entry))) (unpack (now (ledger .entry)) .last)) ≡ true → r ≡ length (freshOf (lent (now (image .entry)) (now (kinds .entry))) (tableBytes (mapOf (unpack (now (ledger .entry)))) (unpack (now (ledger .entry)) .last)) (unpack (now (ledger .entry)) .last))) ⌝ }
+{
+    if ledger.len() != LEDGER {
+        return 0;
+    }
+    if LIMIT < volume::ledger::size(ledger) {
+        return 0;
+    }
+    if !volume::ledger::last_fits(image, kinds, volume::ledger::last(ledger)) {
+        return 0;
+    }
+    calls::basic::own_recorded(image, kinds, ledger)
+}
+
 // The block that number v names, before a call lets go of it; none in what the log refuses.
 fn named_by(ledger: &[u8], v: u32) -> u32
-    ensures { λ r. ⌜ (length (now (ledger .entry)) ≡ ledgerLength → v < limit → r ≡ blockOf (unpack (now (ledger .entry))) v) ⌝ }
+    ensures { λ r. ⌜ (length (now (ledger .entry)) ≡ ledgerLength → v < places → r ≡ blockOf (unpack (now (ledger .entry))) v) ⌝ }
 {
     if ledger.len() != LEDGER {
         return UNUSED;
@@ -126,7 +147,7 @@ pub fn write(
         return answer;
     }
     roles::mark(roles, at, links, 0, 1, IN_USE);
-    roles::let_go(image, kinds, roles, ledger, replaced);
+    roles::let_go(roles, ledger, replaced);
     answer
 }
 
@@ -165,7 +186,7 @@ pub fn release(image: &[u8], kinds: &[u8], roles: &mut [u8], ledger: &mut [u8], 
     if REFUSED <= answer {
         return answer;
     }
-    roles::let_go(image, kinds, roles, ledger, released);
+    roles::let_go(roles, ledger, released);
     answer
 }
 
@@ -238,19 +259,12 @@ pub fn close_session(
     }
     let at = recorded_ahead(ledger);
     let links = links_ahead(ledger);
+    let own = own_ahead(image, kinds, ledger);
     let answer = log::close_session(image, kinds, ledger, main, reserve, start);
     if REFUSED <= answer {
         return answer;
     }
-    let before = at + links + CLOSING;
-    roles::mark(
-        roles,
-        at,
-        links,
-        CLOSING,
-        (answer as u32) + 1 - before,
-        TABLE,
-    );
+    roles::mark(roles, at, links, CLOSING - own, own + 1, TABLE);
     answer
 }
 

@@ -1,6 +1,6 @@
 -- Runs of bytes and fields, on plain values: one turn of each loop over a run, and what is read where a run stands.
 -- Assumes nothing.
-use Prim.Native.Nat.{ℕ, zero, suc, _+_, _*_, _/_, _%_, _≤_, _<_}
+use Prim.Native.Nat.{ℕ, zero, suc, _+_, _-_, _*_, _/_, _%_, _≤_, _<_}
 use native.Mathlib.Nat.{add-zero, not-suc-le-zero, le-of-suc-le-suc}
 use native.Mathlib.Numerals.{add-one}
 use native.Mathlib.Omega.{arith}
@@ -8,7 +8,7 @@ use mathlib.Core.Path.{_≡_, refl, sym, ap, ap₂, _∙_}
 use mathlib.Core.Bool.{Bool, true, _&&_, and-assoc}
 use mathlib.Core.List.{List, [], _∷_, _++_, append-assoc, append-nil}
 use lib.Dec.{eqb}
-use lib.ListN.{length, take, drop, set, getD, length-append, drop-of-length-le}
+use lib.ListN.{length, take, drop, set, getD, replicate, length-append, drop-of-length-le}
 use lib.Seq.{sets, sets-eq, drop-cons, drop-at, drop-drop, getD-drop, take-add}
 use borrow.Author.Tests.{eq-eqb}
 use Rattle.le.specs.Bytes.{total, holdsText}
@@ -41,6 +41,13 @@ pub word-put : (s xs : List ℕ) (place i : ℕ) → i < length xs → sets (put
 unfolding leWords
 word-put s xs place i h =
     rw (drop-cons xs i 0 h, add-one i, sets-append (le 4 (getD xs i 0)) (leWords (drop (suc i) xs)) s place, length-le 4 (getD xs i 0))
+
+pub word-repeated : (s : List ℕ) (place x n i : ℕ) → i < n → sets (putLe 4 s place x) (place + 4) (leWords (replicate (n - (i + 1)) x)) ≡ sets s place (leWords (replicate (n - i) x))
+unfolding leWords
+word-repeated s place x n i h =
+    let rest : List ℕ = leWords (replicate (n - (i + 1)) x) in
+    let one : n - i ≡ suc (n - (i + 1)) = omega arith in
+    sym (ap (λ (k : ℕ). sets s place (leWords (replicate k x))) one ∙ sets-append (le 4 x) rest s place ∙ ap (λ (k : ℕ). sets (putLe 4 s place x) (place + k) rest) (length-le 4 x))
 
 pub length-leWords : (xs : List ℕ) → length (leWords xs) ≡ 4 * length xs
 unfolding leWords

@@ -86,6 +86,20 @@ pub fn put_words(s: &mut [u8], at: usize, xs: &[u32])
     }
 }
 
+// The number x in n fields from place `at` on.
+pub fn repeat_word(s: &mut [u8], at: usize, x: u32, n: usize)
+    requires { ⌜ at + 4 * n ≤ length (now s) ⌝ }
+    ensures { λ _. ⌜ now (s .exit) ≡ sets (now (s .entry)) at (leWords (replicate n x)) ⌝ }
+{
+    let mut i: usize = 0;
+    let mut place = at;
+    while i < n {
+        crate::put32(s, place, x);
+        i += 1;
+        place += 4;
+    }
+}
+
 // The n fields that stand in l from place `from` on, put at place `at`: a map goes from the ledger's bytes to a table's.
 pub fn copy_words(s: &mut [u8], at: usize, l: &[u8], from: usize, n: usize)
     requires { ⌜ (at + 4 * n ≤ length (now s)) × (from + 4 * n ≤ length (now l)) ⌝ }

@@ -58,7 +58,7 @@ fn put_rows(image: &[u8], kinds: &[u8], out: &mut [u8], clean: bool) -> usize
     let mut at: usize = ROW;
     let mut k: u32 = 0;
     while k < 32 {
-        let mut ledger = [0u8; 1848];
+        let mut ledger = [0u8; 16364];
         let answer = log::look_back(image, kinds, &mut ledger, k);
         let outcome = answer / 4294967296;
         if outcome != 0 {
@@ -78,7 +78,7 @@ fn put_listed(image: &[u8], kinds: &[u8], out: &mut [u8]) -> usize
     requires { ⌜ 832 ≤ length (now out) ⌝ }
     ensures { λ r. ⌜ (now (out .exit) ≡ sets (now (out .entry)) 0 (listed (lent (now (image .entry)) (now (kinds .entry))))) × (r ≡ length (listed (lent (now (image .entry)) (now (kinds .entry))))) ⌝ }
 {
-    let mut ledger = [0u8; 1848];
+    let mut ledger = [0u8; 16364];
     let answer = log::mount(image, kinds, &mut ledger);
     let outcome = answer / 4294967296;
     if outcome != 0 {

@@ -65,13 +65,13 @@ fn counted(count: u32, entry: u32) -> u32
     count + 1
 }
 
-// Entries in use, of all 458: those from size on are unused.
+// Entries in use, of all that the ledger has: those from size on are unused.
 pub fn used(ledger: &[u8]) -> u32
     requires { ⌜ length (now ledger) ≡ ledgerLength ⌝ }
     ensures { λ r. ⌜ r ≡ used (unpack (now (ledger .entry)) .entries) ⌝ }
 {
     let mut count: u32 = 0;
-    let mut i: u32 = 458;
+    let mut i: u32 = 4087;
     while 0 < i {
         i -= 1;
         count = counted(count, volume::ledger::entry(ledger, i));

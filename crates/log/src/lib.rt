@@ -38,7 +38,7 @@ pub fn mount(image: &[u8], kinds: &[u8], ledger: &mut [u8]) -> u64
     if plan.outcome != 0 {
         return refusal(plan.outcome);
     }
-    calls::effects::show(image, ledger, plan, 0);
+    calls::effects::show(image, kinds, ledger, plan, 0);
     if plan.block + 1 == plan.recorded {
         return 1;
     }
@@ -153,7 +153,7 @@ pub fn look_back(image: &[u8], kinds: &[u8], ledger: &mut [u8], k: u32) -> u64
     if plan.outcome != 0 {
         return refusal(plan.outcome);
     }
-    calls::effects::show(image, ledger, plan, 2);
+    calls::effects::show(image, kinds, ledger, plan, 2);
     plan.block as u64
 }
 

@@ -11,14 +11,14 @@ use lib.ListN.{length}
 use Rattle.disc.specs.declared.Walk.the-variants.{Reached}
 use Rattle.disc.specs.Disc.{Disc, Sector, recorded}
 use Rattle.disc.specs.Tables.{tableAt, previousAt, newest, blockFound}
-use Rattle.disc.specs.Session.{closing}
+use Rattle.vat.specs.Sector.{noStamp}
 use Rattle.disc.specs.Save.{lastBlock}
 use Rattle.disc.proofs.Recording.{leading-le}
 use Rattle.disc.proofs.Found.{table-recorded, newest-table, walk-table}
 use Rattle.volume.specs.Volume.{unpack}
 use Rattle.recorder.specs.Calls.{Call, begin, mount, write, release, closePacket, commit, closeSession, read, lookBack, timeOf, bufferOf, stampOf}
 use Rattle.recorder.specs.Refusals.{target, walkFrom, walked, outcome}
-use Rattle.recorder.specs.Effects.{effect, blockReached, cleanNumber, settled, after, secondNumber}
+use Rattle.recorder.specs.Effects.{closingFirst, effect, blockReached, cleanNumber, settled, after, secondNumber}
 use Rattle.recorder.proofs.Done.{links-few, write-done, saveOf, SaveDone, commit-done, closing-done, look-back-done}
 
 pub settled-done : (d : Disc) (l : List ℕ) (c : Call) (n : ℕ) → settled d l (bufferOf c) n (effect d l c) .answer < 4294967296 → n ≡ 0
@@ -61,7 +61,7 @@ second-small d l (write n block) e =
 second-small d l (release n) e = lit< tt
 second-small d l closePacket e = lit< tt
 second-small d l (commit stamp) e = save-small d l [] (stampOf stamp) (commit-done d l stamp e .saving)
-second-small d l (closeSession main reserve start) e = save-small d l (closing main reserve start (target (unpack l))) _ (closing-done d l main reserve start e .saving)
+second-small d l (closeSession main reserve start) e = save-small d l (closingFirst d (unpack l) main reserve start) noStamp (closing-done d l main reserve start e .saving)
 second-small d l (read n block) e = lit< tt
 second-small d l (lookBack k) e =
     let f = look-back-done d l k e in

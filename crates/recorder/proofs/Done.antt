@@ -14,25 +14,26 @@ use borrow.Author.Tests.{eqb-true, eqb-false, ltb-true, ltb-false, leb-true, leb
 use Rattle.le.specs.Bytes.{every}
 use Rattle.le.proofs.Rows.{and-left, and-right}
 use Rattle.timestamp.specs.Timestamp.{stampLength, toldLength, valid}
-use Rattle.vat.specs.Table.{sectorLength, limit, unused, unusedOrBelow, wholeLength, isTable}
+use Rattle.vat.specs.Table.{sectorLength, limit, unused, unusedOrBelow, isTable}
 use Rattle.vat.specs.Sector.{noStamp, tableBytes}
 use Rattle.extent.specs.declared.Extent.{Extent}
 use Rattle.anchor.specs.Anchor.{farthestStart, anchorTagged}
-use Rattle.disc.specs.Disc.{Disc, lent, sized, inOrder, recorded, blanks, kindAt, sectorAt, Sector}
+use Rattle.disc.specs.Disc.{Disc, sized, inOrder, recorded, blanks, kindAt, Sector}
 use Rattle.disc.specs.declared.Walk.{Walk}
 use Rattle.disc.specs.declared.Walk.the-variants.{Reached, Broken, Ended}
 use Rattle.disc.specs.Tables.{below, tableAt, newest}
-use Rattle.disc.specs.Session.{closing, closingLength, sessionClosed}
+use Rattle.disc.specs.Session.{closingLength, sessionClosed}
+use Rattle.disc.specs.Again.{freshOf}
 use Rattle.disc.specs.Save.{saveSectors}
 use Rattle.disc.proofs.Recording.{sized-tells, Sound, sound, sound-sized, sound-order, AllWhole}
-use Rattle.disc.proofs.Told.{recognised-at}
 use Rattle.disc.proofs.Found.{sector-end, table-within}
-use Rattle.disc.proofs.Save.{one-sector}
+use Rattle.disc.proofs.Save.{save-count}
 use Rattle.volume.specs.declared.Volume.{Volume}
 use Rattle.volume.specs.Volume.{ledgerLength, idle, packetOpen, readOnly, mapOf, unpack, isUnused, fits, grown, sizeWith}
 use Rattle.recorder.specs.Calls.{Call, begin, mount, write, release, closePacket, commit, closeSession, read, lookBack, timeOf, stampOf}
 use Rattle.recorder.specs.Refusals.{Test, test, orElse, first, linkCount, linksIf, links, target, reserve, basic, ledgerLent, blockLent, stampLong, stampLent, answerLent, unfit, gate, forbiddenAt, numberTests, writeTests, stampWrong, commitTests, closingTests, blockOf, notInUse, numberedTests, isSome, walked, isBroken, isEnded, walkTests, timeBack, timeWrong, tests, outcome}
-use Rattle.recorder.proofs.Sectors.{closing-whole, length-closing}
+use Rattle.recorder.specs.Effects.{closingFirst}
+use Rattle.recorder.proofs.Sectors.{closing-whole, length-closing, own-few}
 
 -- ---- lists of tests
 
@@ -283,14 +284,9 @@ read-done d l n block e =
       data-kind = eqb-true kind 1 (not-false (eqb kind 1) (passed 10 eleven [] (later 9 ten (test 11 eleven ∷ []) e₁)));
     }
 
--- a table that is shown lies within the image, and within its sector
-pub shown-fits : (d : Disc) (b : ℕ) → Sound d → tableAt d b ≡ true
-    → (sectorLength * b + sectorLength ≤ length (d .image)) × (wholeLength (sectorAt (lent (d .image) []) b) < sectorLength)
-unfolding sectorAt
-shown-fits d b s e = (
-  sector-end d (sized-tells d (sound-sized d s)) b (table-within d b e),
-  recognised-at d b e .frame .below,
-)
+-- a table that is shown lies within the image
+pub shown-within : (d : Disc) (b : ℕ) → Sound d → tableAt d b ≡ true → sectorLength * b + sectorLength ≤ length (d .image)
+shown-within d b s e = sector-end d (sized-tells d (sound-sized d s)) b (table-within d b e)
 
 none-found : (o : Option ℕ) → isSome o ≡ false → o ≡ none
 none-found none e = refl
@@ -480,15 +476,16 @@ commit-done d l stamp e =
 
 pub record ClosingDone (d : Disc) (l : List ℕ) (main reserve : Extent) (start : ℕ) : Type 0 where
   pub near : start ≤ farthestStart
-  pub saving : SaveDone d l (closing main reserve start (target (unpack l))) noStamp
+  pub saving : SaveDone d l (closingFirst d (unpack l) main reserve start) noStamp
 
 pub closing-done : (d : Disc) (l : List ℕ) (main reserve : Extent) (start : ℕ) → outcome d l (closeSession main reserve start) ≡ 0 → ClosingDone d l main reserve start
 unfolding outcome tests
 closing-done d l main reserve start e =
     let v : Volume = unpack l in
     let needed : ℕ = links v + (closingLength + 1) in
-    let first : List Sector = closing main reserve start (target v) in
     let table : List ℕ = tableBytes (mapOf v) (v .last) in
+    let own : ℕ = length (freshOf d table (v .last)) in
+    let first : List Sector = closingFirst d v main reserve start in
     let eighteen : Bool = ltb farthestStart start in
     let fourteen : Bool = ltb (blanks d) needed in
     let rest : List Test = closingTests d v start in
@@ -503,8 +500,9 @@ closing-done d l main reserve start e =
             timely = length-replicate {A = ℕ} stampLength 0;
             fit = w .fit;
             not-looking = w .not-looking;
-            whole = closing-whole main reserve start (target v);
-            room = omega (arith, length-closing main reserve start (target v), one-sector d table (v .last) noStamp (target v + length first), enough);
+            whole = closing-whole main reserve start (target v) own;
+            room =
+                omega (arith, length-closing main reserve start (target v) own (omega (arith, own-few d v (w .fit .few))), save-count d table (v .last) noStamp (target v + length first), enough);
           };
     }
 

@@ -13,6 +13,7 @@ use Rattle.disc.specs.declared.Walk.{Walk}
 use Rattle.disc.specs.declared.Walk.the-variants.{Reached, Broken, Ended}
 use Rattle.disc.specs.Tables.{mapAt, newest, blockFound}
 use Rattle.disc.specs.Session.{closing}
+use Rattle.disc.specs.Again.{freshOf}
 use Rattle.disc.specs.Save.{saveSectors, lastBlock}
 use Rattle.volume.specs.declared.Volume.{Volume}
 use Rattle.volume.specs.Volume.{idle, readOnly, unpack, pack, mapOf, begun, filled, wrote, released, closed, committed}
@@ -62,8 +63,13 @@ saved d v map previous first stamp buffer =
 abbrev pub commits : Disc → Volume → List ℕ → List ℕ → Effect
 commits d v stamp buffer = saved d v (mapOf v) (v .last) [] stamp buffer
 
+-- What a closing puts before its save, which records so many own sectors.
+abbrev pub closingFirst : Disc → Volume → Extent → Extent → ℕ → List Sector
+closingFirst d v main reserve start =
+    closing main reserve start (target v) (length (freshOf d (tableBytes (mapOf v) (v .last)) (v .last)))
+
 abbrev pub closes : Disc → Volume → Extent → Extent → ℕ → Effect
-closes d v main reserve start = saved d v (mapOf v) (v .last) (closing main reserve start (target v)) noStamp []
+closes d v main reserve start = saved d v (mapOf v) (v .last) (closingFirst d v main reserve start) noStamp []
 
 unfoldable pub effect : Disc → List ℕ → Call → Effect
 effect d l begin = settles 0 (pack (begun (recorded d)))

@@ -51,10 +51,11 @@ links v = linksIf (eqb (v .mode) idle && ltb 0 (v .recorded))
 abbrev pub target : Volume → ℕ
 target v = v .recorded + links v
 
--- "Write needs links + 1 + 8 blank sectors", and "on discs of 1,000 sectors or more a write must leave 264 instead of 8".
+-- "Write needs links + 1 + 8 blank sectors", of which "the short disc's reserve grows from 8 to 16", and "on discs of 1,000 sectors or more a write must
+-- leave 264".
 abbrev pub reserveIf : Bool → ℕ
 reserveIf true = 264
-reserveIf false = 8
+reserveIf false = 16
 
 unfoldable pub reserve : ℕ → ℕ
 reserve sectors = reserveIf (leb 1000 sectors)
@@ -89,7 +90,8 @@ unfit d l = test 4 (not (fits d (unpack l)))
 abbrev pub gate : Disc → List ℕ → List Test
 gate d l = unfit d l ∷ test 5 (eqb (unpack l .mode) readOnly) ∷ test 17 (sessionClosed d) ∷ []
 
--- 15, what no write may put at block b of this disc: a table sector, and "every block with such a tag" as a closing's pointer has.
+-- 15, what no write may put at block b of this disc: a table sector, with the own sectors that it names here, and "every block with such a tag" as a
+-- closing's pointer has.
 abbrev pub forbiddenAt : Disc → ℕ → List ℕ → Bool
 forbiddenAt d b block = isTable (below d b) block b || anchorTagged block b
 
@@ -115,15 +117,14 @@ stampWrong (some stamp) = not (valid stamp)
 abbrev pub noRoom : Disc → Volume → ℕ → Test
 noRoom d v recording = test 14 (ltb (blanks d) (links v + recording))
 
--- A commit's own tests: the timestamp, if it has one, and the room for the sectors of its save, of which there is one where the ICB holds the table: then
--- commit "needs links + 1 blank sectors".
+-- A commit's own tests: the timestamp, if it has one, and the room for the sectors of its save: "commit needs blank sectors for what it records".
 abbrev pub commitTests : Disc → Volume → Option (List ℕ) → List Test
 commitTests d v stamp =
     test 16 (stampWrong stamp)
     ∷ noRoom d v (length (saveSectors d (tableBytes (mapOf v) (v .last)) (v .last) (stampOf stamp) (target v)))
     ∷ []
 
--- A closing's: 18, "the partition start exceeds 400,000", and the room: it "needs links + 257".
+-- A closing's: 18, "the partition start exceeds 400,000", and the room: it "needs links + 257", own sectors of its table among them.
 abbrev pub closingTests : Disc → Volume → ℕ → List Test
 closingTests d v start = test 18 (ltb farthestStart start) ∷ noRoom d v (closingLength + 1) ∷ []
 

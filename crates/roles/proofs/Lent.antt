@@ -7,21 +7,20 @@
 use Prim.Native.Nat.{ℕ, zero, suc, _+_, _≤_}
 use native.Mathlib.Omega.{arith}
 use mathlib.Core.Path.{_≡_, refl, sym, ap, _∙_, subst}
-use mathlib.Core.Bool.{Bool, true, false, _||_, not}
+use mathlib.Core.Bool.{Bool, true, false, _&&_, _||_, not}
 use mathlib.Core.List.{List, [], _∷_, _++_}
 use lib.Dec.{eqb}
-use lib.ListN.{length, replicate, length-set, length-append, length-replicate}
+use lib.ListN.{length, getD, replicate, length-set, length-append, length-replicate}
 use borrow.Author.Tests.{eqb-true, eq-eqb}
 use Rattle.vat.specs.Sector.{noStamp}
 use Rattle.disc.specs.Disc.{Disc, Sector, link, plain, torn, sized, recorded, puts}
-use Rattle.disc.specs.Session.{closing}
 use Rattle.disc.proofs.Recording.{length-stored, leading-le}
 use Rattle.volume.specs.Volume.{unpack, mapOf}
 use Rattle.recorder.specs.Calls.{Call, begin, mount, write, release, closePacket, commit, closeSession, read, lookBack, timeOf, stampOf, bufferOf, restores, mayRecord}
-use Rattle.recorder.specs.Refusals.{Test, test, first, links, target, blockOf, tests, outcome}
-use Rattle.recorder.specs.Effects.{effect, settled, after}
+use Rattle.recorder.specs.Refusals.{Test, test, first, links, blockOf, tests, outcome}
+use Rattle.recorder.specs.Effects.{closingFirst, effect, settled, after}
 use Rattle.recorder.proofs.Done.{write-done, saveOf, SaveDone, commit-done, closing-done}
-use Rattle.roles.specs.Roles.{superseded, unnumbered, tableRole, linkRole, roleAt}
+use Rattle.roles.specs.Roles.{inUse, superseded, unnumbered, tableRole, linkRole, blankRole, names}
 use Rattle.roles.specs.Keeping.{supersedeIf, letGo, marked, markedSave, writtenRole, namedBefore, scanned, keptUp, rolesTests, outcomeRoles, AfterRoles, rolesIf, afterRoles}
 use Rattle.roles.proofs.Roles.{length-tabulate}
 
@@ -96,9 +95,9 @@ module _ (d : Disc) (roles l : List ℕ) where
 
 -- ---- the length of roles that are kept up
 
-length-let-go : (d : Disc) (l : List ℕ) (b : ℕ) (roles : List ℕ) → length (letGo d l b roles) ≡ length roles
+length-let-go : (l : List ℕ) (b : ℕ) (roles : List ℕ) → length (letGo l b roles) ≡ length roles
 unfolding letGo
-length-let-go d l b roles = go (eqb (roleAt d (mapOf (unpack l)) [] b) superseded)
+length-let-go l b roles = go (eqb (getD roles b blankRole) inUse && not (names (mapOf (unpack l)) b))
   where
     go : (t : Bool) → length (supersedeIf t b roles) ≡ length roles
     go true = length-set roles b superseded
@@ -139,12 +138,12 @@ module _ (d : Disc) (roles l : List ℕ) (h : length roles ≡ length (d .kinds)
   length-kept begin e = length-tabulate _ (length (after d l begin .disc .kinds)) ∙ length-after d l begin
   length-kept mount e = length-tabulate _ (length (after d l mount .disc .kinds)) ∙ length-after d l mount
   length-kept (write n block) e =
-      length-let-go (after d l (write n block) .disc) (after d l (write n block) .ledger) (namedBefore (unpack l) n) (marked (recorded d) (links (unpack l)) 0 1 (writtenRole n) roles)
+      length-let-go (after d l (write n block) .ledger) (namedBefore (unpack l) n) (marked (recorded d) (links (unpack l)) 0 1 (writtenRole n) roles)
       ∙ length-marked (recorded d) (links (unpack l)) 0 1 (writtenRole n) roles (omega (arith, write-done d l n block e .room, leading-le (d .kinds), h)) ∙ h
-  length-kept (release n) e = length-let-go (after d l (release n) .disc) (after d l (release n) .ledger) (blockOf (unpack l) n) roles ∙ h
+  length-kept (release n) e = length-let-go (after d l (release n) .ledger) (blockOf (unpack l) n) roles ∙ h
   length-kept closePacket e = h
   length-kept (commit stamp) e = save-length [] (stampOf stamp) (commit-done d l stamp e .saving)
-  length-kept (closeSession main reserve start) e = save-length (closing main reserve start (target (unpack l))) noStamp (closing-done d l main reserve start e .saving)
+  length-kept (closeSession main reserve start) e = save-length (closingFirst d (unpack l) main reserve start) noStamp (closing-done d l main reserve start e .saving)
   length-kept (read n block) e = h
   length-kept (lookBack k) e = length-tabulate _ (length (after d l (lookBack k) .disc .kinds)) ∙ length-after d l (lookBack k)
   length-kept (timeOf k answer) e = h

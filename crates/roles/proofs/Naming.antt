@@ -1,24 +1,25 @@
--- What one entry more of the map makes of all roles, when a scan calls a block superseded, and what a call recorded as runs of roles.
+-- What one entry more of the map makes of all roles, what a number that lets go of a block does, and what a call recorded as runs of roles.
 -- Assumes nothing.
 use Prim.Native.Nat.{ℕ, zero, suc, _+_, _≤_, _<_}
+use native.Mathlib.Nat.{not-suc-le-zero}
 use native.Mathlib.Numerals.{add-one}
 use native.Mathlib.Omega.{arith}
 use mathlib.Core.Path.{_≡_, refl, sym, ap, _∙_}
-use mathlib.Core.Bool.{Bool, true, false, not, false≢true}
+use mathlib.Core.Bool.{Bool, true, false, not}
 use mathlib.Core.List.{List, [], _∷_, _++_}
-use lib.Dec.{eqb, ltb}
+use lib.Dec.{eqb}
 use lib.ListN.{length, getD, take, set, replicate, length-replicate, List·getD-eq-default}
 use lib.Seq.{take-suc}
-use borrow.Author.Tests.{eqb-true, eqb-false, ltb-true, ltb-false}
+use borrow.Author.Tests.{eqb-true, eqb-false, ne-eqb}
 use Rattle.le.proofs.Runs.{length-words}
 use Rattle.vat.specs.Table.{limit, unused}
 use Rattle.disc.specs.Disc.{Disc, kindAt, stored}
-use Rattle.disc.specs.Tables.{tableAt}
+use Rattle.disc.proofs.Order.{and-false}
 use Rattle.disc.proofs.Recording.{length-stored}
-use Rattle.volume.specs.Volume.{unpack}
-use Rattle.roles.specs.Roles.{inUse, superseded, unnumbered, linkRole, names, roleOfKind, roleOfData, roleAt, rolesOf}
-use Rattle.roles.specs.Keeping.{marked}
-use Rattle.roles.proofs.Roles.{length-tabulate, getD-tabulate, tabulate-same, set-tabulate, names-none, names-last, names-other, role-names, role-data, stored-append}
+use Rattle.volume.specs.Volume.{unpack, mapOf}
+use Rattle.roles.specs.Roles.{inUse, superseded, unnumbered, linkRole, blankRole, names, ofTable, roleOfKind, roleOfData, roleAt, rolesOf}
+use Rattle.roles.specs.Keeping.{supersedeIf, letGo, marked}
+use Rattle.roles.proofs.Roles.{length-tabulate, getD-tabulate, tabulate-same, set-tabulate, names-last, names-other, role-names, stored-append}
 
 -- the map, one entry further
 pub map-suc : (l : List ℕ) (n : ℕ) → n < limit → take (n + 1) (unpack l .entries) ≡ take n (unpack l .entries) ++ (getD (unpack l .entries) n unused ∷ [])
@@ -60,8 +61,8 @@ module _ (d : Disc) (map : List ℕ) (b : ℕ) (roles : List ℕ) (e : roles ≡
   named-now h was =
       let inside : b < length (d .kinds) = omega (arith, long) in
       let here : roleAt d (map ++ (b ∷ [])) [] b ≡ inUse =
-      ap (λ (t : Bool). roleOfKind (kindAt d b) (roleOfData (tableAt d b) t false)) (names-last map b)
-      ∙ comes-in-use (kindAt d b) (tableAt d b) (names map b) (sym (told inside) ∙ was) in
+      ap (λ (t : Bool). roleOfKind (kindAt d b) (roleOfData (ofTable d b) t false)) (names-last map b)
+      ∙ comes-in-use (kindAt d b) (ofTable d b) (names map b) (sym (told inside) ∙ was) in
       ap (λ (l : List ℕ). set l b inUse) e
       ∙ set-tabulate (roleAt d map []) (roleAt d (map ++ (b ∷ [])) []) (length (d .kinds)) b inUse inside here (λ i low other. elsewhere i other)
 
@@ -74,51 +75,35 @@ module _ (d : Disc) (map : List ℕ) (b : ℕ) (roles : List ℕ) (e : roles ≡
           let same : b ≡ i = sym (eqb-true i b eq) in
           let inside : b < length (d .kinds) = omega arith in
           ap (roleAt d map []) (sym same)
-          ∙ stays (kindAt d b) (tableAt d b) (names map b) (λ was. h (omega (arith, long)) (told inside ∙ was))
-          ∙ ap (λ (t : Bool). roleOfKind (kindAt d b) (roleOfData (tableAt d b) t false)) (sym (names-last map b))
+          ∙ stays (kindAt d b) (ofTable d b) (names map b) (λ was. h (omega (arith, long)) (told inside ∙ was))
+          ∙ ap (λ (t : Bool). roleOfKind (kindAt d b) (roleOfData (ofTable d b) t false)) (sym (names-last map b))
           ∙ ap (roleAt d (map ++ (b ∷ [])) []) same
       go i low false other = elsewhere i (eqb-false i b other)
 
--- ---- a block that a scan calls superseded
+-- ---- a number lets go of a block
 
-no-data : (k own : ℕ) → (k ≡ 1 → ⊥) → eqb (roleOfKind k own) superseded ≡ false
-no-data zero own h = refl
-no-data (suc zero) own h = absurd (h refl)
-no-data (suc (suc zero)) own h = refl
-no-data (suc (suc (suc k))) own h = refl
+-- within a list the default is not told
+inside-same : (xs : List ℕ) (i x y : ℕ) → i < length xs → getD xs i x ≡ getD xs i y
+inside-same [] i x y h = absurd (not-suc-le-zero h)
+inside-same (z ∷ zs) zero x y h = refl
+inside-same (z ∷ zs) (suc i) x y h = inside-same zs i x y (omega arith)
 
-module _ (d : Disc) (map : List ℕ) (b : ℕ) where
-  pub kind-kept : (kindAt d b ≡ 1 → ⊥) → eqb (roleAt d map [] b) superseded ≡ false
-  unfolding roleAt
-  kind-kept h = no-data (kindAt d b) (roleOfData (tableAt d b) (names map b) (names [] b)) h
+module _ (l : List ℕ) (b : ℕ) (roles : List ℕ) where
+  pub let-go-beyond : length roles ≤ b → letGo l b roles ≡ roles
+  unfolding letGo
+  let-go-beyond h = rw (List·getD-eq-default roles blankRole h)
 
-  pub beyond-kept : length (d .kinds) ≤ b → eqb (roleAt d map [] b) superseded ≡ false
-  beyond-kept h = kind-kept (λ e. let none : kindAt d b ≡ 0 = List·getD-eq-default (d .kinds) 0 h in omega arith)
+  pub let-go-other : b < length roles → (getD roles b 0 ≡ inUse → ⊥) → letGo l b roles ≡ roles
+  unfolding letGo
+  let-go-other h other = rw (inside-same roles b blankRole 0 h, ne-eqb (getD roles b 0) inUse other)
 
-  pub named-kept : names map b ≡ true → eqb (roleAt d map [] b) superseded ≡ false
-  unfolding roleAt
-  named-kept n = rw n (go (kindAt d b) (tableAt d b) (names [] b))
-    where
-      go : (k : ℕ) (t a : Bool) → eqb (roleOfKind k (roleOfData t true a)) superseded ≡ false
-      go zero t a = refl
-      go (suc zero) true a = refl
-      go (suc zero) false a = refl
-      go (suc (suc zero)) t a = refl
-      go (suc (suc (suc k))) t a = refl
+  pub let-go-named : names (mapOf (unpack l)) b ≡ true → letGo l b roles ≡ roles
+  unfolding letGo
+  let-go-named n = ap (λ (t : Bool). supersedeIf t b roles) (and-false (eqb (getD roles b blankRole) inUse) (not (names (mapOf (unpack l)) b)) (ap not n))
 
-  pub data-superseded : kindAt d b ≡ 1 → names map b ≡ false → eqb (roleAt d map [] b) superseded ≡ not (tableAt d b)
-  data-superseded e n = ap (λ (r : ℕ). eqb r superseded) (role-data d map [] b (tableAt d b) false false e refl n (names-none b)) ∙ go (tableAt d b)
-    where
-      go : (t : Bool) → eqb (roleOfData t false false) superseded ≡ not t
-      go true = refl
-      go false = refl
-
-  pub superseded-within : eqb (roleAt d map [] b) superseded ≡ true → b < length (d .kinds)
-  superseded-within e = go (ltb b (length (d .kinds))) refl
-    where
-      go : (t : Bool) → ltb b (length (d .kinds)) ≡ t → b < length (d .kinds)
-      go true h = ltb-true b (length (d .kinds)) h
-      go false h = absurd (false≢true (sym (beyond-kept (ltb-false b (length (d .kinds)) h)) ∙ e))
+  pub let-go-now : b < length roles → getD roles b 0 ≡ inUse → names (mapOf (unpack l)) b ≡ false → letGo l b roles ≡ set roles b superseded
+  unfolding letGo
+  let-go-now h was n = rw (inside-same roles b blankRole 0 h, was, n)
 
 -- ---- what a call recorded
 

@@ -13,8 +13,7 @@ use lib.ListN.{length, getD, take, drop, set, length-set, length-append, take-ap
 use lib.Seq.{getD-at, getD-set-same, getD-set-other, ext-getD, take-suc-set, drop-set-lt}
 use borrow.Author.Tests.{eqb-true, eqb-false, eq-eqb, ne-eqb}
 use Rattle.disc.specs.Disc.{Disc, kindAt, stored}
-use Rattle.disc.specs.Tables.{tableAt}
-use Rattle.roles.specs.Roles.{unreadable, blankRole, names, roleOfKind, roleOfData, roleAt, tabulate}
+use Rattle.roles.specs.Roles.{unreadable, blankRole, names, ofTable, roleOfKind, roleOfData, roleAt, tabulate}
 
 -- ---- a table of a function's values
 
@@ -94,7 +93,7 @@ names-other xs x b h =
 pub role-names : (d : Disc) (map map′ apart apart′ : List ℕ) (b : ℕ) → names map b ≡ names map′ b → names apart b ≡ names apart′ b
     → roleAt d map apart b ≡ roleAt d map′ apart′ b
 unfolding roleAt
-role-names d map map′ apart apart′ b m a = ap₂ (λ (t u : Bool). roleOfKind (kindAt d b) (roleOfData (tableAt d b) t u)) m a
+role-names d map map′ apart apart′ b m a = ap₂ (λ (t u : Bool). roleOfKind (kindAt d b) (roleOfData (ofTable d b) t u)) m a
 
 pub kind-unreadable : (k own : ℕ) → (k ≡ 0 → ⊥) → (k ≡ 1 → ⊥) → (k ≡ 2 → ⊥) → roleOfKind k own ≡ unreadable
 kind-unreadable zero own blank plain link = absurd (blank refl)
@@ -106,11 +105,6 @@ module _ (d : Disc) (map apart : List ℕ) (b : ℕ) where
   pub role-blank : kindAt d b ≡ 0 → roleAt d map apart b ≡ blankRole
   unfolding roleAt
   role-blank e = rw e
-
-  pub role-data : (table named known : Bool) → kindAt d b ≡ 1 → tableAt d b ≡ table → names map b ≡ named → names apart b ≡ known
-      → roleAt d map apart b ≡ roleOfData table named known
-  unfolding roleAt
-  role-data table named known e t n a = rw (t, n, a, e)
 
 -- ---- lists stored one after another
 

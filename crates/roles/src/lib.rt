@@ -1,5 +1,4 @@
 // The role of each sector.
-use vat::table::SECTOR;
 ghost use mathlib.Core.Path.{_≡_};
 ghost use mathlib.Core.Bool.{true, false};
 ghost use mathlib.Core.List.{List, [], _∷_, _++_};
@@ -7,10 +6,10 @@ ghost use Prim.Native.Nat.{ℕ, _+_, _≤_, _<_};
 ghost use lib.Dec.{eqb};
 ghost use lib.ListN.{length, getD, replicate};
 ghost use Rattle.vat.specs.Table.{limit};
-ghost use Rattle.disc.specs.Disc.{Disc, lent, sized, stored};
-ghost use Rattle.disc.specs.Tables.{tableAt};
+ghost use Rattle.disc.specs.Disc.{Disc, lent, sized, leading, stored};
+ghost use Rattle.disc.specs.Tables.{tableAt, namedBy};
 ghost use Rattle.volume.specs.Volume.{ledgerLength, unpack, mapOf};
-ghost use Rattle.roles.specs.Roles.{superseded, names, roleOfKind, roleAt, tabulate, rolesOf};
+ghost use Rattle.roles.specs.Roles.{superseded, names, roleOfKind, tabulate, rolesOf, markedAt};
 ghost use Rattle.roles.specs.Keeping.{scanned, letGo, marked};
 
 pub const IN_USE: u8 = 0;
@@ -56,34 +55,31 @@ fn scan_kinds(kinds: &[u8], roles: &mut [u8])
     }
 }
 
-// The tag identifier first: of nearly every data sector no other byte is looked at.
-fn is_table(image: &[u8], kinds: &[u8], b: u32) -> bool
-    requires { ⌜ (sized (lent (now image) (now kinds)) ≡ true) × (b < length (now kinds)) ⌝ }
-    ensures { λ r. ⌜ r ≡ tableAt (lent (now (image .entry)) (now (kinds .entry))) b ⌝ }
+// The sectors that the table at block b names as its own.
+fn mark_named(image: &[u8], kinds: &[u8], roles: &mut [u8], b: u32)
+    requires { ⌜ (sized (lent (now image) (now kinds)) ≡ true) × (length (now roles) ≡ length (now kinds)) × (tableAt (lent (now image) (now kinds)) b ≡ true) ⌝ }
+    ensures { λ _. ⌜ now (roles .exit) ≡ markedAt (namedBy (lent (now (image .entry)) (now (kinds .entry))) b) (now (roles .entry)) ⌝ }
 {
-    let place = b as usize;
-    if kinds[place] != 1 {
-        return false;
+    let own = disc::again::named_count(image, kinds, b);
+    let mut i = 0;
+    while i < own {
+        let place = disc::again::named_block(image, kinds, b, i) as usize;
+        roles[place] = TABLE;
+        i += 1;
     }
-    let at = SECTOR * place;
-    let end = at + SECTOR;
-    let s = &image[at..end];
-    if !vat::table::tagged(s) {
-        return false;
-    }
-    vat::table::table_held(s, b)
 }
 
-// The tables, all of which stand below `end`: the roles where the map is empty.
+// The tables, all of which stand below `end`, and their own sectors: the roles where the map is empty.
 fn mark_tables(image: &[u8], kinds: &[u8], roles: &mut [u8], end: u32)
-    requires { ⌜ (sized (lent (now image) (now kinds)) ≡ true) × (now roles ≡ tabulate (λ b. roleOfKind (getD (now kinds) b 0) superseded) (length (now kinds))) × (end ≤ length (now kinds)) × ((b : ℕ) → end ≤ b → tableAt (lent (now image) (now kinds)) b ≡ false) ⌝ }
+    requires { ⌜ (sized (lent (now image) (now kinds)) ≡ true) × (now roles ≡ tabulate (λ b. roleOfKind (getD (now kinds) b 0) superseded) (length (now kinds))) × (end ≤ leading (now kinds)) × ((b : ℕ) → end ≤ b → tableAt (lent (now image) (now kinds)) b ≡ false) ⌝ }
     ensures { λ _. ⌜ now (roles .exit) ≡ rolesOf (lent (now (image .entry)) (now (kinds .entry))) [] [] ⌝ }
 {
     let mut b = 0;
     while b < end {
-        if is_table(image, kinds, b) {
+        if disc::tables::table_at(image, kinds, b) {
             let place = b as usize;
             roles[place] = TABLE;
+            mark_named(image, kinds, roles, b);
         }
         b += 1;
     }
@@ -116,7 +112,7 @@ fn name_blocks(roles: &mut [u8], ledger: &[u8])
 
 // Begin, mount and look back make all bytes anew. The caller's own search tells where the tables end: no sector from there on is read.
 pub fn scan(image: &[u8], kinds: &[u8], roles: &mut [u8], ledger: &[u8], end: u32)
-    requires { ⌜ (sized (lent (now image) (now kinds)) ≡ true) × (length (now roles) ≡ length (now kinds)) × (length (now ledger) ≡ ledgerLength) × (unpack (now ledger) .size ≤ limit) × (end ≤ length (now kinds)) × ((b : ℕ) → end ≤ b → tableAt (lent (now image) (now kinds)) b ≡ false) ⌝ }
+    requires { ⌜ (sized (lent (now image) (now kinds)) ≡ true) × (length (now roles) ≡ length (now kinds)) × (length (now ledger) ≡ ledgerLength) × (unpack (now ledger) .size ≤ limit) × (end ≤ leading (now kinds)) × ((b : ℕ) → end ≤ b → tableAt (lent (now image) (now kinds)) b ≡ false) ⌝ }
     ensures { λ _. ⌜ now (roles .exit) ≡ scanned (lent (now (image .entry)) (now (kinds .entry))) (now (ledger .entry)) ⌝ }
 {
     scan_kinds(kinds, roles);
@@ -139,32 +135,18 @@ fn named(ledger: &[u8], b: u32) -> bool
     found
 }
 
-// A scan would call block b superseded.
-fn is_superseded(image: &[u8], kinds: &[u8], ledger: &[u8], b: u32) -> bool
-    requires { ⌜ (sized (lent (now image) (now kinds)) ≡ true) × (length (now ledger) ≡ ledgerLength) × (unpack (now ledger) .size ≤ limit) ⌝ }
-    ensures { λ r. ⌜ r ≡ eqb (roleAt (lent (now (image .entry)) (now (kinds .entry))) (mapOf (unpack (now (ledger .entry)))) [] b) superseded ⌝ }
+// A number lets go of block b.
+pub fn let_go(roles: &mut [u8], ledger: &[u8], b: u32)
+    requires { ⌜ (length (now ledger) ≡ ledgerLength) × (unpack (now ledger) .size ≤ limit) ⌝ }
+    ensures { λ _. ⌜ now (roles .exit) ≡ letGo (now (ledger .entry)) b (now (roles .entry)) ⌝ }
 {
     let place = b as usize;
-    if kinds.len() <= place {
-        return false;
-    }
-    if kinds[place] != 1 {
-        return false;
-    }
-    if named(ledger, b) {
-        return false;
-    }
-    !disc::tables::table_at(image, kinds, b)
-}
-
-// A number lets go of block b.
-pub fn let_go(image: &[u8], kinds: &[u8], roles: &mut [u8], ledger: &[u8], b: u32)
-    requires { ⌜ (sized (lent (now image) (now kinds)) ≡ true) × (length (now roles) ≡ length (now kinds)) × (length (now ledger) ≡ ledgerLength) × (unpack (now ledger) .size ≤ limit) ⌝ }
-    ensures { λ _. ⌜ now (roles .exit) ≡ letGo (lent (now (image .entry)) (now (kinds .entry))) (now (ledger .entry)) b (now (roles .entry)) ⌝ }
-{
-    if is_superseded(image, kinds, ledger, b) {
-        let place = b as usize;
-        roles[place] = SUPERSEDED;
+    if place < roles.len() {
+        if roles[place] == IN_USE {
+            if !named(ledger, b) {
+                roles[place] = SUPERSEDED;
+            }
+        }
     }
 }
 

@@ -13,7 +13,7 @@ use lib.Arith.{lt-of-le-ne}
 use borrow.Author.Tests.{eq-eqb, ne-eqb, eqb-true, eqb-false}
 use Rattle.le.specs.Bytes.{every}
 use Rattle.le.proofs.Rows.{and-left}
-use Rattle.vat.specs.Table.{limit, unused, Lower}
+use Rattle.vat.specs.Table.{limit, unused, Lower, isTable}
 use Rattle.disc.specs.Disc.{Disc, recorded, Sector, link, plain, stored, puts}
 use Rattle.disc.specs.Tables.{below}
 use Rattle.disc.proofs.Recording.{Sound, leading-le}
@@ -25,18 +25,19 @@ use Rattle.recorder.specs.Refusals.{links, target, blockOf, outcome}
 use Rattle.recorder.specs.Effects.{effect, settled, After, after}
 use Rattle.recorder.proofs.Done.{Fits, WriteDone, write-done, release-done}
 use Rattle.recorder.proofs.Sectors.{links-whole, behind, length-behind, behind-whole}
-use Rattle.roles.specs.Roles.{inUse, unnumbered, linkRole, names, rolesOf}
+use Rattle.roles.specs.Roles.{inUse, unnumbered, linkRole, names, ofTable, roleOfData, rolesOf}
 use Rattle.roles.specs.Keeping.{letGo, marked, writtenRole, keptUp}
 use Rattle.roles.proofs.Roles.{names-snoc, names-last, names-other}
 use Rattle.history.specs.Events.{World, calls}
 use Rattle.history.proofs.Log.{none-some}
-use Rattle.history.proofs.Growth.{all-below-of, links-no-tables, links-below, behind-counted}
+use Rattle.history.proofs.Growth.{all-below-of, Grown, links-no-tables, links-below, behind-counted, behind-grown}
 use Rattle.history.proofs.Saving.{enough}
 use Rattle.history.proofs.Steps.{Good, event-step}
 use Rattle.history.proofs.Theorem.{started}
 use Rattle.space.specs.Space.{apartAfter}
 use Rattle.space.proofs.Named.{names-entry, names-above, names-set, names-grown}
-use Rattle.space.proofs.Sectors.{roleOfSector, unnumbered-role, rolesFrom, puts-roles, roles-append, links-roles, same-roles, lets-go}
+use Rattle.space.proofs.Owned.{plain-below, plain-since}
+use Rattle.space.proofs.Sectors.{roleOfSector, rolesFrom, recorded-roles, roles-append, links-roles, same-roles, lets-go}
 
 -- the blocks of `apart` are recorded, and no number names them
 pub record Kept (d : Disc) (l roles apart : List ℕ) : Type 0 where
@@ -132,20 +133,32 @@ module _ (d : Disc) (l roles apart : List ℕ) (k : Kept d l roles apart) where
     proper : Proper noted
     proper = proper-wrote (unpack l) (k .good .ledger-good) n (target (unpack l)) (done-write .fit .few) small
 
+    -- no table is among what it records
+    grown : Grown d written (length (behind (replicate (links (unpack l)) link) block))
+    grown =
+        let ss : List Sector = replicate (links (unpack l)) link in
+        let sound : Sound d = done-write .sound-disc in
+        let at : ℕ = recorded d + length ss in
+        behind-grown d sound ss (links-whole (links (unpack l))) (links-no-tables (links (unpack l)) (recorded d)) block (done-write .block-long) fits-in
+        (ap (λ (lower : Lower). isTable lower block at) (links-below d sound (links (unpack l)) at) ∙ ap (λ (b : ℕ). isTable (below d b) block b) here ∙ done-write .no-table)
+
     -- the roles with those of the links and of the block
     marks : (m a : List ℕ) → ((b : ℕ) → b < recorded d → (names (mapOf (unpack l)) b ≡ names m b) × (names apart b ≡ names a b))
-        → roleOfSector (below d (target (unpack l))) m a (target (unpack l)) (plain block) ≡ writtenRole n → marked (recorded d) (links (unpack l)) 0 1 (writtenRole n) roles ≡ rolesOf written m a
+        → roleOfData false (names m (target (unpack l))) (names a (target (unpack l))) ≡ writtenRole n → marked (recorded d) (links (unpack l)) 0 1 (writtenRole n) roles ≡ rolesOf written m a
     unfolding marked
     marks m a same role =
         let ss : List Sector = replicate (links (unpack l)) link in
         let sound : Sound d = done-write .sound-disc in
-        let reads : below (puts d (recorded d) ss) (recorded d + length ss) ≡ below d (recorded d + length ss) = links-below d sound (links (unpack l)) (recorded d + length ss) in
-        let its-role : roleOfSector (below (puts d (recorded d) ss) (recorded d + length ss)) m a (recorded d + length ss) (plain block) ≡ writtenRole n =
-        ap (λ (lower : Lower). roleOfSector lower m a (recorded d + length ss) (plain block)) reads ∙ ap (λ (b : ℕ). roleOfSector (below d b) m a b (plain block)) here ∙ role in
-        let laid : rolesFrom d m a (recorded d) (behind ss block) ≡ replicate (links (unpack l)) linkRole ++ (writtenRole n ∷ []) =
-        roles-append d m a ss (plain block ∷ []) (recorded d) ∙ ap₂ (λ (x : List ℕ) (y : ℕ). x ++ (y ∷ [])) (links-roles d m a (links (unpack l)) (recorded d)) its-role in
+        let at : ℕ = recorded d + length ss in
+        let own : ℕ → Bool = ofTable written in
+        let none-there : own at ≡ false = plain-since d written (grown .plainly) at (omega arith) (omega (arith, one-more, here)) in
+        let its-role : roleOfSector own m a at (plain block) ≡ writtenRole n =
+        ap (λ (t : Bool). roleOfData t (names m at) (names a at)) none-there ∙ ap (λ (b : ℕ). roleOfData false (names m b) (names a b)) here ∙ role in
+        let laid : rolesFrom own m a (recorded d) (behind ss block) ≡ replicate (links (unpack l)) linkRole ++ (writtenRole n ∷ []) =
+        roles-append own m a ss (plain block ∷ []) (recorded d) ∙ ap₂ (λ (x : List ℕ) (y : ℕ). x ++ (y ∷ [])) (links-roles own m a (links (unpack l)) (recorded d)) its-role in
         ap₂ (λ (x y : List ℕ). stored x (recorded d) y) (k .roles-are ∙ same-roles d sound (mapOf (unpack l)) m apart a same) (sym laid)
-        ∙ puts-roles m a (behind ss block) d sound (omega (arith, length-behind ss block, fits-in)) (behind-whole ss block (links-whole (links (unpack l))) (done-write .block-long))
+        ∙ recorded-roles m a (behind ss block) d sound (omega (arith, length-behind ss block, fits-in)) (behind-whole ss block (links-whole (links (unpack l))) (done-write .block-long))
+        (plain-below d written (grown .plainly))
 
   pub unnumbered-kept : (block : List ℕ) → outcome d l (write none block) ≡ 0 → DoneKept d l roles apart (write none block)
   unfolding keptUp effect wrote names
@@ -162,10 +175,10 @@ module _ (d : Disc) (l roles apart : List ℕ) (k : Kept d l roles apart) where
       let last : recorded d′ ≡ suc b = one-more none block e in
       let few : b < unused = small none block e in
       let fresh : names m b ≡ false = not-named (f .fit) b above few in
-      let its-role : roleOfSector (below d b) m (b ∷ apart) b (plain block) ≡ unnumbered = unnumbered-role (below d b) m (b ∷ apart) b block (f .no-table) (fresh, ap (λ (t : Bool). t || names apart b) (eq-eqb b b refl)) in
+      let its-role : roleOfData false (names m b) (names (b ∷ apart) b) ≡ unnumbered = rw (fresh, eq-eqb b b refl) in
       let same : (i : ℕ) → i < recorded d → (names m i ≡ names m i) × (names apart i ≡ names (b ∷ apart) i) =
       λ i h. (refl, ap (λ (t : Bool). t || names apart i) (sym (ne-eqb b i (λ z. omega arith)))) in
-      subst (λ (x : After). Kept (x .disc) (x .ledger) (letGo (x .disc) (x .ledger) unused (marked (recorded d) (links v) 0 1 unnumbered roles)) (x .answer ∷ apart)) (sym (after-is d l (write none block) 0 e))
+      subst (λ (x : After). Kept (x .disc) (x .ledger) (letGo (x .ledger) unused (marked (recorded d) (links v) 0 1 unnumbered roles)) (x .answer ∷ apart)) (sym (after-is d l (write none block) 0 e))
       (record {
         good = good;
         free = λ i h.
@@ -221,10 +234,10 @@ module _ (d : Disc) (l roles apart : List ℕ) (k : Kept d l roles apart) where
         let good : Good (record { disc = d′; ledger = some l′ }) = good-after d l (write (some n) block) (k .good) refl e in
         let above : recorded d ≤ b = omega (arith, here (some n) block e) in
         let last : recorded d′ ≡ suc b = one-more (some n) block e in
-        let its-role : roleOfSector (below d b) named apart b (plain block) ≡ inUse = rw (f .no-table, names-last m b) in
+        let its-role : roleOfData false (names named b) (names apart b) ≡ inUse = rw (names-last m b) in
         let same : (i : ℕ) → i < recorded d → (names m i ≡ names named i) × (names apart i ≡ names apart i) =
         λ i h. (sym (names-other m b i (λ z. omega arith)), refl) in
-        subst (λ (x : After). Kept (x .disc) (x .ledger) (letGo (x .disc) (x .ledger) old (marked (recorded d) (links v) 0 1 inUse roles)) apart) (sym (after-is d l (write (some n) block) 0 e))
+        subst (λ (x : After). Kept (x .disc) (x .ledger) (letGo (x .ledger) old (marked (recorded d) (links v) 0 1 inUse roles)) apart) (sym (after-is d l (write (some n) block) 0 e))
         (record {
           good = good;
           free = λ i h.
@@ -252,7 +265,7 @@ module _ (d : Disc) (l roles apart : List ℕ) (k : Kept d l roles apart) where
       let few : length (d .kinds) ≤ 360000 = facts .0 .few in
       let map : mapOf (unpack l′) ≡ grownMap false m n unused = packed-map (released n v) (proper-released v (k .good .ledger-good) n) ∙ map-released v n inside in
       let is-named : names m old ≡ true = entry-named (facts .1 .fit) n inside in
-      subst (λ (x : After). Kept (x .disc) (x .ledger) (letGo (x .disc) (x .ledger) old roles) apart) (sym (after-is d l (release n) 0 e))
+      subst (λ (x : After). Kept (x .disc) (x .ledger) (letGo (x .ledger) old roles) apart) (sym (after-is d l (release n) 0 e))
       (record {
         good = good-after d l (release n) (k .good) refl e;
         free = λ i h.

@@ -9,11 +9,10 @@ use mathlib.Core.List.{List, [], _∷_, _++_}
 use lib.Dec.{eqb}
 use lib.ListN.{length}
 use Rattle.disc.specs.Disc.{Disc, recorded, kindAt}
-use Rattle.disc.specs.Tables.{tableAt}
 use Rattle.disc.proofs.Order.{leading-at-blank}
 use Rattle.disc.proofs.Recording.{Sound, leading-le, blank-kind}
 use Rattle.volume.specs.Volume.{grown}
-use Rattle.roles.specs.Roles.{blankRole, names, roleOfKind, roleOfData, roleAt, tabulate, rolesOf}
+use Rattle.roles.specs.Roles.{blankRole, names, ofTable, roleOfKind, roleOfData, roleAt, tabulate, rolesOf}
 use Rattle.roles.proofs.Roles.{tabulate-suc, role-blank}
 use Rattle.space.specs.Space.{count, recordedRoles}
 
@@ -74,7 +73,7 @@ kind-role (suc (suc (suc k))) own nz h = omega arith
 recorded-role : (d : Disc) (m a : List ℕ) (b : ℕ) → b < recorded d → roleAt d m a b < blankRole
 unfolding roleAt
 recorded-role d m a b h =
-    kind-role (kindAt d b) (roleOfData (tableAt d b) (names m b) (names a b)) (λ e. let low : recorded d ≤ b = leading-at-blank (d .kinds) b e in omega arith) (data-role (tableAt d b) (names m b) (names a b))
+    kind-role (kindAt d b) (roleOfData (ofTable d b) (names m b) (names a b)) (λ e. let low : recorded d ≤ b = leading-at-blank (d .kinds) b e in omega arith) (data-role (ofTable d b) (names m b) (names a b))
 
 pub roles-counted : (d : Disc) → Sound d → (m a : List ℕ) → recordedRoles (rolesOf d m a) ≡ recorded d
 roles-counted d ok m a =

@@ -1,4 +1,5 @@
 pub mod Named
+pub mod Owned
 pub mod Sectors
 pub mod Counts
 pub mod Calls

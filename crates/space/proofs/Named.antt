@@ -1,4 +1,4 @@
--- Which blocks a map names: those that it lists, and after an entry is set or added. And the blocks of a run.
+-- Which blocks a map names: those that it lists, and after an entry is set or added. Then the blocks of a run, and those of a save's own sectors.
 -- Assumes nothing.
 use Prim.Native.Nat.{ℕ, zero, suc, _+_, _≤_, _<_}
 use native.Mathlib.Nat.{not-suc-le-zero}
@@ -7,11 +7,16 @@ use mathlib.Core.Path.{_≡_, refl, sym, ap, _∙_}
 use mathlib.Core.Bool.{Bool, true, false, _||_, or-true, or-comm}
 use mathlib.Core.List.{List, [], _∷_, _++_}
 use mathlib.Core.Logic.{inl, inr}
+use mathlib.Core.Option.{Option, none, some}
 use lib.Dec.{eqb}
 use lib.ListN.{length, getD, set}
 use borrow.Author.Tests.{eq-eqb, ne-eqb, eqb-true, eqb-false}
-use Rattle.vat.specs.Table.{unused}
+use Rattle.vat.specs.Table.{unused, Lower, bytesOf}
+use Rattle.vat.specs.Own.{ownSectors}
 use Rattle.vat.proofs.Theorems.{Named}
+use Rattle.disc.specs.Disc.{Disc, content}
+use Rattle.disc.specs.Tables.{namedBy}
+use Rattle.disc.specs.Again.{same, againIf, namedAgain, ownBlocks, fresh, againOf, freshOf}
 use Rattle.volume.proofs.State.{grownMap}
 use Rattle.roles.specs.Roles.{names}
 use Rattle.roles.proofs.Roles.{names-snoc, names-other}
@@ -87,3 +92,49 @@ run-within (suc n) b i e = go (run-within n (b + 1) i) (eqb b i) refl e
     go ih false z e =
         let further : (b + 1 ≤ i) × (i < b + 1 + n) = ih e in
         (omega arith, omega arith)
+
+-- ---- the blocks of a save's own sectors
+
+-- a block below those that are recorded is one that is named again
+again-listed : (lower : Lower) (olds : List ℕ) (ss : List (List ℕ)) (at b : ℕ) → b < at → names (ownBlocks (namedAgain lower olds ss) at) b ≡ true → names olds b ≡ true
+unfolding namedAgain ownBlocks names
+again-listed lower [] [] at b h e = e
+again-listed lower (o ∷ os) [] at b h e = absurd (mathlib.Core.Bool.false≢true e)
+again-listed lower [] (s ∷ ss) at b h e =
+    again-listed lower [] ss (at + 1) b (omega arith) (ap (λ (t : Bool). t || names (ownBlocks (namedAgain lower [] ss) (at + 1)) b) (sym (ne-eqb at b (λ z. omega arith))) ∙ e)
+again-listed lower (o ∷ os) (s ∷ ss) at b h e =
+    go (same (bytesOf (lower o)) s) e (λ e. again-listed lower os ss at b h e) (λ e. again-listed lower os ss (at + 1) b (omega arith) e)
+  where
+    rest : List (Option ℕ)
+    rest = namedAgain lower os ss
+
+    go : (t : Bool) → names (ownBlocks (againIf t o ∷ rest) at) b ≡ true → (names (ownBlocks rest at) b ≡ true → names os b ≡ true)
+        → (names (ownBlocks rest (at + 1)) b ≡ true → names os b ≡ true) → (eqb o b || names os b) ≡ true
+    go true e here next = either-of (eqb o b) e
+      where
+        either-of : (u : Bool) → (u || names (ownBlocks rest at) b) ≡ true → (u || names os b) ≡ true
+        either-of true z = refl
+        either-of false z = here z
+    go false e here next =
+        rw (next (ap (λ (t : Bool). t || names (ownBlocks rest (at + 1)) b) (sym (ne-eqb at b (λ z. omega arith))) ∙ e)) (or-true (eqb o b))
+
+pub again-named : (d : Disc) (bytes : List ℕ) (previous at b : ℕ) → b < at → names (ownBlocks (againOf d bytes previous) at) b ≡ true → names (namedBy d previous) b ≡ true
+unfolding againOf
+again-named d bytes previous at b h e = again-listed (content d) (namedBy d previous) (ownSectors bytes) at b h e
+
+-- all that are recorded are among them
+fresh-listed : (rs : List (Option ℕ)) (ss : List (List ℕ)) (at b : ℕ) → at ≤ b → b < at + length (fresh rs ss) → names (ownBlocks rs at) b ≡ true
+unfolding fresh ownBlocks names
+fresh-listed [] ss at b low high = absurd (omega arith)
+fresh-listed (none ∷ rs) [] at b low high = absurd (omega arith)
+fresh-listed (some o ∷ rs) [] at b low high = absurd (omega arith)
+fresh-listed (some o ∷ rs) (s ∷ ss) at b low high = rw (fresh-listed rs ss at b low high) (or-true (eqb o b))
+fresh-listed (none ∷ rs) (s ∷ ss) at b low high = go (eqb at b) refl (fresh-listed rs ss (at + 1) b)
+  where
+    go : (t : Bool) → eqb at b ≡ t → (at + 1 ≤ b → b < at + 1 + length (fresh rs ss) → names (ownBlocks rs (at + 1)) b ≡ true) → (eqb at b || names (ownBlocks rs (at + 1)) b) ≡ true
+    go true z ih = rw z
+    go false z ih = let other : at ≡ b → ⊥ = eqb-false at b z in rw (ih (omega arith) (omega arith)) (or-true (eqb at b))
+
+pub fresh-named : (d : Disc) (bytes : List ℕ) (previous at b : ℕ) → at ≤ b → b < at + length (freshOf d bytes previous) → names (ownBlocks (againOf d bytes previous) at) b ≡ true
+unfolding freshOf
+fresh-named d bytes previous at b low high = fresh-listed (againOf d bytes previous) (ownSectors bytes) at b low high

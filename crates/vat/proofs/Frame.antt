@@ -1,22 +1,24 @@
 -- What the recogniser's functions need of its definition, on plain values.
 -- Assumes nothing.
-use Prim.Native.Nat.{ℕ, zero, suc, _+_, _-_, _/_, _%_, _≤_, _<_}
+use Prim.Native.Nat.{ℕ, zero, suc, _+_, _-_, _*_, _/_, _%_, _≤_, _<_}
 use native.Mathlib.Nat.{not-suc-le-zero}
 use native.Mathlib.Numerals.{add-one}
 use native.Mathlib.Omega.{arith}
-use mathlib.Core.Path.{_≡_, refl, sym, ap, _∙_}
-use mathlib.Core.Bool.{Bool, true, false, not, _&&_, _||_, and-assoc, or-true, or-false}
-use mathlib.Core.List.{List}
+use mathlib.Core.Path.{_≡_, refl, sym, ap, ap₂, _∙_}
+use mathlib.Core.Bool.{Bool, true, false, not, _&&_, _||_, and-assoc, or-true, or-false, false≢true}
+use mathlib.Core.List.{List, [], _∷_, _++_}
 use lib.Dec.{eqb, ltb, leb}
-use lib.ListN.{length, drop, length-drop}
+use lib.ListN.{length, take, drop, length-take, length-drop, length-append}
 use lib.Seq.{length-take-le}
 use borrow.Author.Tests.{eq-eqb, ne-eqb, eqb-true, ltb-true, lt-ltb, le-ltb, le-leb, leb-true, leb-false}
 use Rattle.le.specs.Bytes.{every, holdsText}
 use Rattle.le.specs.Field.{readLe, words, holds}
 use Rattle.le.proofs.Rows.{and-left, and-right}
 use Rattle.le.proofs.Runs.{words-step}
+use Rattle.extent.specs.declared.Extent.{Extent}
+use Rattle.extent.specs.Extents.{descriptorsLength, extentsFrom, totalLength}
 use Rattle.tag.specs.Tag.{crcLength}
-use Rattle.vat.specs.Table.{sectorLength, limit, unused, unusedOrBelow, Lower, tableStart, entryRows, plainRows, lengthRows, embedded, attributeLength, describedLength, wholeLength, placed, framed, tableOf, tableLength, regidAt, tableName, entryCount, previousOf, enclosed}
+use Rattle.vat.specs.Table.{sectorLength, mostOwn, mostBytes, limit, unused, unusedOrBelow, Lower, tableStart, entryRows, plainRows, lengthRows, embedded, outside, attributeLength, describedLength, wholeLength, placed, ownIf, ownOf, measured, framed, isThere, bytesOf, lies, fullBefore, laid, joined, inside, bytesIf, tableOf, tableLength, regidAt, tableName, entryCount, previousOf, enclosed}
 
 -- one of the fields that are left is taken
 pub word-taken : (held : Bool) (f : ℕ → Bool) (left : ℕ) (s : List ℕ) (at : ℕ) → 0 < left
@@ -91,40 +93,119 @@ pub record Framed (s : List ℕ) (b : ℕ) : Type 0 where
   pub plain : holds s (plainRows b) ≡ true
   pub aligned : attributeLength s % 4 ≡ 0
   pub below : wholeLength s < sectorLength
-  pub sized : Lengths s (attributeLength s) (describedLength s) (describedLength s)
+  pub sizes : measured s ≡ true
 
 pub framed-tells : (s : List ℕ) (b : ℕ) → framed s b ≡ true → Framed s b
 unfolding framed
 framed-tells s b e =
     let a : ℕ = attributeLength s in
-    let n : ℕ = describedLength s in
     let plain : Bool = holds s (plainRows b) in
-    let sizes : Bool = holds s (lengthRows a n n) in
-    let e₁ : (embedded s && (placed s && sizes)) ≡ true = and-right plain (embedded s && (placed s && sizes)) e in
-    let e₂ : (placed s && sizes) ≡ true = and-right (embedded s) (placed s && sizes) e₁ in
-    let put : placed s ≡ true = and-left (placed s) sizes e₂ in
+    let e₁ : (placed s && measured s) ≡ true = and-right plain (placed s && measured s) e in
+    let put : placed s ≡ true = and-left (placed s) (measured s) e₁ in
     record {
-      plain = and-left plain (embedded s && (placed s && sizes)) e;
+      plain = and-left plain (placed s && measured s) e;
       aligned = eqb-true (a % 4) 0 (and-left (eqb (a % 4) 0) (ltb (wholeLength s) sectorLength) put);
       below = placed-below s put;
-      sized = lengths s a n n (and-right (placed s) sizes e₂);
+      sizes = and-right (placed s) (measured s) e₁;
+    }
+
+-- of either form: its lengths, and its own sectors
+pub own-none : (s : List ℕ) → embedded s ≡ true → ownOf s ≡ []
+unfolding ownOf
+own-none s e = ap (λ (t : Bool). ownIf t (extentsFrom (describedLength s / 8) s (tableStart (attributeLength s)))) e
+
+pub own-some : (s : List ℕ) → embedded s ≡ false → ownOf s ≡ extentsFrom (describedLength s / 8) s (tableStart (attributeLength s))
+unfolding ownOf
+own-some s e = ap (λ (t : Bool). ownIf t (extentsFrom (describedLength s / 8) s (tableStart (attributeLength s)))) e
+
+pub record Outside (s : List ℕ) : Type 0 where
+  pub some-own : 1 ≤ length (ownOf s)
+  pub few-own : length (ownOf s) ≤ mostOwn
+  pub sized : Lengths s (attributeLength s) (descriptorsLength (length (ownOf s))) (totalLength (ownOf s))
+
+-- an ICB that holds its table, and one that does not
+first-holds : (p q r u : Bool) → p ≡ true → q ≡ false → ((p && r) || (q && u)) ≡ true → r ≡ true
+first-holds true false true u e f h = refl
+first-holds true false false u e f h = h
+first-holds true true r u e f h = absurd (false≢true (sym f))
+first-holds false q r u e f h = absurd (false≢true e)
+
+pub held-sizes : (s : List ℕ) → measured s ≡ true → embedded s ≡ true → Lengths s (attributeLength s) (describedLength s) (describedLength s)
+unfolding measured
+held-sizes s e h =
+    let a : ℕ = attributeLength s in
+    let n : ℕ = describedLength s in
+    let m : ℕ = length (ownOf s) in
+    let three : readLe 2 s 34 % 8 ≡ 3 = eqb-true (readLe 2 s 34 % 8) 3 h in
+    let own : Bool = leb 1 m && (leb m mostOwn && holds s (lengthRows a (descriptorsLength m) (totalLength (ownOf s)))) in
+    lengths s a n n (first-holds (embedded s) (outside s) (holds s (lengthRows a n n)) own h (ap (λ (k : ℕ). eqb k 0) three) e)
+
+pub own-sizes : (s : List ℕ) → measured s ≡ true → embedded s ≡ false → Outside s
+unfolding measured
+own-sizes s e h =
+    let m : ℕ = length (ownOf s) in
+    let rows : Bool = holds s (lengthRows (attributeLength s) (descriptorsLength m) (totalLength (ownOf s))) in
+    let first : Bool = holds s (lengthRows (attributeLength s) (describedLength s) (describedLength s)) in
+    let e₁ : (outside s && (leb 1 m && (leb m mostOwn && rows))) ≡ true =
+    sym (ap (λ (t : Bool). (t && first) || (outside s && (leb 1 m && (leb m mostOwn && rows)))) h) ∙ e in
+    let e₂ : (leb 1 m && (leb m mostOwn && rows)) ≡ true = and-right (outside s) (leb 1 m && (leb m mostOwn && rows)) e₁ in
+    let e₃ : (leb m mostOwn && rows) ≡ true = and-right (leb 1 m) (leb m mostOwn && rows) e₂ in
+    record {
+      some-own = leb-true 1 m (and-left (leb 1 m) (leb m mostOwn && rows) e₂);
+      few-own = leb-true m mostOwn (and-left (leb m mostOwn) rows e₃);
+      sized = lengths s (attributeLength s) (descriptorsLength m) (totalLength (ownOf s)) (and-right (leb m mostOwn) rows e₃);
     }
 
 -- ---- the table's bytes
 
--- there are as many as the sector tells, and so room for 458 entries at most
-module _ (lower : Lower) (s : List ℕ) (whole : length s ≡ sectorLength) (below : wholeLength s < sectorLength) where
-  pub table-long : length (tableOf lower s) ≡ describedLength s
-  unfolding tableOf
-  table-long =
-      length-take-le (describedLength s) (drop (tableStart (attributeLength s)) s) (rw (length-drop (tableStart (attributeLength s)) s) (omega arith))
+pub table-inside : (lower : Lower) (s : List ℕ) → embedded s ≡ true → tableOf lower s ≡ inside s
+unfolding tableOf
+table-inside lower s e = ap (λ (t : Bool). bytesIf t (inside s) (joined lower (ownOf s))) e
 
-  pub table-short : length (tableOf lower s) < sectorLength
-  table-short = omega (arith, table-long)
+pub table-apart : (lower : Lower) (s : List ℕ) → embedded s ≡ false → tableOf lower s ≡ joined lower (ownOf s)
+unfolding tableOf
+table-apart lower s e = ap (λ (t : Bool). bytesIf t (inside s) (joined lower (ownOf s))) e
+
+-- behind the attributes there are as many as the sector tells
+pub inside-long : (s : List ℕ) → length s ≡ sectorLength → wholeLength s < sectorLength → length (inside s) ≡ describedLength s
+unfolding inside
+inside-long s whole below =
+    length-take-le (describedLength s) (drop (tableStart (attributeLength s)) s) (rw (length-drop (tableStart (attributeLength s)) s) (omega arith))
+
+pub inside-short : (s : List ℕ) → length s ≡ sectorLength → wholeLength s < sectorLength → length (inside s) < sectorLength
+inside-short s whole below = omega (arith, inside-long s whole below)
+
+-- own sectors hold a sector each at the most
+pub lies-short : (lower : Lower) (e : Extent) → lies lower e ≡ true → e .length ≤ sectorLength
+unfolding lies
+lies-short lower e t =
+    let there : Bool = isThere (lower (e .location)) in
+    leb-true (e .length) sectorLength
+    (and-left (leb (e .length) sectorLength) there (and-right (ltb 0 (e .length)) (leb (e .length) sectorLength && there) t))
+
+pub joined-short : (lower : Lower) (es : List Extent) → laid lower es ≡ true → length (joined lower es) ≤ sectorLength * length es
+unfolding laid joined
+joined-short lower [] t = omega arith
+joined-short lower (e ∷ es) t =
+    let more : Bool = fullBefore e es && laid lower es in
+    let short : e .length ≤ sectorLength = lies-short lower e (and-left (lies lower e) more t) in
+    let rest : length (joined lower es) ≤ sectorLength * length es = joined-short lower es (and-right (fullBefore e es) (laid lower es) (and-right (lies lower e) more t)) in
+    let part : List ℕ = take (e .length) (bytesOf (lower (e .location))) in
+    let few : length part ≤ e .length = rw (length-take (e .length) (bytesOf (lower (e .location)))) (omega arith) in
+    rw (length-append part (joined lower es)) (omega arith)
+
+-- and so there is room for as many entries as eight of them hold
+module _ (lower : Lower) (s : List ℕ) (b : ℕ) (whole : length s ≡ sectorLength) (frame : Framed s b) (on-data : laid lower (ownOf s) ≡ true) where
+  pub table-short : length (tableOf lower s) ≤ mostBytes
+  table-short = go (embedded s) refl
+    where
+      go : (t : Bool) → embedded s ≡ t → length (tableOf lower s) ≤ mostBytes
+      go true e = rw (table-inside lower s e) (omega (arith, inside-short s whole (frame .below)))
+      go false e = rw (table-apart lower s e) (omega (arith, joined-short lower (ownOf s) on-data, own-sizes s (frame .sizes) e .few-own))
 
   pub few-entries : entryCount (tableOf lower s) ≤ limit
   unfolding entryCount
-  few-entries = omega (arith, table-long)
+  few-entries = omega (arith, table-short)
 
 -- the entries lie within them, and of 36 bytes or more the end too
 pub entries-within : (t : List ℕ) → regidAt (entryCount t) ≤ length t

@@ -1,6 +1,7 @@
 -- A table in sectors of its own: where these stand below the ICB, its extents are laid, and the sectors joined up to their lengths are the table.
 --     sectors-long, sectors-on   each is a whole sector, and which it is
 --     own-laid, own-joined       where the sectors stand, they are laid, and joined they are the table
+--     total-extents, extents-at  their extents are as long as the table, and lie at these blocks
 -- Assumes nothing.
 use Prim.Native.Nat.{ℕ, zero, suc, _+_, _-_, _*_, _≤_, _<_}
 use native.Mathlib.Omega.{arith}
@@ -11,9 +12,10 @@ use mathlib.Core.Option.{Option, some}
 use lib.ListN.{length, take, drop, replicate, length-append, length-replicate, length-take, length-drop, take-append-drop}
 use lib.Seq.{take-all, take-at, length-take-le, drop-drop}
 use borrow.Author.Tests.{lt-ltb, le-leb}
-use Rattle.extent.specs.Extents.{extent}
-use Rattle.vat.specs.Table.{sectorLength, Lower}
-use Rattle.vat.specs.Own.{bytesOf, lies, laid, joined, filledUp, ownSector, sectorsOf, extentsAt}
+use Rattle.extent.specs.Extents.{extent, totalLength, locations}
+use Rattle.extent.proofs.Extents.{AllFit}
+use Rattle.vat.specs.Table.{sectorLength, Lower, bytesOf, lies, laid, joined}
+use Rattle.vat.specs.Own.{filledUp, ownSector, sectorsOf, extentsAt}
 
 -- ---- where they stand
 
@@ -95,3 +97,47 @@ own-joined lower (suc m) t (b ∷ c ∷ bs) h f =
     (ap (λ (o : Option (List ℕ)). take sectorLength (bytesOf o)) (h .0) ∙ first-bytes t sectorLength (length-take-le sectorLength t (omega (arith, f .more))))
     (ap (λ (k : ℕ). joined lower (extentsAt k (c ∷ bs))) (sym shorter) ∙ behind)
     ∙ take-append-drop sectorLength t
+
+-- ---- the extents of sectors at blocks
+
+-- every number fits 32 bits
+abbrev pub AllSmall : List ℕ → Type 0
+AllSmall [] = Unit
+AllSmall (b ∷ bs) = (b < 4294967296) × AllSmall bs
+
+pub length-extents : (n : ℕ) (blocks : List ℕ) → length (extentsAt n blocks) ≡ length blocks
+unfolding extentsAt
+length-extents n [] = refl
+length-extents n (b ∷ bs) = ap suc (length-extents (n - sectorLength) bs)
+
+pub extents-fit : (n : ℕ) (blocks : List ℕ) → n < 4294967296 → AllSmall blocks → AllFit (extentsAt n blocks)
+unfolding extentsAt
+extents-fit n [] h a = tt
+extents-fit n (b ∷ []) h a = (h, a .0, tt)
+extents-fit n (b ∷ c ∷ bs) h a = (omega arith, a .0, extents-fit (n - sectorLength) (c ∷ bs) (omega arith) (a .1))
+
+pub total-extents : (m n : ℕ) (blocks : List ℕ) → length blocks ≡ suc m → Fills m n → totalLength (extentsAt n blocks) ≡ n
+unfolding extentsAt totalLength
+total-extents m n [] e f = absurd (let z : _≡_ {A = ℕ} 0 (suc m) = e in omega arith)
+total-extents m n (b ∷ []) e f = omega arith
+total-extents zero n (b ∷ c ∷ bs) e f = absurd (omega arith)
+total-extents (suc m) n (b ∷ c ∷ bs) e f =
+    let less : Fills m (n - sectorLength) = record { more = omega (arith, f .more); enough = omega (arith, f .enough) } in
+    omega (arith, total-extents m (n - sectorLength) (c ∷ bs) (omega arith) less, f .more)
+
+pub extents-at : (n : ℕ) (blocks : List ℕ) → locations (extentsAt n blocks) ≡ blocks
+unfolding extentsAt locations
+extents-at n [] = refl
+extents-at n (b ∷ bs) = ap (λ (l : List ℕ). b ∷ l) (extents-at (n - sectorLength) bs)
+
+-- as many blocks as sectors
+pub length-sectors : (m : ℕ) (t : List ℕ) → length (sectorsOf m t) ≡ m
+unfolding sectorsOf
+length-sectors zero t = refl
+length-sectors (suc m) t = ap suc (length-sectors m (drop sectorLength t))
+
+pub stand-count : (lower : Lower) (blocks : List ℕ) (ss : List (List ℕ)) → Stand lower blocks ss → length blocks ≡ length ss
+stand-count lower [] [] h = refl
+stand-count lower [] (s ∷ ss) h = absurd h
+stand-count lower (b ∷ bs) [] h = absurd h
+stand-count lower (b ∷ bs) (s ∷ ss) h = ap suc (stand-count lower bs ss (h .1))

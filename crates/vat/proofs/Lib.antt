@@ -3,3 +3,5 @@ pub mod Record
 pub mod Theorems
 pub mod Joined
 pub mod Made
+pub mod Measured
+pub mod Described

@@ -3,25 +3,22 @@
 use Prim.Native.Nat.{ℕ, _+_, _≤_, _<_}
 use native.Mathlib.Omega.{arith}
 use mathlib.Core.Path.{_≡_, refl, sym, ap, _∙_}
-use mathlib.Core.Bool.{true, _&&_}
-use mathlib.Core.List.{List, _++_}
+use mathlib.Core.Bool.{Bool, true, _&&_}
+use mathlib.Core.List.{List, [], _∷_, _++_}
 use mathlib.Core.Logic.{inl}
-use lib.Dec.{lit≤}
+use lib.Dec.{eqb, lit≤}
 use lib.ListN.{length, take, drop, replicate, length-append, length-replicate}
 use lib.Seq.{sets, length-sets, take-at}
-use Rattle.le.specs.Field.{Row, le, lay, holds, leWords}
+use borrow.Author.Tests.{eqb-true}
+use Rattle.le.specs.Field.{Row, row, le, readLe, lay, holds, leWords}
 use Rattle.le.proofs.Bytes.{drop-sets, drop-sets-after, part-sets-apart, sets-append}
 use Rattle.le.proofs.Fields.{length-le}
-use Rattle.le.proofs.Rows.{and-left, and-right, lay-append, holds-lay, holds-append}
+use Rattle.le.proofs.Rows.{and-left, and-right, holds-lay, holds-append}
 use Rattle.le.proofs.Runs.{length-leWords}
 use Rattle.timestamp.specs.Timestamp.{stampLength}
-use Rattle.vat.specs.Table.{sectorLength, tableStart, tableLength, regidAt, plainRows, lengthRows, tableName, modifiedAt, modifiedOf}
-use Rattle.vat.specs.Sector.{tableRegid, tableBytes, ownRows, stationAt, stationName, accessAt, attributeAt, timed, body}
+use Rattle.vat.specs.Table.{sectorLength, mostOwn, unused, tableStart, tableLength, regidAt, plainRows, lengthRows, tableName, modifiedAt, modifiedOf}
+use Rattle.vat.specs.Sector.{tableRegid, tableBytes, ownRows, stationAt, stationName, accessAt, attributeAt, timed, described, allocationFor, body, icbRows}
 use Rattle.vat.proofs.Frame.{Lengths, lengths}
-
--- the rows of a table of n bytes
-abbrev pub header : ℕ → ℕ → List Row
-header b n = plainRows b ++ (lengthRows 0 n n ++ ownRows 3)
 
 -- the regid as it is put: flags, text, suffix
 regid-parts : tableRegid ≡ le 1 0 ++ (tableName ++ le 8 0x0150)
@@ -63,26 +60,54 @@ pub length-table : (map : List ℕ) (previous : ℕ) → length (tableBytes map 
 unfolding tableBytes
 length-table map previous = rw (length-append (leWords map) (tableRegid ++ le 4 previous), length-leWords map, length-tail previous)
 
--- a table that its ICB holds: "000 asks that ICB and file together be less than a sector"
-abbrev pub Short : ℕ → Type 0
-Short n = tableStart 0 + n < sectorLength
+-- what is known of a table that is recorded: it fits behind the ICB, or in own sectors, whose descriptors do
+pub record Recordable (t blocks : List ℕ) : Type 0 where
+  pub short : tableStart 0 + length (described t blocks) < sectorLength
+  pub long : length t < 4294967296
+  pub few : length blocks ≤ mostOwn
 
--- all rows of the header are held where it was laid
-pub header-held : (b n : ℕ) (s : List ℕ) → b < 4294967296 → Short n → length s ≡ sectorLength → holds (lay s (header b n)) (header b n) ≡ true
-unfolding plainRows lengthRows ownRows
-header-held b n s hb hn hs = holds-lay (header b n) s tt 176 tt (omega arith) (omega arith)
+allocation-small : (blocks : List ℕ) → allocationFor blocks ≤ 3
+allocation-small [] = lit≤ tt
+allocation-small (c ∷ cs) = lit≤ tt
 
-pub header-lengths : (b n : ℕ) (s : List ℕ) → b < 4294967296 → Short n → length s ≡ sectorLength → Lengths (lay s (header b n)) 0 n n
-header-lengths b n s hb hn hs =
-    let t : List ℕ = lay s (header b n) in
-    let rows : List Row = lengthRows 0 n n in
-    let all : (holds t (plainRows b) && holds t (rows ++ ownRows 3)) ≡ true = sym (holds-append (plainRows b) (rows ++ ownRows 3) t) ∙ header-held b n s hb hn hs in
-    let rest : (holds t rows && holds t (ownRows 3)) ≡ true = sym (holds-append rows (ownRows 3) t) ∙ and-right (holds t (plainRows b)) (holds t (rows ++ ownRows 3)) all in
-    lengths t 0 n n (and-left (holds t rows) (holds t (ownRows 3)) rest)
+-- all rows of the ICB are held where they were laid, and so its lengths
+pub rows-held : (t blocks : List ℕ) (b : ℕ) (s : List ℕ) → Recordable t blocks → b < 4294967296 → length s ≡ sectorLength
+    → holds (lay s (icbRows t blocks b)) (icbRows t blocks b) ≡ true
+unfolding icbRows plainRows lengthRows ownRows
+rows-held t blocks b s ok low long =
+    holds-lay (icbRows t blocks b) s tt 176 tt (omega arith) (omega (arith, ok .short, ok .long, ok .few, allocation-small blocks))
 
--- the header laid part by part
-pub header-laid : (b n : ℕ) (s : List ℕ) → lay (lay (lay s (plainRows b)) (lengthRows 0 n n)) (ownRows 3) ≡ lay s (header b n)
-header-laid b n s = rw (lay-append (plainRows b) (lengthRows 0 n n ++ ownRows 3) s, lay-append (lengthRows 0 n n) (ownRows 3) (lay s (plainRows b)))
+module _ (t blocks s : List ℕ) (b : ℕ) (held : holds s (icbRows t blocks b) ≡ true) where
+  abbrev pub sizes : List Row
+  sizes = lengthRows 0 (length (described t blocks)) (length t)
+
+  abbrev pub others : List Row
+  others = ownRows (allocationFor blocks) ++ (row 64 8 (length blocks) ∷ [])
+
+  all-held : (holds s (plainRows b) && holds s (sizes ++ others)) ≡ true
+  unfolding icbRows
+  all-held = sym (holds-append (plainRows b) (sizes ++ others) s) ∙ held
+
+  rest-held : (holds s sizes && holds s others) ≡ true
+  rest-held = sym (holds-append sizes others s) ∙ and-right (holds s (plainRows b)) (holds s (sizes ++ others)) all-held
+
+  pub plain-held : holds s (plainRows b) ≡ true
+  plain-held = and-left (holds s (plainRows b)) (holds s (sizes ++ others)) all-held
+
+  pub sizes-held : holds s sizes ≡ true
+  sizes-held = and-left (holds s sizes) (holds s others) rest-held
+
+  pub sizes-told : Lengths s 0 (length (described t blocks)) (length t)
+  sizes-told = lengths s 0 (length (described t blocks)) (length t) sizes-held
+
+  pub flagged : readLe 2 s 34 ≡ allocationFor blocks
+  unfolding holds ownRows
+  flagged =
+      let tail : Bool = eqb (readLe 4 s 36) unused && (eqb (readLe 4 s 40) unused && (eqb (readLe 4 s 108) 1 && (eqb (readLe 8 s 64) (length blocks) && true))) in
+      let most : Bool = eqb (readLe 2 s 24) 1 in
+      let flags : Bool = eqb (readLe 2 s 34) (allocationFor blocks) in
+      let own : (most && (flags && tail)) ≡ true = and-right (holds s sizes) (holds s others) rest-held in
+      eqb-true (readLe 2 s 34) (allocationFor blocks) (and-left flags tail (and-right most (flags && tail) own))
 
 pub length-timed : (stamp s : List ℕ) → length (timed stamp s) ≡ length s
 unfolding timed
@@ -91,12 +116,13 @@ length-timed stamp s =
     ∙ length-sets (sets s accessAt stamp) modifiedAt stamp
     ∙ length-sets s accessAt stamp
 
-pub length-body : (table stamp : List ℕ) → length (body table stamp) ≡ sectorLength
+pub length-body : (table blocks stamp : List ℕ) → length (body table blocks stamp) ≡ sectorLength
 unfolding body
-length-body table stamp =
-    length-timed stamp (sets (sets (replicate sectorLength 0) (tableStart 0) table) stationAt stationName)
-    ∙ length-sets (sets (replicate sectorLength 0) (tableStart 0) table) stationAt stationName
-    ∙ length-sets (replicate sectorLength 0) (tableStart 0) table
+length-body table blocks stamp =
+    let zeros : List ℕ = replicate sectorLength 0 in
+    length-timed stamp (sets (sets zeros (tableStart 0) (described table blocks)) stationAt stationName)
+    ∙ length-sets (sets zeros (tableStart 0) (described table blocks)) stationAt stationName
+    ∙ length-sets zeros (tableStart 0) (described table blocks)
     ∙ length-replicate {A = ℕ} sectorLength 0
 
 -- the times end before the table

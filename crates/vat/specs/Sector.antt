@@ -1,12 +1,14 @@
--- The sector that commit records (document 01: "What commit records"), every byte of it.
+-- The ICB that commit records (document 01: "What commit records"; document 02 for times and larger tables), every byte of it.
 use Prim.Native.Nat.{ℕ}
 use mathlib.Core.List.{List, [], _∷_, _++_}
 use lib.ListN.{length, replicate}
 use lib.Seq.{sets}
 use Rattle.le.specs.Field.{Row, row, le, leWords, lay}
+use Rattle.extent.specs.Extents.{descriptors}
 use Rattle.tag.specs.Tag.{seal}
 use Rattle.timestamp.specs.Timestamp.{stampLength}
 use Rattle.vat.specs.Table.{sectorLength, unused, tableStart, plainRows, lengthRows, tableName, modifiedAt}
+use Rattle.vat.specs.Own.{extentsAt}
 
 -- "table regid flags 0, suffix hex 50 01 and six zeros".
 unfoldable pub tableRegid : List ℕ
@@ -46,11 +48,25 @@ timed stamp s = sets (sets (sets s accessAt stamp) modifiedAt stamp) attributeAt
 abbrev pub noStamp : List ℕ
 noStamp = replicate stampLength 0
 
--- The table, the name and the times over zeros: "Everything else is zero, up to byte 2047."
-unfoldable pub body : List ℕ → List ℕ → List ℕ
-body table stamp = timed stamp (sets (sets (replicate sectorLength 0) (tableStart 0) table) stationAt stationName)
+-- What stands behind the header: the table, or the descriptors of its own sectors, which lie at these blocks. The allocation type tells which.
+abbrev pub described : List ℕ → List ℕ → List ℕ
+described table [] = table
+described table (c ∷ cs) = descriptors (extentsAt (length table) (c ∷ cs))
 
--- The sector for a table's bytes, a timestamp and the block b that it is recorded at: "descriptor length = table length", "information length = table
--- length". "Our commit [..] records none" of the attributes.
-unfoldable pub sector : List ℕ → List ℕ → ℕ → List ℕ
-sector table stamp b = seal (lay (body table stamp) (plainRows b ++ (lengthRows 0 (length table) (length table) ++ ownRows 3)))
+abbrev pub allocationFor : List ℕ → ℕ
+allocationFor [] = 3
+allocationFor (c ∷ cs) = 0
+
+-- That, the name and the times over zeros: "Everything else is zero, up to byte 2047."
+unfoldable pub body : List ℕ → List ℕ → List ℕ → List ℕ
+body table blocks stamp = timed stamp (sets (sets (replicate sectorLength 0) (tableStart 0) (described table blocks)) stationAt stationName)
+
+-- The header. "Our commit [..] records none" of the attributes. Of own sectors "we record that number as logical blocks".
+unfoldable pub icbRows : List ℕ → List ℕ → ℕ → List Row
+icbRows table blocks b =
+    plainRows b
+    ++ (lengthRows 0 (length (described table blocks)) (length table) ++ (ownRows (allocationFor blocks) ++ (row 64 8 (length blocks) ∷ [])))
+
+-- The ICB for a table's bytes, the blocks of its own sectors, none where the ICB holds it, a timestamp and the block b that it is recorded at.
+unfoldable pub icb : List ℕ → List ℕ → List ℕ → ℕ → List ℕ
+icb table blocks stamp b = seal (lay (body table blocks stamp) (icbRows table blocks b))

@@ -1,13 +1,16 @@
--- A table of the virtual allocation table (ECMA-167 4/14.9, UDF 1.50 2.2.10; document 01, 'The table sector at block b', and document 02 for attributes
--- and times), in three steps: its ICB, the table's bytes, which stand behind the ICB's extended attributes, and what these bytes hold.
+-- A table of the virtual allocation table (ECMA-167 4/14.9, UDF 1.50 2.2.10; document 01, 'The table sector at block b', and document 02 for attributes,
+-- times and larger tables), in three steps: its ICB, the table's bytes, which stand behind the ICB's extended attributes or in sectors of their own, and what
+-- these bytes hold.
 use Prim.Native.Nat.{ℕ, _+_, _-_, _*_, _/_, _%_}
-use mathlib.Core.Bool.{Bool, _&&_, _||_}
+use mathlib.Core.Bool.{Bool, true, false, _&&_, _||_}
 use mathlib.Core.List.{List, [], _∷_, _++_}
-use mathlib.Core.Option.{Option}
-use lib.Dec.{eqb, ltb}
+use mathlib.Core.Option.{Option, none, some}
+use lib.Dec.{eqb, ltb, leb}
 use lib.ListN.{length, take, drop}
 use Rattle.le.specs.Bytes.{every, holdsText}
 use Rattle.le.specs.Field.{Row, row, readLe, holds, words}
+use Rattle.extent.specs.declared.Extent.{Extent}
+use Rattle.extent.specs.Extents.{descriptorsLength, extentsFrom, totalLength}
 use Rattle.tag.specs.Tag.{sealed}
 use Rattle.timestamp.specs.Timestamp.{stampLength}
 
@@ -15,9 +18,16 @@ use Rattle.timestamp.specs.Timestamp.{stampLength}
 abbrev pub sectorLength : ℕ
 sectorLength = 2048
 
--- "000 asks that ICB and file together be less than a sector: 176 + 4 × N + 36 < 2048, so N is at most 458", and less behind attributes.
+-- "1 to 8 sectors of its own", and the bytes that these hold.
+abbrev pub mostOwn : ℕ
+mostOwn = 8
+
+abbrev pub mostBytes : ℕ
+mostBytes = sectorLength * mostOwn
+
+-- "The limit becomes 4,087 numbers": as many as fit into these.
 abbrev pub limit : ℕ
-limit = 458
+limit = 4087
 
 -- An unused entry, and a missing previous table: hex FFFFFFFF.
 abbrev pub unused : ℕ
@@ -27,7 +37,7 @@ unused = 0xFFFFFFFF
 abbrev pub unusedOrBelow : ℕ → ℕ → Bool
 unusedOrBelow b x = ltb x b || eqb x unused
 
--- What can be read below a block, by its number: the bytes of a sector. A table that its ICB holds asks nothing of it.
+-- What can be read below a block, by its number: the bytes of a sector.
 abbrev pub Lower : Type 0
 Lower = ℕ → Option (List ℕ)
 
@@ -66,12 +76,15 @@ lengthRows attributes descriptors information =
     ∷ row 10 2 (160 + attributes + descriptors)  -- CRC length
     ∷ []
 
--- Byte 34, 16 bits: the flags, whose low three bits are the allocation type; of a table "3, embedded".
+-- Byte 34, 16 bits: the flags, whose low three bits are the allocation type; of a table "3, embedded", or 0, in "sectors of its own".
 abbrev pub allocationType : List ℕ → ℕ
 allocationType s = readLe 2 s 34 % 8
 
 abbrev pub embedded : List ℕ → Bool
 embedded s = eqb (allocationType s) 3
+
+abbrev pub outside : List ℕ → Bool
+outside s = eqb (allocationType s) 0
 
 -- The attribute length, at byte 168, and the descriptor length, at byte 172: of what stands behind the attributes.
 unfoldable pub attributeLength : List ℕ → ℕ
@@ -80,7 +93,8 @@ attributeLength s = readLe 4 s 168
 unfoldable pub describedLength : List ℕ → ℕ
 describedLength s = readLe 4 s 172
 
--- "ICB and file together", with the attributes between them, of the lengths that the sector tells.
+-- ICB, attributes and what stands behind them together, by the lengths that the sector tells. "000 asks that ICB and file together be less than a sector:
+-- 176 + 4 × N + 36 < 2048", so that at most 458 entries stand there.
 abbrev pub wholeLength : List ℕ → ℕ
 wholeLength s = tableStart (attributeLength s) + describedLength s
 
@@ -88,11 +102,27 @@ wholeLength s = tableStart (attributeLength s) + describedLength s
 abbrev pub placed : List ℕ → Bool
 placed s = eqb (attributeLength s % 4) 0 && ltb (wholeLength s) sectorLength
 
--- The ICB of a table, but for the sums: "descriptor length = table length", "information length = table length".
-unfoldable pub framed : List ℕ → ℕ → Bool
-framed s b =
+-- "sectors of its own, each named by a short allocation descriptor in the ICB": those behind the attributes. An embedded table has none.
+abbrev pub ownIf : Bool → List Extent → List Extent
+ownIf true extents = []
+ownIf false extents = extents
+
+unfoldable pub ownOf : List ℕ → List Extent
+ownOf s = ownIf (embedded s) (extentsFrom (describedLength s / 8) s (tableStart (attributeLength s)))
+
+-- The lengths of an ICB: "descriptor length = table length", "information length = table length"; of own sectors "the descriptor length is 8 times the
+-- number of own sectors", and the table is as long as all of them.
+unfoldable pub measured : List ℕ → Bool
+measured s =
+    let a : ℕ = attributeLength s in
     let n : ℕ = describedLength s in
-    holds s (plainRows b) && (embedded s && (placed s && holds s (lengthRows (attributeLength s) n n)))
+    let m : ℕ = length (ownOf s) in
+    (embedded s && holds s (lengthRows a n n))
+    || (outside s && (leb 1 m && (leb m mostOwn && holds s (lengthRows a (descriptorsLength m) (totalLength (ownOf s))))))
+
+-- The ICB of a table, but for the sums.
+unfoldable pub framed : List ℕ → ℕ → Bool
+framed s b = holds s (plainRows b) && (placed s && measured s)
 
 -- The modification time, at byte 84: a timestamp, of which the recognition asks nothing.
 abbrev pub modifiedAt : ℕ
@@ -103,9 +133,44 @@ modifiedOf s = take stampLength (drop modifiedAt s)
 
 -- ---- the table's bytes
 
--- Those behind the attributes, as many as the ICB tells.
+-- A sector that can be read, and its bytes.
+abbrev pub isThere : Option (List ℕ) → Bool
+isThere none = false
+isThere (some s) = true
+
+abbrev pub bytesOf : Option (List ℕ) → List ℕ
+bytesOf none = []
+bytesOf (some s) = s
+
+-- Own sectors: "allocation and extent type 0, blocks below the ICB, kind 1, full but the last, none empty". An extent of another type has a length above a
+-- sector's.
+unfoldable pub lies : Lower → Extent → Bool
+lies lower e = ltb 0 (e .length) && (leb (e .length) sectorLength && isThere (lower (e .location)))
+
+abbrev pub fullBefore : Extent → List Extent → Bool
+fullBefore e [] = true
+fullBefore e (f ∷ es) = eqb (e .length) sectorLength
+
+unfoldable pub laid : Lower → List Extent → Bool
+laid lower [] = true
+laid lower (e ∷ es) = lies lower e && (fullBefore e es && laid lower es)
+
+-- The bytes of all, one behind the other.
+unfoldable pub joined : Lower → List Extent → List ℕ
+joined lower [] = []
+joined lower (e ∷ es) = take (e .length) (bytesOf (lower (e .location))) ++ joined lower es
+
+-- The bytes behind the attributes, as many as the ICB tells.
+unfoldable pub inside : List ℕ → List ℕ
+inside s = take (describedLength s) (drop (tableStart (attributeLength s)) s)
+
+-- The table: these bytes, or those of its own sectors.
+abbrev pub bytesIf : Bool → List ℕ → List ℕ → List ℕ
+bytesIf true within apart = within
+bytesIf false within apart = apart
+
 unfoldable pub tableOf : Lower → List ℕ → List ℕ
-tableOf lower s = take (describedLength s) (drop (tableStart (attributeLength s)) s)
+tableOf lower s = bytesIf (embedded s) (inside s) (joined lower (ownOf s))
 
 -- ---- what they hold
 
@@ -147,4 +212,5 @@ listed t b = enclosed t b && every (unusedOrBelow b) (entriesOf t)
 
 -- The sector s at block b is a table's, where this can be read below it. The costly CRC comes last.
 unfoldable pub isTable : Lower → List ℕ → ℕ → Bool
-isTable lower s b = eqb (length s) sectorLength && (framed s b && (listed (tableOf lower s) b && sealed s))
+isTable lower s b =
+    eqb (length s) sectorLength && (framed s b && (laid lower (ownOf s) && (listed (tableOf lower s) b && sealed s)))

@@ -1,13 +1,14 @@
-// A table in sectors of its own: these sectors made.
+// A table in sectors of its own: how many there are, and these sectors made.
+use crate::table::EMBEDDED_LIMIT;
 use crate::table::SECTOR;
 ghost use mathlib.Core.Path.{_≡_};
 ghost use mathlib.Core.Logic.{_⊎_};
 ghost use Prim.Native.Nat.{_+_, _*_, _≤_, _<_};
 ghost use lib.ListN.{length};
 ghost use Rattle.le.specs.Field.{words};
-ghost use Rattle.vat.specs.Table.{sectorLength, tableLength};
+ghost use Rattle.vat.specs.Table.{sectorLength, mostOwn, limit, tableLength};
 ghost use Rattle.vat.specs.Sector.{tableBytes};
-ghost use Rattle.vat.specs.Own.{mostOwn, ownSector};
+ghost use Rattle.vat.specs.Own.{ownSector, ownCount};
 
 pub fn smaller(a: usize, b: usize) -> usize
     ensures { λ r. ⌜ (r ≤ a) × (r ≤ b) × ((r ≡ a) ⊎ (r ≡ b)) ⌝ }
@@ -16,6 +17,17 @@ pub fn smaller(a: usize, b: usize) -> usize
         return a;
     }
     b
+}
+
+// How many a table of n numbers has: none if it fits behind its ICB.
+pub fn own_count(n: u32) -> u32
+    requires { ⌜ n ≤ limit ⌝ }
+    ensures { λ r. ⌜ r ≡ ownCount (tableLength n) ⌝ }
+{
+    if n <= EMBEDDED_LIMIT {
+        return 0;
+    }
+    (4 * n + 36 + 2047) / 2048
 }
 
 // Own sector i of the table of the first n numbers that the bytes of a map hold: entries, then what of the tail stands in it, over zeros.

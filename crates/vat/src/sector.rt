@@ -1,4 +1,4 @@
-// The sector that commit records.
+// The ICB that a save records.
 use crate::table::ATTRIBUTES_AT;
 use crate::table::MODIFIED_AT;
 use crate::table::TABLE_NAME;
@@ -6,13 +6,15 @@ use crate::table::TAG_VERSION;
 use crate::table::UNUSED;
 ghost use mathlib.Core.Path.{_≡_};
 ghost use mathlib.Core.List.{_++_};
-ghost use Prim.Native.Nat.{_+_, _*_, _≤_};
-ghost use lib.ListN.{length};
+ghost use Prim.Native.Nat.{_+_, _-_, _*_, _≤_, _<_};
+ghost use lib.ListN.{length, take};
 ghost use lib.Seq.{sets};
 ghost use Rattle.le.specs.Field.{le, words, lay};
-ghost use Rattle.vat.specs.Table.{sectorLength, limit, tableStart, entryRows, plainRows, lengthRows};
+ghost use Rattle.extent.specs.Extents.{descriptors};
+ghost use Rattle.vat.specs.Table.{sectorLength, mostOwn, limit, tableStart, entryRows, plainRows, lengthRows, tableLength};
 ghost use Rattle.timestamp.specs.Timestamp.{stampLength};
-ghost use Rattle.vat.specs.Sector.{tableRegid, tableBytes, ownRows, stationAt, stationName, timed, sector};
+ghost use Rattle.vat.specs.Own.{ownCount, extentsAt};
+ghost use Rattle.vat.specs.Sector.{tableRegid, tableBytes, ownRows, stationAt, stationName, described, timed, icb};
 
 const STATION_NAME: [u8; 14] = *b"*Bench Station";
 
@@ -80,7 +82,7 @@ pub fn put_tail(s: &mut [u8], at: usize, previous: u32)
 
 // The entries, the first n that the bytes of a map hold, and what stands behind them.
 fn put_table(s: &mut [u8], map: &[u8], n: u32, previous: u32)
-    requires { ⌜ (length (now s) ≡ sectorLength) × (n ≤ limit) × (4 * n ≤ length (now map)) ⌝ }
+    requires { ⌜ (length (now s) ≡ sectorLength) × (n ≤ 458) × (4 * n ≤ length (now map)) ⌝ }
     ensures { λ _. ⌜ now (s .exit) ≡ sets (now (s .entry)) (tableStart 0) (tableBytes (words n (now (map .entry)) 0) previous) ⌝ }
 {
     let count = n as usize;
@@ -98,18 +100,72 @@ fn put_times(s: &mut [u8], stamp: &[u8])
     le::run::put_text(s, 96, stamp);
 }
 
-// The sector for a map of n entries, which are taken from bytes, a previous table, a timestamp and the block b, into a lent buffer.
-pub fn record(s: &mut [u8], map: &[u8], n: u32, previous: u32, stamp: &[u8], b: u32)
-    requires { ⌜ (length (now s) ≡ sectorLength) × (n ≤ limit) × (4 * n ≤ length (now map)) × (length (now stamp) ≡ stampLength) ⌝ }
-    ensures { λ _. ⌜ now (s .exit) ≡ sector (tableBytes (words n (now (map .entry)) 0) previous) (now (stamp .entry)) b ⌝ }
+// The bytes of an own sector, of which so many are left of the table from it on: "full but the last".
+fn own_length(left: u32) -> u32
+    ensures { λ r. ⌜ r + (left - sectorLength) ≡ left ⌝ }
 {
-    let length = 4 * n + 36;
+    if left < 2048 {
+        return left;
+    }
+    2048
+}
+
+// The descriptors of the first m blocks, at which a table of so many bytes lies.
+fn put_descriptors(s: &mut [u8], blocks: &[u32], m: usize, bytes: u32)
+    requires { ⌜ (length (now s) ≡ sectorLength) × (m ≤ mostOwn) × (m ≤ length (now blocks)) × (sectorLength * m < bytes + sectorLength) × (bytes ≤ sectorLength * m) ⌝ }
+    ensures { λ _. ⌜ now (s .exit) ≡ sets (now (s .entry)) (tableStart 0) (descriptors (extentsAt bytes (take m (now (blocks .entry))))) ⌝ }
+{
+    let mut at = ATTRIBUTES_AT;
+    let mut left = bytes;
+    let mut i: usize = 0;
+    while i < m {
+        let length = own_length(left);
+        le::put32(s, at, length);
+        le::put32(s, at + 4, blocks[i]);
+        left -= length;
+        at += 8;
+        i += 1;
+    }
+}
+
+// What stands behind the header; the answer is its length.
+fn put_described(s: &mut [u8], map: &[u8], n: u32, previous: u32, blocks: &[u32]) -> u32
+    requires { ⌜ (length (now s) ≡ sectorLength) × (n ≤ limit) × (4 * n ≤ length (now map)) × (ownCount (tableLength n) ≤ length (now blocks)) ⌝ }
+    ensures { λ r. ⌜ (now (s .exit) ≡ sets (now (s .entry)) (tableStart 0) (described (tableBytes (words n (now (map .entry)) 0) previous) (take (ownCount (tableLength n)) (now (blocks .entry))))) × (r ≡ length (described (tableBytes (words n (now (map .entry)) 0) previous) (take (ownCount (tableLength n)) (now (blocks .entry))))) × (r + tableStart 0 < sectorLength) ⌝ }
+{
+    let bytes = 4 * n + 36;
+    let own = crate::own::own_count(n);
+    if own == 0 {
+        put_table(s, map, n, previous);
+        return bytes;
+    }
+    put_descriptors(s, blocks, own as usize, bytes);
+    8 * own
+}
+
+// The allocation type for so many own sectors.
+fn allocation(own: u32) -> u16
+    ensures { λ r. ⌜ ((own ≡ 0 → r ≡ 3) × ((own ≡ 0 → ⊥) → r ≡ 0)) ⌝ }
+{
+    if own == 0 {
+        return 3;
+    }
+    0
+}
+
+// The ICB at block b for a map of n entries, which are taken from bytes, a previous table, the blocks of its own sectors and a timestamp, into a lent buffer.
+pub fn record(s: &mut [u8], map: &[u8], n: u32, previous: u32, blocks: &[u32], stamp: &[u8], b: u32)
+    requires { ⌜ (length (now s) ≡ sectorLength) × (n ≤ limit) × (4 * n ≤ length (now map)) × (ownCount (tableLength n) ≤ length (now blocks)) × (length (now stamp) ≡ stampLength) ⌝ }
+    ensures { λ _. ⌜ now (s .exit) ≡ icb (tableBytes (words n (now (map .entry)) 0) previous) (take (ownCount (tableLength n)) (now (blocks .entry))) (now (stamp .entry)) b ⌝ }
+{
+    let own = crate::own::own_count(n);
     le::run::clear(s);
-    put_table(s, map, n, previous);
+    let described = put_described(s, map, n, previous, blocks);
     put_name(s);
     put_times(s, stamp);
     put_plain(s, b);
-    put_lengths(s, length, length as u64);
-    put_own(s, 3);
+    put_lengths(s, described, (4 * n + 36) as u64);
+    put_own(s, allocation(own));
+    le::put64(s, 64, own as u64);
     tag::seal(s);
 }

@@ -1,18 +1,18 @@
-// A table sector, recognised and read.
+// The ICB of a table, recognised, and the table that it holds, if its own sectors do not.
 ghost use mathlib.Core.Path.{_≡_};
-ghost use mathlib.Core.Bool.{_&&_};
 ghost use Prim.Native.Nat.{ℕ, _+_, _-_, _*_, _/_, _≤_, _<_};
 ghost use lib.Dec.{eqb, leb};
 ghost use lib.ListN.{length};
 ghost use Rattle.le.specs.Bytes.{every};
 ghost use Rattle.le.specs.Field.{readLe, holds, words};
-ghost use Rattle.tag.specs.Tag.{sealed};
-ghost use Rattle.vat.specs.Table.{sectorLength, unusedOrBelow, Lower, entryRows, plainRows, lengthRows, attributeLength, describedLength, wholeLength, placed, framed, tableOf, entryCount, previousOf, enclosed, listed, isTable};
+ghost use Rattle.vat.specs.Table.{sectorLength, unusedOrBelow, tableStart, entryRows, plainRows, lengthRows, embedded, outside, attributeLength, describedLength, wholeLength, placed, ownOf, measured, framed, inside, entryCount, previousOf, enclosed};
 
 pub const SECTOR: usize = 2048;
 
-// The most entries that fit beside their ICB.
-pub const LIMIT: u32 = 458;
+// The most entries that a table's own sectors hold, and the most that fit beside their ICB.
+pub const LIMIT: u32 = 4087;
+
+pub const EMBEDDED_LIMIT: u32 = 458;
 
 pub const UNUSED: u32 = 4294967295;
 
@@ -24,6 +24,9 @@ pub const MODIFIED_AT: usize = 84;
 
 // The version of every tag.
 pub const TAG_VERSION: u16 = 2;
+
+// The most own sectors.
+pub const MOST_OWN: u32 = 8;
 
 pub const TABLE_NAME: [u8; 23] = *b"*UDF Virtual Alloc Tbl\0";
 
@@ -77,15 +80,69 @@ pub fn placed(s: &[u8]) -> bool
     (attributes % 4 == 0) & (176 + attributes + described < 2048)
 }
 
-// The lengths of attributes and descriptors need no test of their own: the others are held against them.
-fn lengths_held(s: &[u8]) -> bool
+// Where the attributes end.
+pub fn start(s: &[u8]) -> usize
     requires { ⌜ (length (now s) ≡ sectorLength) × (wholeLength (now s) < sectorLength) ⌝ }
-    ensures { λ r. ⌜ r ≡ holds (now (s .entry)) (lengthRows (attributeLength (now (s .entry))) (describedLength (now (s .entry))) (describedLength (now (s .entry)))) ⌝ }
+    ensures { λ r. ⌜ r ≡ tableStart (attributeLength (now (s .entry))) ⌝ }
+{
+    ATTRIBUTES_AT + (attribute_length(s) as usize)
+}
+
+// The ICB holds its table.
+pub fn is_embedded(s: &[u8]) -> bool
+    requires { ⌜ length (now s) ≡ sectorLength ⌝ }
+    ensures { λ r. ⌜ r ≡ embedded (now (s .entry)) ⌝ }
+{
+    (le::read16(s, 34) & 7) == 3
+}
+
+// Its table lies in own sectors.
+fn is_outside(s: &[u8]) -> bool
+    requires { ⌜ length (now s) ≡ sectorLength ⌝ }
+    ensures { λ r. ⌜ r ≡ outside (now (s .entry)) ⌝ }
+{
+    (le::read16(s, 34) & 7) == 0
+}
+
+// How many own sectors it names.
+pub fn own_count(s: &[u8]) -> u32
+    requires { ⌜ length (now s) ≡ sectorLength ⌝ }
+    ensures { λ r. ⌜ r ≡ length (ownOf (now (s .entry))) ⌝ }
+{
+    if is_embedded(s) {
+        return 0;
+    }
+    described_length(s) / 8
+}
+
+// The attribute length needs no test of its own: the CRC length is held against it.
+fn lengths_held(s: &[u8], descriptors: u32, information: u64) -> bool
+    requires { ⌜ (length (now s) ≡ sectorLength) × (wholeLength (now s) < sectorLength) × (descriptors ≤ describedLength (now s)) ⌝ }
+    ensures { λ r. ⌜ r ≡ holds (now (s .entry)) (lengthRows (attributeLength (now (s .entry))) descriptors information) ⌝ }
+{
+    let described = described_length(s) == descriptors;
+    let informed = le::read64(s, 56) == information;
+    let summed = (le::read16(s, 10) as u32) == 160 + attribute_length(s) + descriptors;
+    described & (informed & summed)
+}
+
+fn measured(s: &[u8]) -> bool
+    requires { ⌜ (length (now s) ≡ sectorLength) × (wholeLength (now s) < sectorLength) ⌝ }
+    ensures { λ r. ⌜ r ≡ measured (now (s .entry)) ⌝ }
 {
     let length = described_length(s);
-    let information = le::read64(s, 56) == (length as u64);
-    let summed = (le::read16(s, 10) as u32) == 160 + attribute_length(s) + length;
-    information & summed
+    if is_embedded(s) {
+        return lengths_held(s, length, length as u64);
+    }
+    let own = own_count(s);
+    if own == 0 {
+        return false;
+    }
+    if MOST_OWN < own {
+        return false;
+    }
+    let lengths = lengths_held(s, 8 * own, extent::total_length(s, start(s), own));
+    is_outside(s) & lengths
 }
 
 // How many blocks there are up to the one named: 0 where none is. So one comparison is enough for each entry.
@@ -121,19 +178,26 @@ pub fn framed(s: &[u8], b: u32) -> bool
     if !plain_held(s, b) {
         return false;
     }
-    let embedded = (le::read16(s, 34) & 7) == 3;
     if !placed(s) {
         return false;
     }
-    embedded & lengths_held(s)
+    measured(s)
 }
 
-// The table's bytes, behind the attributes.
+// How many bytes the table has, as the ICB tells.
+pub fn information_length(s: &[u8]) -> u32
+    requires { ⌜ (length (now s) ≡ sectorLength) × (readLe 8 (now s) 56 < 4294967296) ⌝ }
+    ensures { λ r. ⌜ r ≡ readLe 8 (now (s .entry)) 56 ⌝ }
+{
+    le::read64(s, 56) as u32
+}
+
+// The bytes behind the attributes.
 pub fn table(s: &[u8]) -> &[u8]
     requires { ⌜ (length (now s) ≡ sectorLength) × (wholeLength (now s) < sectorLength) ⌝ }
-    ensures { λ r. ⌜ ((lower : Lower) → now r ≡ tableOf lower (now (s .entry))) ⌝ }
+    ensures { λ r. ⌜ now r ≡ inside (now (s .entry)) ⌝ }
 {
-    let at = ATTRIBUTES_AT + (attribute_length(s) as usize);
+    let at = start(s);
     let end = at + (described_length(s) as usize);
     &s[at..end]
 }
@@ -191,41 +255,4 @@ pub fn words_held(s: &[u8], at: usize, n: u32, b: u32) -> bool
         left -= 1;
     }
     !broken
-}
-
-pub fn listed(t: &[u8], b: u32) -> bool
-    requires { ⌜ length (now t) < sectorLength ⌝ }
-    ensures { λ r. ⌜ r ≡ listed (now (t .entry)) b ⌝ }
-{
-    if !enclosed(t, b) {
-        return false;
-    }
-    words_held(t, 0, entry_count(t), b)
-}
-
-// All that a table's sector at block b is known by, but for its length, whatever can be read below it.
-pub fn table_held(s: &[u8], b: u32) -> bool
-    requires { ⌜ length (now s) ≡ sectorLength ⌝ }
-    ensures { λ r. ⌜ ((lower : Lower) → r ≡ (framed (now (s .entry)) b && (listed (tableOf lower (now (s .entry))) b && sealed (now (s .entry))))) ⌝ }
-{
-    if !framed(s, b) {
-        return false;
-    }
-    if !listed(table(s), b) {
-        return false;
-    }
-    tag::sealed(s)
-}
-
-// A sector is a table's at block b. The tag identifier is tested here, so that nearly every sector that is none costs no call.
-pub fn is_table(s: &[u8], b: u32) -> bool
-    ensures { λ r. ⌜ ((lower : Lower) → r ≡ isTable lower (now (s .entry)) b) ⌝ }
-{
-    if s.len() != SECTOR {
-        return false;
-    }
-    if !tagged(s) {
-        return false;
-    }
-    table_held(s, b)
 }

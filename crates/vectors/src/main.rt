@@ -1,13 +1,16 @@
-// Runs the CRC, the table sector, timestamps, a closing's pointer and the entry of a run on outside vectors, and prints what it finds. What must come stands in
+// Runs the CRC, the table sector, larger tables, timestamps, a closing's pointer and the entry of a run on outside vectors, and prints what it finds. What must come stands in
 // the file `stdout`; an independent program, tests/vectors.py, makes it.
 use extent::Extent;
 use vat::table::TAG_VERSION;
 use vat::table::UNUSED;
+use vat::table::enclosed;
 use vat::table::entry_count;
-use vat::table::is_table;
+use vat::table::framed;
+use vat::table::is_embedded;
 use vat::table::placed;
 use vat::table::previous;
 use vat::table::table;
+use vat::table::words_held;
 ghost use Prim.Native.Nat.{_≤_};
 ghost use mathlib.Core.Path.{_≡_};
 ghost use lib.ListN.{length};
@@ -16,6 +19,18 @@ const STDOUT: i32 = 1;
 
 // The largest prime below 2^32.
 const PRIME: u64 = 4294967291;
+
+// Where the own sectors of a large table lie: three blocks apart, since they need not follow each other.
+const OWN_BLOCKS: [u32; 8] = [
+    290000,
+    290003,
+    290006,
+    290009,
+    290012,
+    290015,
+    290018,
+    290021,
+];
 
 fn say(text: &[u8]) {
     io::write_all(STDOUT, text);
@@ -54,6 +69,39 @@ fn show_rows(s: &[u8]) {
             say(b"\n");
         }
     }
+}
+
+// A table's bytes at block b.
+fn is_listed(t: &[u8], b: u32) -> bool {
+    if t.len() >= 2048 {
+        return false;
+    }
+    if !enclosed(t, b) {
+        return false;
+    }
+    words_held(t, 0, entry_count(t), b)
+}
+
+// A sector's sums, if its body lies in it.
+fn is_sealed(s: &[u8]) -> bool {
+    if s.len() != 2048 {
+        return false;
+    }
+    if 2032 < le::read16(s, 10) {
+        return false;
+    }
+    tag::sealed(s)
+}
+
+// A sector is the ICB of a table at block b that stands in it.
+fn is_table(s: &[u8], b: u32) -> bool {
+    if s.len() != 2048 {
+        return false;
+    }
+    if !placed(s) {
+        return false;
+    }
+    framed(s, b) & is_embedded(s) & is_listed(table(s), b) & is_sealed(s)
 }
 
 fn show_test(kind: u8, s: &[u8], b: u32) {
@@ -108,7 +156,7 @@ fn third(i: usize) -> u32 {
     (i % 458) as u32
 }
 
-// A full map: every third entry unused, the others counting up.
+// A full map: every third entry unused, the others counting up, from 0 again after every 458, so that each is below the block of any table made here.
 fn fill(map: &mut [u32])
     ensures { λ _. ⌜ length (now (map .exit)) ≡ length (now (map .entry)) ⌝ }
 {
@@ -196,20 +244,29 @@ fn show_tests(s: &[u8]) {
     show_test(1, &s[0..2047], 300000);
 }
 
-// The table sector of a map, whose entries are taken from bytes.
+// The table sector of a map, whose entries are taken from bytes. If they do not fit into it, it names the first of the blocks for own sectors.
 fn make_table(sector: &mut [u8], map: &[u32], previous: u32, stamp: &[u8], b: u32) {
     if sector.len() != 2048 {
         return;
     }
-    if 458 < map.len() {
+    if 4087 < map.len() {
         return;
     }
     if stamp.len() != 12 {
         return;
     }
-    let mut entries = [0u8; 1832];
+    let mut entries = [0u8; 16348];
     le::run::put_words(&mut entries, 0, map);
-    vat::sector::record(sector, &entries, map.len() as u32, previous, stamp, b);
+    let blocks = OWN_BLOCKS;
+    vat::sector::record(
+        sector,
+        &entries,
+        map.len() as u32,
+        previous,
+        &blocks,
+        stamp,
+        b,
+    );
 }
 
 fn small_table() {
@@ -411,6 +468,89 @@ fn runs() {
     show_entry(&long, 359999);
 }
 
+fn show_own_count(n: u32) {
+    if 4087 < n {
+        return;
+    }
+    say(b"own sectors of ");
+    io::print_decimal(STDOUT, n as u64);
+    say(b" entries: ");
+    io::print_decimal(STDOUT, vat::own::own_count(n) as u64);
+    say(b"\n");
+}
+
+// Both sides of the limits of the ICB and of one own sector, two full own sectors, and the largest table.
+fn own_counts() {
+    show_own_count(0);
+    show_own_count(458);
+    show_own_count(459);
+    show_own_count(503);
+    show_own_count(504);
+    show_own_count(1015);
+    show_own_count(4087);
+}
+
+// The CRC of own sector i of the table of n entries, which are taken from bytes.
+fn show_own(entries: &[u8], n: usize, i: usize) {
+    if 4087 < n {
+        return;
+    }
+    if entries.len() < 4 * n {
+        return;
+    }
+    if 7 < i {
+        return;
+    }
+    if 4 * n + 36 <= 2048 * i {
+        return;
+    }
+    let mut sector = [0u8; 2048];
+    ramp(&mut sector);
+    vat::own::own_sector(&mut sector, entries, n, 123456, i);
+    say(b"own ");
+    io::print_decimal(STDOUT, i as u64);
+    say(b" ");
+    show_crc(&sector);
+}
+
+// All own sectors of the table of a map.
+fn show_all_own(map: &[u32]) {
+    if 4087 < map.len() {
+        return;
+    }
+    let mut entries = [0u8; 16348];
+    le::run::put_words(&mut entries, 0, map);
+    show_each_own(&entries, map.len());
+}
+
+fn show_each_own(entries: &[u8], n: usize) {
+    if 4087 < n {
+        return;
+    }
+    let own = vat::own::own_count(n as u32) as usize;
+    let mut i = 0;
+    while i < own {
+        show_own(entries, n, i);
+        i += 1;
+    }
+}
+
+fn large_table(map: &[u32]) {
+    let mut sector = [0u8; 2048];
+    ramp(&mut sector);
+    make_table(&mut sector, map, 123456, &[0u8; 12], 300000);
+    show_rows(&sector);
+    show_all_own(map);
+}
+
+// The smallest table that does not fit into its ICB, and the largest that there is.
+fn large_tables() {
+    let mut map = [0u32; 4087];
+    fill(&mut map);
+    large_table(&map[0..459]);
+    large_table(&map);
+}
+
 fn main() {
     crcs();
     small_table();
@@ -420,4 +560,6 @@ fn main() {
     stamps();
     pointer();
     runs();
+    own_counts();
+    large_tables();
 }

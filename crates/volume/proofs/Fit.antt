@@ -19,7 +19,7 @@ use Rattle.disc.specs.Disc.{Disc, recorded}
 use Rattle.disc.specs.Tables.{tableAt}
 use Rattle.disc.proofs.Order.{and-false}
 use Rattle.volume.specs.declared.Volume.{Volume}
-use Rattle.volume.specs.Volume.{packetOpen, readOnly, unpack, isUnused, mapOf, fits, filled}
+use Rattle.volume.specs.Volume.{places, packetOpen, readOnly, unpack, isUnused, mapOf, fits, filled}
 use Rattle.volume.proofs.State.{words-snoc}
 
 -- ---- the entries in two parts
@@ -33,18 +33,18 @@ words-add (suc m) n s at =
     ∙ ap {B = List ℕ} (λ l. readLe 4 s at ∷ l) (words-add m n s (at + 4) ∙ ap (λ (p : ℕ). words m s (at + 4) ++ words n s p) on)
     ∙ sym (ap (λ (l : List ℕ). l ++ words n s (at + 4 * suc m)) (words-step m s at))
 
-parts : (l : List ℕ) (k : ℕ) → k ≤ limit → words limit l 0 ≡ words k l 0 ++ words (limit - k) l (4 * k)
+parts : (l : List ℕ) (k : ℕ) → k ≤ places → words places l 0 ≡ words k l 0 ++ words (places - k) l (4 * k)
 parts l k h =
-    let all : k + (limit - k) ≡ limit = omega arith in
-    ap (λ (n : ℕ). words n l 0) (sym all) ∙ words-add k (limit - k) l 0 ∙ ap (λ (p : ℕ). words k l 0 ++ words (limit - k) l p) (zero-add (4 * k))
+    let all : k + (places - k) ≡ places = omega arith in
+    ap (λ (n : ℕ). words n l 0) (sym all) ∙ words-add k (places - k) l 0 ∙ ap (λ (p : ℕ). words k l 0 ++ words (places - k) l p) (zero-add (4 * k))
 
-pub entries-below : (l : List ℕ) (k : ℕ) → k ≤ limit → take k (unpack l .entries) ≡ words k l 0
+pub entries-below : (l : List ℕ) (k : ℕ) → k ≤ places → take k (unpack l .entries) ≡ words k l 0
 unfolding unpack
-entries-below l k h = ap (take k) (parts l k h) ∙ take-at (words k l 0) (words (limit - k) l (4 * k)) k (length-words k l 0)
+entries-below l k h = ap (take k) (parts l k h) ∙ take-at (words k l 0) (words (places - k) l (4 * k)) k (length-words k l 0)
 
-pub entries-beyond : (l : List ℕ) (k : ℕ) → k ≤ limit → drop k (unpack l .entries) ≡ words (limit - k) l (4 * k)
+pub entries-beyond : (l : List ℕ) (k : ℕ) → k ≤ places → drop k (unpack l .entries) ≡ words (places - k) l (4 * k)
 unfolding unpack
-entries-beyond l k h = ap (drop k) (parts l k h) ∙ drop-at (words k l 0) (words (limit - k) l (4 * k)) k (length-words k l 0)
+entries-beyond l k h = ap (drop k) (parts l k h) ∙ drop-at (words k l 0) (words (places - k) l (4 * k)) k (length-words k l 0)
 
 -- ---- the fit
 
@@ -82,28 +82,3 @@ module _ (d : Disc) (v : Volume) where
       && (every (unusedOrBelow (v .recorded)) (mapOf v) && ((eqb (v .last) unused || tableAt d (v .last)) && modeFits (d .kinds) (v .mode) (v .recorded))))
   unfolding fits
   fits-parts few same = rw (le-leb (v .size) limit few, eq-eqb (v .recorded) (recorded d) same)
-
--- ---- an array that is filled in order
-
-set-seam : (xs ys : List ℕ) (y z i : ℕ) → length xs ≡ i → set (xs ++ (y ∷ ys)) i z ≡ (xs ++ (z ∷ [])) ++ ys
-set-seam [] ys y z zero h = refl
-set-seam [] ys y z (suc i) h = absurd (let e : _≡_ {A = ℕ} 0 1 = cc in omega arith)
-set-seam (x ∷ xs) ys y z zero h = absurd (let e : _≡_ {A = ℕ} 0 1 = cc in omega arith)
-set-seam (x ∷ xs) ys y z (suc i) h = ap {B = List ℕ} (λ l. x ∷ l) (set-seam xs ys y z i (let e : suc (length xs) ≡ suc i = h in omega arith))
-
-pub fill-turn : (t : List ℕ) (n i : ℕ) → i < n → set (words i t 0 ++ replicate (n - i) unused) i (readLe 4 t (4 * i)) ≡ words (i + 1) t 0 ++ replicate (n - (i + 1)) unused
-fill-turn t n i h =
-    let left : n - i ≡ suc (n - (i + 1)) = omega arith in
-    let at : 0 + 4 * i ≡ 4 * i = omega arith in
-    let x : ℕ = readLe 4 t (4 * i) in
-    let rest : List ℕ = replicate (n - (i + 1)) unused in
-    ap (λ (k : ℕ). set (words i t 0 ++ replicate k unused) i x) left
-    ∙ set-seam (words i t 0) rest unused x i (length-words i t 0)
-    ∙ ap (λ (l : List ℕ). l ++ rest)
-    (sym (ap (λ (k : ℕ). words k t 0) (add-one i) ∙ words-snoc i t 0 ∙ ap (λ (p : ℕ). words i t 0 ++ (readLe 4 t p ∷ [])) at))
-
-pub filled-words : (t : List ℕ) (n b r mode : ℕ)
-    → filled (words n t 0) b r mode ≡ record { entries = words n t 0 ++ replicate (limit - n) unused; size = n; recorded = r; last = b; mode = mode }
-unfolding filled
-filled-words t n b r mode =
-    ap {B = Volume} (λ k. record { entries = words n t 0 ++ replicate (limit - k) unused; size = k; recorded = r; last = b; mode = mode }) (length-words n t 0)

@@ -1,21 +1,22 @@
--- Bytes of the ledger that stand already: the entries of a state that was loaded, one entry put among them, and what each call leaves of them.
+-- Bytes of the ledger that stand already: the entries of a state that was loaded, one entry put among them, and what each call leaves of them; and the map of a
+-- table that is shown.
 -- Assumes nothing.
-use Prim.Native.Nat.{ℕ, zero, suc, _+_, _*_, _≤_, _<_}
+use Prim.Native.Nat.{ℕ, zero, suc, _+_, _-_, _*_, _≤_, _<_}
 use native.Mathlib.Nat.{not-suc-le-zero, zero-add}
 use native.Mathlib.Omega.{arith}
 use mathlib.Core.Path.{_≡_, refl, sym, ap, ap₂, _∙_}
-use mathlib.Core.List.{List, _∷_, _++_}
+use mathlib.Core.List.{List, [], _∷_, _++_, append-assoc}
 use mathlib.Core.Logic.{inl}
 use mathlib.Core.Option.{none, some}
-use lib.ListN.{length, take, drop, set, take-append-drop}
+use lib.ListN.{length, take, drop, set, replicate, length-append, length-replicate, take-append-drop}
 use lib.Seq.{sets, sets-eq, length-take-le}
 use Rattle.le.specs.Field.{le, putLe, leadingWords, words, leWords}
-use Rattle.le.proofs.Bytes.{drop-sets-after}
+use Rattle.le.proofs.Bytes.{drop-sets-after, sets-append}
 use Rattle.le.proofs.Fields.{length-le, read-put, read-sets-apart}
-use Rattle.le.proofs.Runs.{AllBytes, words-step, leWords-words}
-use Rattle.vat.specs.Table.{limit, unused}
+use Rattle.le.proofs.Runs.{AllBytes, length-words, length-leWords, words-step, leWords-words}
+use Rattle.vat.specs.Table.{unused}
 use Rattle.volume.specs.declared.Volume.{Volume}
-use Rattle.volume.specs.Volume.{entriesLength, ledgerLength, unpack, pack, wrote, released, closed, committed}
+use Rattle.volume.specs.Volume.{places, entriesLength, ledgerLength, unpack, pack, filled, wrote, released, closed, committed}
 use Rattle.volume.proofs.State.{long-unpack, pack-put}
 
 -- the first bytes stored over themselves
@@ -27,7 +28,7 @@ same-stored k l h =
 -- the entries that the bytes hold stand there already
 entries-stand : (l : List ℕ) → AllBytes l → length l ≡ ledgerLength → sets l 0 (leWords (unpack l .entries)) ≡ l
 unfolding unpack
-entries-stand l a h = ap (sets l 0) (leWords-words limit l 0 a (omega arith)) ∙ same-stored (4 * limit) l (omega arith)
+entries-stand l a h = ap (sets l 0) (leWords-words places l 0 a (omega arith)) ∙ same-stored (4 * places) l (omega arith)
 
 pub fields-put : (v : Volume) (l : List ℕ) → AllBytes l → length l ≡ ledgerLength → v .entries ≡ unpack l .entries
     → sets (sets (sets (sets l entriesLength (le 4 (v .size))) (entriesLength + 4) (le 4 (v .recorded))) (entriesLength + 8) (le 4 (v .last))) (entriesLength + 12) (le 4 (v .mode)) ≡ pack v
@@ -58,11 +59,11 @@ words-put (suc k) (suc n) l at x h inside f =
     ∙ sym (ap (λ (ys : List ℕ). set ys (suc n) x) (words-step k l at))
 
 -- entry n put: the bytes hold the other entries, and this one
-pub entry-put : (l : List ℕ) (n x : ℕ) → n < limit → length l ≡ ledgerLength → x < 4294967296 → unpack (putLe 4 l (4 * n) x) .entries ≡ set (unpack l .entries) n x
+pub entry-put : (l : List ℕ) (n x : ℕ) → n < places → length l ≡ ledgerLength → x < 4294967296 → unpack (putLe 4 l (4 * n) x) .entries ≡ set (unpack l .entries) n x
 unfolding unpack
 entry-put l n x h long f =
     let at : 4 * n ≡ 0 + 4 * n = omega arith in
-    ap (λ (p : ℕ). words limit (putLe 4 l p x) 0) at ∙ words-put limit n l 0 x h (omega arith) f
+    ap (λ (p : ℕ). words places (putLe 4 l p x) 0) at ∙ words-put places n l 0 x h (omega arith) f
 
 -- ---- the entries after each call
 
@@ -85,3 +86,29 @@ entries-closed v = refl
 pub entries-committed : (v : Volume) (b : ℕ) → committed b v .entries ≡ v .entries
 unfolding committed
 entries-committed v b = refl
+
+-- ---- a map that stands at the beginning, shown
+
+words-append : (xs ys : List ℕ) → leWords (xs ++ ys) ≡ leWords xs ++ leWords ys
+unfolding leWords
+words-append [] ys = refl
+words-append (x ∷ xs) ys = ap (λ (l : List ℕ). le 4 x ++ l) (words-append xs ys) ∙ sym (append-assoc (le 4 x) (leWords xs) (leWords ys))
+
+-- n entries stand there, and all others are put as unused; then the fields
+pub shown-put : (l : List ℕ) (n b r mode : ℕ) → AllBytes l → length l ≡ ledgerLength → n ≤ places
+    → sets (sets (sets (sets (sets l (4 * n) (leWords (replicate (places - n) unused))) entriesLength (le 4 n)) (entriesLength + 4) (le 4 r)) (entriesLength + 8) (le 4 b)) (entriesLength + 12) (le 4 mode)
+    ≡ pack (filled (words n l 0) b r mode)
+unfolding filled
+shown-put l n b r mode a h few =
+    let map : List ℕ = words n l 0 in
+    let count : length map ≡ n = length-words n l 0 in
+    let rest : List ℕ = replicate (places - n) unused in
+    let v : Volume = record { entries = map ++ rest; size = n; recorded = r; last = b; mode = mode } in
+    let long : length (map ++ rest) ≡ places = omega (arith, length-append map rest, count, length-replicate {A = ℕ} (places - n) unused) in
+    let stand : sets l 0 (leWords (map ++ rest)) ≡ sets l (4 * n) (leWords rest) =
+    ap (sets l 0) (words-append map rest)
+    ∙ sets-append (leWords map) (leWords rest) l 0
+    ∙ ap₂ (λ (t : List ℕ) (k : ℕ). sets t k (leWords rest)) (ap (sets l 0) (leWords-words n l 0 a (omega arith)) ∙ same-stored (4 * n) l (omega arith)) (omega (arith, length-leWords map, count)) in
+    ap (λ (t : List ℕ). sets (sets (sets (sets t entriesLength (le 4 n)) (entriesLength + 4) (le 4 r)) (entriesLength + 8) (le 4 b)) (entriesLength + 12) (le 4 mode)) (sym stand)
+    ∙ pack-put v l long h
+    ∙ ap (λ (k : ℕ). pack (record { entries = map ++ replicate (places - k) unused; size = k; recorded = r; last = b; mode = mode })) (sym count)

@@ -1,4 +1,4 @@
--- The working state and its 1,848 bytes are inverse to each other, each call's state is well formed, and what it makes of the map.
+-- The working state and its 16,364 bytes are inverse to each other, each call's state is well formed, and what it makes of the map.
 -- Assumes nothing.
 use Prim.Native.Nat.{ℕ, zero, suc, _+_, _-_, _*_, _^_, _≤_, _<_}
 use native.Mathlib.Nat.{add-zero, pow-suc}
@@ -19,19 +19,19 @@ use Rattle.le.proofs.Fields.{length-le, read-le}
 use Rattle.le.proofs.Runs.{sets-all, Words, words-read, length-words, length-leWords, words-none, words-step, drop-on, AllBytes, byte-at, le-read, leWords-words}
 use Rattle.vat.specs.Table.{limit, unused}
 use Rattle.volume.specs.declared.Volume.{Volume}
-use Rattle.volume.specs.Volume.{entriesLength, ledgerLength, unpack, pack, mapOf, begun, filled, grown, wrote, released, closed, committed}
+use Rattle.volume.specs.Volume.{places, entriesLength, ledgerLength, unpack, pack, mapOf, begun, filled, grown, wrote, released, closed, committed}
 
--- every number of the state has 32 bits, and there are 458 entries
+-- every number of the state has 32 bits, and there are as many entries as places
 pub record Proper (v : Volume) : Type 0 where
-  pub long : length (v .entries) ≡ limit
+  pub long : length (v .entries) ≡ places
   pub entry-words : Words (v .entries)
   pub size-word : v .size < 4294967296
   pub recorded-word : v .recorded < 4294967296
   pub last-word : v .last < 4294967296
   pub mode-word : v .mode < 4294967296
 
--- with 458 entries the state fills its bytes, and its numbers can be read back
-module _ (v : Volume) (long : length (v .entries) ≡ limit) where
+-- with so many entries the state fills its bytes, and its numbers can be read back
+module _ (v : Volume) (long : length (v .entries) ≡ places) where
   packed-long : length (pack v) ≡ ledgerLength
   unfolding pack
   packed-long =
@@ -77,7 +77,7 @@ module _ (v : Volume) (ok : Proper v) where
   pub length-pack : length (pack v) ≡ ledgerLength
   length-pack = packed-long v (ok .long)
 
-  packed-entries : words limit (pack v) 0 ≡ v .entries
+  packed-entries : words places (pack v) 0 ≡ v .entries
   unfolding pack
   packed-entries =
       ap (λ (n : ℕ). words n (pack v) 0) (sym (ok .long))
@@ -105,11 +105,11 @@ parts l n h =
     let last : take 4 (drop (n + 4 + 4 + 4) l) ≡ drop (n + 4 + 4 + 4) l = take-all 4 (drop (n + 4 + 4 + 4) l) (omega (arith, length-drop (n + 4 + 4 + 4) l)) in
     rw (last, four-on l (n + 4 + 4), four-on l (n + 4), four-on l n) (take-append-drop n l)
 
--- and the other way round, for any 1,848 bytes
+-- and the other way round, for any 16,364 bytes
 pub pack-unpack : (l : List ℕ) → AllBytes l → length l ≡ ledgerLength → pack (unpack l) ≡ l
 unfolding pack unpack
 pack-unpack l a h =
-    joined (leWords-words limit l 0 a (omega arith)) (le-read 4 l entriesLength a (omega arith)) (le-read 4 l (entriesLength + 4) a (omega arith))
+    joined (leWords-words places l 0 a (omega arith)) (le-read 4 l entriesLength a (omega arith)) (le-read 4 l (entriesLength + 4) a (omega arith))
     (le-read 4 l (entriesLength + 8) a (omega arith)) (le-read 4 l (entriesLength + 12) a (omega arith))
     ∙ parts l entriesLength h
 
@@ -132,29 +132,29 @@ pub proper-begun : (r : ℕ) → r < 4294967296 → Proper (begun r)
 unfolding begun
 proper-begun r h =
     record {
-      long = length-replicate {A = ℕ} limit unused;
-      entry-words = words-replicate limit unused (lit< tt);
+      long = length-replicate {A = ℕ} places unused;
+      entry-words = words-replicate places unused (lit< tt);
       size-word = lit< tt;
       recorded-word = h;
       last-word = lit< tt;
       mode-word = lit< tt;
     }
 
-pub long-unpack : (l : List ℕ) → length (unpack l .entries) ≡ limit
+pub long-unpack : (l : List ℕ) → length (unpack l .entries) ≡ places
 unfolding unpack
-long-unpack l = length-words limit l 0
+long-unpack l = length-words places l 0
 
-pub long-filled : (map : List ℕ) (b r mode : ℕ) → length map ≤ limit → length (filled map b r mode .entries) ≡ limit
+pub long-filled : (map : List ℕ) (b r mode : ℕ) → length map ≤ limit → length (filled map b r mode .entries) ≡ places
 unfolding filled
 long-filled map b r mode few =
-    length-append map (replicate (limit - length map) unused) ∙ ap (λ (k : ℕ). length map + k) (length-replicate {A = ℕ} (limit - length map) unused) ∙ omega arith
+    length-append map (replicate (places - length map) unused) ∙ ap (λ (k : ℕ). length map + k) (length-replicate {A = ℕ} (places - length map) unused) ∙ omega arith
 
 pub proper-filled : (map : List ℕ) (b r mode : ℕ) → length map ≤ limit → Words map → b < 4294967296 → r < 4294967296 → mode < 4294967296 → Proper (filled map b r mode)
 unfolding filled
 proper-filled map b r mode few ok hb hr hm =
     record {
       long = long-filled map b r mode few;
-      entry-words = words-append map (replicate (limit - length map) unused) ok (words-replicate (limit - length map) unused (lit< tt));
+      entry-words = words-append map (replicate (places - length map) unused) ok (words-replicate (places - length map) unused (lit< tt));
       size-word = omega arith;
       recorded-word = hr;
       last-word = hb;
@@ -179,7 +179,7 @@ unfolding unpack
 proper-unpack l a =
     record {
       long = long-unpack l;
-      entry-words = words-of-bytes limit l 0 a;
+      entry-words = words-of-bytes places l 0 a;
       size-word = read-lt 4 l entriesLength a;
       recorded-word = read-lt 4 l (entriesLength + 4) a;
       last-word = read-lt 4 l (entriesLength + 8) a;
@@ -256,7 +256,7 @@ grownMap false xs n b = set xs n b
 
 pub map-filled : (map : List ℕ) (b r mode : ℕ) → mapOf (filled map b r mode) ≡ map
 unfolding filled
-map-filled map b r mode = take-at map (replicate (limit - length map) unused) (length map) refl
+map-filled map b r mode = take-at map (replicate (places - length map) unused) (length map) refl
 
 pub map-wrote : (v : Volume) (n b : ℕ) → n ≤ v .size → v .size ≤ length (v .entries) → n < length (v .entries) → mapOf (wrote (some n) b v) ≡ grownMap (eqb n (v .size)) (mapOf v) n b
 unfolding wrote
@@ -290,7 +290,7 @@ words-snoc (suc n) s at =
 
 -- ---- the state, put part by part
 
-pub pack-put : (v : Volume) (l : List ℕ) → length (v .entries) ≡ limit → length l ≡ ledgerLength
+pub pack-put : (v : Volume) (l : List ℕ) → length (v .entries) ≡ places → length l ≡ ledgerLength
     → sets (sets (sets (sets (sets l 0 (leWords (v .entries))) entriesLength (le 4 (v .size))) (entriesLength + 4) (le 4 (v .recorded))) (entriesLength + 8) (le 4 (v .last))) (entriesLength + 12) (le 4 (v .mode))
     ≡ pack v
 unfolding pack

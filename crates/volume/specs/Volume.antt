@@ -1,4 +1,4 @@
--- The volume's working state (document 01: the ledger): 1,848 bytes, what they say, when they fit a disc, and what each call makes of them.
+-- The volume's working state (document 01: the ledger): 16,364 bytes, what they say, when they fit a disc, and what each call makes of them.
 use Prim.Native.Nat.{ℕ, _+_, _-_, _*_}
 use mathlib.Core.Bool.{Bool, true, false, _&&_, _||_, not}
 use mathlib.Core.List.{List, _++_}
@@ -12,9 +12,12 @@ use Rattle.disc.specs.Disc.{Disc, recorded, kindAt}
 use Rattle.disc.specs.Tables.{tableAt}
 use Rattle.volume.specs.declared.Volume.{Volume}
 
--- "It is 1,848 bytes: 458 map entries, then size, recorded, last table, mode, each 32 bits."
+-- "The limit becomes 4,087 numbers and the ledger 16,364 bytes": as many map entries, "then size, recorded, last table, mode, each 32 bits".
+abbrev pub places : ℕ
+places = 4087
+
 abbrev pub entriesLength : ℕ
-entriesLength = 4 * limit
+entriesLength = 4 * places
 
 abbrev pub ledgerLength : ℕ
 ledgerLength = entriesLength + 16
@@ -22,7 +25,7 @@ ledgerLength = entriesLength + 16
 unfoldable pub unpack : List ℕ → Volume
 unpack l =
     record {
-      entries = words limit l 0;
+      entries = words places l 0;
       size = readLe 4 l entriesLength;
       recorded = readLe 4 l (entriesLength + 4);
       last = readLe 4 l (entriesLength + 8);
@@ -52,7 +55,7 @@ isUnused x = eqb x unused
 -- The state fits the disc: no clause of refusal 4 applies.
 unfoldable pub fits : Disc → Volume → Bool
 fits d v =
-    leb (v .size) limit  -- "size above 458"
+    leb (v .size) limit  -- "size above 458", which reads 4,087
     && (every isUnused (drop (v .size) (v .entries))  -- "an entry from size on not FFFFFFFF"
     && (every (unusedOrBelow (v .recorded)) (mapOf v)  -- "one below size neither FFFFFFFF nor below recorded"
     && (eqb (v .recorded) (recorded d)  -- "recorded differs from the disc's"
@@ -63,12 +66,12 @@ fits d v =
 
 -- **Begin**: "size 0, no last table, mode 0", on a disc with r sectors recorded.
 unfoldable pub begun : ℕ → Volume
-begun r = record { entries = replicate limit unused; size = 0; recorded = r; last = unused; mode = idle }
+begun r = record { entries = replicate places unused; size = 0; recorded = r; last = unused; mode = idle }
 
 -- **Mount** and **look back**: the map of the table at block b, "recorded as it is now, that table as last", and a mode.
 unfoldable pub filled : List ℕ → ℕ → ℕ → ℕ → Volume
 filled map b r mode =
-    record { entries = map ++ replicate (limit - length map) unused; size = length map; recorded = r; last = b; mode = mode }
+    record { entries = map ++ replicate (places - length map) unused; size = length map; recorded = r; last = b; mode = mode }
 
 -- **Write**, recorded at block b: of number n it "sets entry v to it. If v equals size, size grows by one." "Mode becomes 1." "Unnumbered writes are
 -- writes in all but the entry."

@@ -3,58 +3,48 @@ pub mod ledger;
 
 use vat::table::UNUSED;
 ghost use mathlib.Core.Path.{_≡_};
-ghost use mathlib.Core.List.{_++_};
 ghost use mathlib.Core.Option.{none, some};
-ghost use Prim.Native.Nat.{_+_, _-_, _*_, _≤_, _<_};
-ghost use lib.ListN.{length, set, replicate};
+ghost use Prim.Native.Nat.{_+_, _≤_, _<_};
+ghost use lib.ListN.{length, set};
 ghost use lib.Seq.{sets};
-ghost use Rattle.le.specs.Field.{le, words};
-ghost use Rattle.vat.specs.Table.{sectorLength, limit, unused, entryCount, entriesOf};
-ghost use Rattle.volume.specs.Volume.{entriesLength, ledgerLength, unpack, pack, begun, filled, wrote, released, closed, committed};
+ghost use Rattle.le.specs.Field.{le};
+ghost use Rattle.vat.specs.Table.{limit, unused};
+ghost use Rattle.volume.specs.Volume.{places, entriesLength, ledgerLength, unpack, pack, begun, wrote, released, closed, committed};
 
-// "458 map entries, then size, recorded, last table, mode, each 32 bits."
+// As many map entries as the ledger has places, "then size, recorded, last table, mode, each 32 bits."
 pub struct Volume {
-    pub entries: [u32; 458],
+    pub entries: [u32; 4087],
     pub size: u32,
     pub recorded: u32,
     pub last: u32,
     pub mode: u32,
 }
 
+// How many entries there are.
+pub const PLACES: usize = 4087;
+
 // Where size stands, behind the entries.
-pub const SIZE_AT: usize = 1832;
+pub const SIZE_AT: usize = 16348;
+
+// The ledger's length.
+pub const LEDGER: usize = 16364;
 
 // The entries, through a local array: a state by value inside the loop would be copied at each turn.
-fn load_entries(l: &[u8]) -> [u32; 458]
+fn load_entries(l: &[u8]) -> [u32; 4087]
     requires { ⌜ length (now l) ≡ ledgerLength ⌝ }
     ensures { λ r. ⌜ r ≡ unpack (now (l .entry)) .entries ⌝ }
 {
-    let mut entries = [0u32; 458];
+    let mut entries = [0u32; 4087];
     let mut i: usize = 0;
-    while i < 458 {
+    while i < PLACES {
         entries[i] = le::read32(l, 4 * i);
         i += 1;
     }
     entries
 }
 
-// The first n entries of a table, then unused ones.
-fn fill_entries(t: &[u8], n: u32) -> [u32; 458]
-    requires { ⌜ (4 * n ≤ length (now t)) × (n ≤ limit) ⌝ }
-    ensures { λ r. ⌜ r ≡ words n (now (t .entry)) 0 ++ replicate (limit - n) unused ⌝ }
-{
-    let mut entries = [UNUSED; 458];
-    let count = n as usize;
-    let mut i: usize = 0;
-    while i < count {
-        entries[i] = le::read32(t, 4 * i);
-        i += 1;
-    }
-    entries
-}
-
 // The four fields, each in its place behind the entries.
-fn put_fields(l: &mut [u8], size: u32, recorded: u32, last: u32, mode: u32)
+pub fn put_fields(l: &mut [u8], size: u32, recorded: u32, last: u32, mode: u32)
     requires { ⌜ length (now l) ≡ ledgerLength ⌝ }
     ensures { λ _. ⌜ now (l .exit) ≡ sets (sets (sets (sets (now (l .entry)) entriesLength (le 4 size)) (entriesLength + 4) (le 4 recorded)) (entriesLength + 8) (le 4 last)) (entriesLength + 12) (le 4 mode) ⌝ }
 {
@@ -97,7 +87,7 @@ impl Volume {
 
     // And entry n, where the others stand already.
     pub fn store_entry(self, l: &mut [u8], n: u32, entry: u32)
-        requires { ⌜ (length (now l) ≡ ledgerLength) × (n < limit) × (self .entries ≡ set (unpack (now l) .entries) n entry) ⌝ }
+        requires { ⌜ (length (now l) ≡ ledgerLength) × (n < places) × (self .entries ≡ set (unpack (now l) .entries) n entry) ⌝ }
         ensures { λ _. ⌜ now (l .exit) ≡ pack self ⌝ }
     {
         le::put32(l, 4 * (n as usize), entry);
@@ -108,7 +98,7 @@ impl Volume {
         ensures { λ r. ⌜ r ≡ begun recorded ⌝ }
     {
         Volume {
-            entries: [UNUSED; 458],
+            entries: [UNUSED; 4087],
             size: 0,
             recorded: recorded,
             last: UNUSED,
@@ -116,23 +106,8 @@ impl Volume {
         }
     }
 
-    // The state that shows the table of the bytes t, which is at block b.
-    pub fn filled(t: &[u8], b: u32, recorded: u32, mode: u32) -> Volume
-        requires { ⌜ (length (now t) < sectorLength) × (entryCount (now t) ≤ limit) ⌝ }
-        ensures { λ r. ⌜ r ≡ filled (entriesOf (now (t .entry))) b recorded mode ⌝ }
-    {
-        let n = vat::table::entry_count(t);
-        Volume {
-            entries: fill_entries(t, n),
-            size: n,
-            recorded: recorded,
-            last: b,
-            mode: mode,
-        }
-    }
-
     pub fn wrote(mut self, n: u32, b: u32) -> Volume
-        requires { ⌜ (n < limit) × (b < unused) × (self .size ≤ limit) ⌝ }
+        requires { ⌜ (n < places) × (b < unused) × (self .size ≤ limit) ⌝ }
         ensures { λ r. ⌜ r ≡ wrote (some n) b self ⌝ }
     {
         if n == self.size {
@@ -157,7 +132,7 @@ impl Volume {
     }
 
     pub fn released(mut self, n: u32) -> Volume
-        requires { ⌜ n < limit ⌝ }
+        requires { ⌜ n < places ⌝ }
         ensures { λ r. ⌜ r ≡ released n self ⌝ }
     {
         let at = n as usize;

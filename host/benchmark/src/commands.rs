@@ -8,13 +8,16 @@ use std::path::{Path, PathBuf};
 use std::process::{self, Command, Stdio};
 use std::time::{Duration, Instant};
 
-use station::{LEDGER, LIMIT, SECTOR};
+use station::{LEDGER, SECTOR};
 
 use crate::report::thousands;
 
 /// How often each command is run: as often as half of the smallest disc allows, of
 /// which a write leaves 264 sectors.
 const ROUNDS: usize = 12;
+
+/// Numbers in use.
+const NUMBERS: u32 = 458;
 
 /// Bytes of the run that is stored and viewed.
 const RUN: usize = 65_536;
@@ -179,7 +182,7 @@ fn store_half_full(folder: &Path, sectors: usize) -> io::Result<()> {
     let refused = |refusal: station::Refusal| io::Error::other(refusal.to_string());
     station::begin(image, kinds, roles, ledger).map_err(refused)?;
     let half = sectors / 2;
-    for v in (0..LIMIT).cycle().take(half - 2) {
+    for v in (0..NUMBERS).cycle().take(half - 2) {
         station::write(image, kinds, roles, ledger, v, &[0x5A; SECTOR]).map_err(refused)?;
     }
     for _ in 0..2 {

@@ -8,6 +8,7 @@
 
 mod buffers;
 mod commands;
+mod discs;
 mod machine;
 mod measure;
 mod report;
@@ -32,10 +33,13 @@ const HOW: &str = "\
 Both versions are called on the same prepared buffers in one run, in turn (core, tuned, core, tuned ..), through
 function pointers. Before a row is timed, both must give the same answers and leave the same bytes of image, kinds,
 roles, ledger, block, time told and part of a run viewed. A round is one batch of each, of up to 64 calls; one of close session, since it closes the
-disc. Ledger and kinds are set back between batches, outside the measured time. The bytes that a call reads were read in
+disc. Ledger, kinds and the roles of blocks let go are set back between batches, outside the measured time. The bytes that a call reads were read in
 the round before. Unless a row says otherwise, half of the disc is recorded, the ledger has 458 numbers in use and the
 last table has 458 entries, so that its CRC of 2,028 bytes is part of each call that reads the ledger. `no table yet`:
-the ledger has no last table. A number written was in use, so that a write and a release let its block go; `named twice`:
+the ledger has no last table. `4,087 numbers`: ledger and last table have so many, all in use but on the disc of 1,000 sectors, where 491
+are; the table lies in eight own sectors before its ICB. A commit of them names seven again and records the eighth; `all
+recorded`: before each call one entry in each own sector is set, within the measured time, so that none is named again. `all
+saves of 4,087 numbers`: the disc is full of such commits. A number written was in use, so that a write and a release let its block go; `named twice`:
 another number has that block too; `unused`: the number had none. `image swept`: the whole image was read since the round before, ending at block 0. Before
 each write with links, four bytes of the ledger are set to mode 0 within the measured time. Tables of `dirty by all`, `all
 tables` and `look back to the first` have no entries: a CRC of 196 bytes. A view is of a number whose block is a run's entry; it fills
@@ -59,7 +63,8 @@ A clean mount less `time of 0`, which finds the same table and makes no roles; m
 const EVERY_SECTOR: &str = "\
 ## Over every recorded sector
 
-GB/s counts 2,048 bytes a sector, of which a search and a scan read the first 64 and a walk the first 256.
+GB/s counts 2,048 bytes a sector, of which a search and a scan read the first 64, a walk the first 256, and both of a
+table in own sectors these too, however many tables name them.
 ";
 
 const GROWTH: &str = "\

@@ -1,11 +1,13 @@
 //! The measured calls: what each is prepared with, and one call of its batch.
 
-use crate::buffers::{Buffers, HIGHEST, STAMP};
-use crate::tuned::{LIMIT, MOST_VIEWED, NONE, SECTOR};
+use crate::buffers::{Buffers, BATCH, HIGHEST, STAMP};
+use crate::discs::{
+    all_plain, all_saves, all_vats, blank, clean, clean_large, clean_swept, dirty_by_all,
+    dirty_by_one, long_run, many_extents, one_extent, open, open_empty, open_large, open_twice,
+    open_unused, open_without_vat, short_run, swept, two_large_vats, two_vats,
+};
+use crate::tuned::{MOST_VIEWED, SECTOR};
 use crate::version::Version;
-
-/// Calls of a batch that the clock is read once for.
-const BATCH: usize = 64;
 
 /// Sectors that a batch of several calls may record: half of the smallest disc,
 /// less the reserve that its last write leaves.
@@ -89,35 +91,46 @@ pub const CLOSE_PACKET: &str = "close packet, no table yet";
 pub const MOUNT: &str = "mount, clean";
 pub const TIME_OF: &str = "time of 0";
 
-pub static ROWS: [Row; 34] = [
+pub static ROWS: [Row; 45] = [
     row("begin, blank disc", blank, begin),
     row("begin, all data, no table", all_plain, begin).over_every_sector(),
     row(MOUNT, clean, mount).over_half_of_them(),
     row("mount, clean, image swept", clean_swept, mount).over_half_of_them(),
+    row("mount, clean, 4,087 numbers", clean_large, mount).over_half_of_them(),
     row("mount, dirty by one", dirty_by_one, mount).over_half_of_them(),
     row("mount, dirty by all", dirty_by_all, mount).over_every_sector(),
     row("mount, dirty by all, image swept", swept, mount).over_every_sector(),
     row("mount, all tables", all_vats, mount).over_every_sector(),
+    row("mount, all saves of 4,087 numbers", all_saves, mount).over_every_sector(),
     row("write, mode 1, no table yet", open_without_vat, write).recording(1),
     row("write, mode 1", open, write).recording(1),
     row("write, mode 1, named twice", open_twice, write).recording(1),
     row("write, mode 1, unused", open_unused, write).recording(1),
+    row("write, mode 1, 4,087 numbers", open_large, write).recording(1),
     row("write, mode 0 with links", open, write_links).recording(8),
     row("write unnumbered, mode 1", open, write_unnumbered).recording(1),
     row("release, no table yet", open_without_vat, release),
     row("release", open, release),
     row("release, named twice", open_twice, release),
+    row("release, 4,087 numbers", open_large, release),
     row(CLOSE_PACKET, open_without_vat, close_packet),
     row("close packet", open, close_packet),
+    row("close packet, 4,087 numbers", open_large, close_packet),
     row("commit, 0 numbers", open_empty, commit).recording(1),
     row("commit, 458 numbers", open, commit).recording(1),
+    row("commit, 4,087 numbers", open_large, commit).recording(2),
+    row("commit, 4,087, all recorded", open_large, commit_all).recording(9),
     row("commit at, 458 numbers", open, commit_at).recording(1),
     row("read, no table yet", open_without_vat, read),
     row("read", open, read),
+    row("read, 4,087 numbers", open_large, read),
     row("look back 1", two_vats, look_back_one).over_half_of_them(),
+    row("look back 1, 4,087 numbers", two_large_vats, look_back_one).over_half_of_them(),
     row("look back to the first", all_vats, look_back_all).over_every_sector(),
     row(TIME_OF, clean, time_of_newest),
+    row("time of 0, 4,087 numbers", clean_large, time_of_newest),
     row("close session", open, close_session).recording(257),
+    row("close session, 4,087 numbers", open_large, close_session).recording(257),
     row("view 4,096, 1 extent", one_extent, view_some),
     row("view 65,536, 1 extent", one_extent, view_most),
     row("view 4,096, 100 extents", many_extents, view_some),
@@ -125,132 +138,6 @@ pub static ROWS: [Row; 34] = [
     row("view 4,096 of 32 sectors", short_run, view_some),
     row("view 4,096 of nearly all sectors", long_run, view_some),
 ];
-
-fn blank(buffers: &mut Buffers) {
-    buffers.record_plain(0);
-}
-
-fn all_plain(buffers: &mut Buffers) {
-    buffers.record_plain(buffers.sectors());
-}
-
-/// Half of the disc is recorded, and its last sector is a table of 458 numbers.
-fn clean(buffers: &mut Buffers) {
-    let half = buffers.sectors() / 2;
-    buffers.record_plain(half);
-    buffers.plant_vat(half - 1, LIMIT, NONE);
-}
-
-/// The same with the caches full of other sectors.
-fn clean_swept(buffers: &mut Buffers) {
-    clean(buffers);
-    buffers.sweep();
-}
-
-fn dirty_by_one(buffers: &mut Buffers) {
-    let half = buffers.sectors() / 2;
-    buffers.record_plain(half);
-    buffers.plant_vat(half - 2, LIMIT, NONE);
-}
-
-/// The only table, of no numbers, is at block 0, and every sector is recorded.
-fn dirty_by_all(buffers: &mut Buffers) {
-    all_plain(buffers);
-    buffers.plant_vat(0, 0, NONE);
-}
-
-/// The same with the caches full of other sectors.
-fn swept(buffers: &mut Buffers) {
-    dirty_by_all(buffers);
-    buffers.sweep();
-}
-
-/// A packet is open, and the last table is the last sector.
-fn open(buffers: &mut Buffers) {
-    clean(buffers);
-    buffers.mount(1);
-}
-
-/// The same, and each block is that of two numbers.
-fn open_twice(buffers: &mut Buffers) {
-    open(buffers);
-    buffers.edit_map(|v, map| map[v] = map[v % (LIMIT / 2)]);
-}
-
-/// The same, and the numbers that are written are not in use.
-fn open_unused(buffers: &mut Buffers) {
-    open(buffers);
-    buffers.edit_map(|v, map| {
-        if v < BATCH {
-            map[v] = NONE.to_le_bytes();
-        }
-    });
-}
-
-fn open_without_vat(buffers: &mut Buffers) {
-    open(buffers);
-    buffers.forget_last_vat();
-}
-
-/// The same with a table of no numbers.
-fn open_empty(buffers: &mut Buffers) {
-    let half = buffers.sectors() / 2;
-    buffers.record_plain(half);
-    buffers.plant_vat(half - 1, 0, NONE);
-    buffers.mount(1);
-}
-
-/// Two tables of 458 numbers, the newest in the last sector.
-fn two_vats(buffers: &mut Buffers) {
-    let half = buffers.sectors() / 2;
-    clean(buffers);
-    buffers.plant_vat(half / 2, LIMIT, NONE);
-    buffers.plant_vat(half - 1, LIMIT, half as u32 / 2);
-}
-
-/// Every sector is a table of no numbers that names the one before.
-fn all_vats(buffers: &mut Buffers) {
-    all_plain(buffers);
-    buffers.plant_vat(0, 0, NONE);
-    for block in 1..buffers.sectors() {
-        buffers.plant_vat(block, 0, block as u32 - 1);
-    }
-}
-
-/// Half of the disc is recorded, and a number is the entry of a run of 300 sectors.
-fn one_extent(buffers: &mut Buffers) {
-    run_in_half(buffers, 1);
-}
-
-/// The same in a hundred parts, of three sectors each.
-fn many_extents(buffers: &mut Buffers) {
-    run_in_half(buffers, 100);
-}
-
-fn run_in_half(buffers: &mut Buffers, extents: usize) {
-    clean(buffers);
-    let table = buffers.sectors() / 2 - 1;
-    buffers.plant_entry(table, extents, 300 / extents);
-    buffers.mount(0);
-}
-
-/// The disc is full, and a number is the entry of a run in one extent.
-fn short_run(buffers: &mut Buffers) {
-    run_on_a_full_disc(buffers, 32);
-}
-
-/// The same, over 350,000 of 360,000 sectors.
-fn long_run(buffers: &mut Buffers) {
-    run_on_a_full_disc(buffers, buffers.sectors() / 36 * 35);
-}
-
-fn run_on_a_full_disc(buffers: &mut Buffers, sectors: usize) {
-    all_plain(buffers);
-    let table = buffers.sectors() - 1;
-    buffers.plant_vat(table, LIMIT, NONE);
-    buffers.plant_entry(table, 1, sectors);
-    buffers.mount(0);
-}
 
 fn begin(version: &Version, b: &mut Buffers, _: usize) -> u64 {
     (version.begin)(&b.image, &b.kinds, &mut b.roles, &mut b.ledger)
@@ -305,7 +192,14 @@ fn commit(version: &Version, b: &mut Buffers, _: usize) -> u64 {
     (version.commit)(&mut b.image, &mut b.kinds, &mut b.roles, &mut b.ledger)
 }
 
-/// The same with a timestamp.
+/// One entry in each own sector is set before each call of the batch, within the
+/// measured time, so that none is named again.
+fn commit_all(version: &Version, b: &mut Buffers, i: usize) -> u64 {
+    b.change_each_sector(i as u32 + 1);
+    commit(version, b, i)
+}
+
+/// A commit with a timestamp.
 fn commit_at(version: &Version, b: &mut Buffers, _: usize) -> u64 {
     (version.commit_at)(
         &mut b.image,
@@ -336,7 +230,7 @@ fn time_of_newest(version: &Version, b: &mut Buffers, _: usize) -> u64 {
     (version.time_of)(&b.image, &b.kinds, &b.ledger, 0, &mut b.answer)
 }
 
-/// In an open packet: the pointer, zeros and a table of 458 numbers.
+/// In an open packet: the pointer, zeros and a table.
 fn close_session(version: &Version, b: &mut Buffers, _: usize) -> u64 {
     let (length, start) = (32_768, 257);
     let (image, kinds, roles) = (&mut b.image, &mut b.kinds, &mut b.roles);

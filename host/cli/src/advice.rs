@@ -58,7 +58,7 @@ pub fn of(refusal: Refusal) -> &'static str {
         }
         Refusal::AboveSize => "Write the size itself as the next new number, or one below it.",
         Refusal::AboveLimit => {
-            "Write the size itself as the next new number, or one below it, 457 at most; where all are taken, take another disc."
+            "Write the size itself as the next new number, or one below it; where all are taken, take another disc."
         }
         Refusal::NoRoom => {
             "Commit what is not saved yet, or close the disc if there is room for that, and take another one; the last finished save stays."

@@ -6,6 +6,7 @@ use crate::failure::{Done, Failure};
 use crate::finding::seems_another_decks;
 use crate::form::counted;
 use crate::names::shown;
+use crate::older;
 use crate::session::Session;
 
 /// Of a disc that the core would begin. Where it is begun, and nothing written since,
@@ -21,7 +22,9 @@ pub fn check(given: &Arguments, session: &Session) -> Done {
     let anyway = format!("type 'station begin {name} --anyway'");
     let hides = "our first save would hide the deck's files from every reader";
     let (image, kinds) = session.disc.lent();
-    Err(Failure::Unsure(if session.is_kept_up() {
+    Err(Failure::Unsure(if let Some(older) = older::told(session) {
+        format!("{name} has {sectors} and no save. {older} To begin it here, {anyway}.")
+    } else if session.is_kept_up() {
         format!(
             "{name} has {sectors} and no save; commit saves what is written here. \
              To leave it out, {anyway}."

@@ -89,12 +89,12 @@ pub fn run(words: &[OsString], around: &mut Surroundings) -> Done {
         word @ ("-h" | "--help" | "-V" | "--version") if !rest.is_empty() => {
             Err(Failure::Usage(format!("{word} stands alone"), ""))
         }
-        "-h" | "--help" => say(around, help::PROGRAM),
+        "-h" | "--help" => say(around, help::told(help::PROGRAM)),
         "-V" | "--version" => say(around, concat!("station ", env!("CARGO_PKG_VERSION"), "\n")),
         name => {
             let command = find(name)?;
             match parse(command.syntax, rest)? {
-                Asked::Help => say(around, command.syntax.help),
+                Asked::Help => say(around, help::told(command.syntax.help)),
                 Asked::Run(given) => (command.run)(&given, around),
             }
         }

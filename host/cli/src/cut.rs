@@ -8,6 +8,7 @@ use crate::arguments::{parse, Arguments, Asked};
 use crate::closing::{announce, Closing};
 use crate::failure::{Done, Failure};
 use crate::form::{counted, number};
+use crate::help;
 use crate::kinds::UNREADABLE;
 use crate::session::{Lent, Session};
 use crate::storing::Storing;
@@ -56,7 +57,7 @@ pub fn cut(given: &Arguments, around: &mut Surroundings) -> Done {
     let torn = given.has("--torn");
     let command = cut_command(given)?;
     let inner = match parse(command, given.rest())? {
-        Asked::Help => return say(around, command.help),
+        Asked::Help => return say(around, help::told(command.help)),
         Asked::Run(inner) => inner,
     };
     let mut call = Call::of(command.name, &inner, around)?;

@@ -37,6 +37,14 @@ pub struct Save {
     pub back: usize,
 }
 
+/// An own sector of the tables of some saves, and how many steps back the newest and the
+/// oldest of these are.
+pub struct Own {
+    pub block: usize,
+    pub newest: usize,
+    pub oldest: usize,
+}
+
 /// What is drawn of a disc.
 pub struct Plan<'a> {
     /// The name of its file.
@@ -46,6 +54,8 @@ pub struct Plan<'a> {
     pub in_use: &'a InUse,
     /// Newest first.
     pub saves: &'a [Save],
+    /// By their blocks, ascending: table sectors, and no save's table itself.
+    pub own: &'a [Own],
     /// What is told of the whole, or nothing.
     pub note: &'a str,
 }

@@ -6,6 +6,7 @@ use std::path::Path;
 use station::{tag_checksum, LEDGER, SECTOR};
 
 use crate::form::counted;
+use crate::icb::FILE_TYPE;
 use crate::kinds::DATA;
 use crate::ledger::Map;
 use crate::names::shown;
@@ -18,8 +19,8 @@ const MOST_RECOGNISED: usize = 16;
 /// location is wrong.
 const MOST_ASKED: usize = 8;
 
-/// "the text `*UDF Virtual Alloc Tbl`"
-const TABLE_NAME: &[u8] = b"*UDF Virtual Alloc Tbl";
+/// "file type 0" of a table.
+const TABLE: u8 = 0;
 
 /// Tag identifiers (ECMA-167 3/7.2.1 and 4/7.2.1).
 const FILE_ENTRY: u16 = 261;
@@ -88,11 +89,8 @@ fn other_start(image: &[u8]) -> Option<(usize, Map)> {
     let sectors = image.chunks_exact(SECTOR).enumerate().rev();
     let tables = sectors.filter_map(|(place, sector)| {
         let tag = Tag::of(sector).filter(|tag| tag.identifier == FILE_ENTRY)?;
-        let named = sector
-            .windows(TABLE_NAME.len())
-            .any(|text| text == TABLE_NAME);
         let start = place.checked_sub(tag.location as usize)?;
-        named.then_some(start)
+        (sector[FILE_TYPE] == TABLE).then_some(start)
     });
     let mut asked = tables.take(MOST_ASKED);
     asked.find_map(|start| Some((start, newest_save(image, start)?)))

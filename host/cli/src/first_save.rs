@@ -3,6 +3,7 @@
 use crate::form::counted;
 use crate::ledger::{in_words, recorded, Map};
 use crate::names::shown;
+use crate::older;
 use crate::session::{LedgerFile, Session};
 
 /// Why no save is found, and what to do: nothing that loses what a commit would save.
@@ -18,6 +19,9 @@ pub fn no_save(session: &Session) -> String {
             counted(used, "recorded sector")
         ),
     };
+    if let Some(older) = older::told(session) {
+        return format!("{found}. {older}");
+    }
     match (used, file, written.as_deref()) {
         (_, LedgerFile::Foreign, _) => format!(
             "{found}, and the ledger beside it was kept for another disc file, or is damaged. If a \

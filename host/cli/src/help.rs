@@ -1,4 +1,11 @@
-//! The texts of `--help`.
+//! The texts of `--help`. LAST stands for the last number that a disc has.
+
+use station::LIMIT;
+
+/// As it is told.
+pub fn told(text: &str) -> String {
+    text.replace("LAST", &(LIMIT - 1).to_string())
+}
 
 pub const PROGRAM: &str = "\
 station: a write-once disc kept in a file, with numbered blocks, runs and saves
@@ -75,8 +82,8 @@ pub const WRITE: &str = "\
 Usage: station write DISC V [--from FILE] [--pad]
 
 Records one block of 2048 bytes as number V, from FILE or from standard input,
-and tells where. V is a number below the size, or the size itself, 457 at most.
-Refused with 13 if V is above 457, else with 12 if it is above the size. The
+and tells where. V is a number below the size, or the size itself, LAST at most.
+Refused with 13 if V is above LAST, else with 12 if it is above the size. The
 block is safe from a power cut only after a commit.
 
   --from FILE   the block's bytes, 1 at least; - is standard input
@@ -116,9 +123,11 @@ Usage: station commit DISC [--at TIME | --now]
 
 Saves: records the table sector, and tells its block, how many numbers are in
 use, and which of them are new since the last save. From then on a mount shows
-this save, whatever is cut later. With a time, the save carries it from
-then on, and it is told too. Refused with 16 if no save can carry it: it is a
-real date from 1970 to 2099, up to 23:59:59, in a zone of up to 24:00.
+this save, whatever is cut later. A table of more than 458 numbers has 1 to 8
+own sectors; those that changed since the last save are recorded before it, one
+at least. With a time, the save carries it from then on, and it is told too.
+Refused with 16 if no save can carry it: it is a real date from 1970 to 2099, up
+to 23:59:59, in a zone of up to 24:00.
 
   --at TIME   the time on a clock and its zone, as 2026-11-15T14:05+01:00. The
               zone is how far the clock is ahead of UTC (+) or behind it (-);
@@ -134,10 +143,11 @@ Usage: station close-session DISC --main LENGTH,LOCATION
 Saves, and closes the disc: plain CD-ROM drives read only closed ones. After
 this nothing can be recorded on it any more. The command says so before it
 records, and does not ask; try it on a copy first. Before the table it records
-a pointer to the two extents below and 255 sectors of zeros, and it tells where
-pointer and table stand. Refused with 17 if the disc is closed already, with 18
-if N is above 400000, and with 14 if there is no room: a closing takes 257
-sectors, and 7 more where links come first.
+a pointer to the two extents below and 255 sectors of zeros, the last of which
+give way to own sectors of the table, and it tells where pointer and table
+stand. Refused with 17 if the disc is closed already, with 18 if N is above
+400000, and with 14 if there is no room: a closing takes 257 sectors, and 7 more
+where links come first.
 
   --main LENGTH,LOCATION      the main Volume Descriptor Sequence: its length
                               in bytes, and its first sector on the disc
@@ -199,7 +209,7 @@ save carries no time. Changes nothing.
 ";
 
 pub const LIST: &str = "\
-Usage: station list DISC [--times]
+Usage: station list DISC [--times] [--long]
 
 Every save, newest first: steps back, the table's block, the size, and how many
 numbers are in use. The last line is clean, dirty, or broken if the saves
@@ -208,6 +218,10 @@ and the number. If the disc is closed, standard error says so. Changes nothing.
 
   --times   also when each save was made: on the clock that it carries, and in
             UTC; 'no zone' where none was given, 'no time' where it has none
+  --long    also the own sectors of each save's table, which one of more than
+            458 numbers has: how many, how many of them were recorded with the
+            save, how many named again since they had not changed, and their
+            blocks
 ";
 
 pub const STATUS: &str = "\
@@ -241,7 +255,8 @@ nothing.
                      mount, also what the save does not name, and parts of runs
   without a number   parts of runs, and those of a closing before its table,
                      recorded since the last begin, mount or look-back
-  table              one for each save
+  table              one for each save, and the own sectors of one with more
+                     than 458 numbers
   link               seven where recording goes on after a close or a mount
   unreadable         left by a power cut, or damaged
   blank              not recorded yet

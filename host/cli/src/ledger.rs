@@ -1,20 +1,24 @@
-//! What the ledger says: "458 map entries, then size, recorded, last table,
-//! mode, each 32 bits", little-endian.
+//! What the ledger says: the map's entries, "then size, recorded, last table, mode",
+//! 32 bits each, little-endian. A ledger of an older edition has fewer entries.
 
 use std::fmt;
 
-use station::{LIMIT, UNUSED};
+use station::UNUSED;
 
-/// "458 map entries, then size, recorded, last table, mode": where each of the last
-/// four stands, in words.
-const SIZE: usize = LIMIT as usize;
-const RECORDED: usize = SIZE + 1;
-const LAST_TABLE: usize = SIZE + 2;
-const MODE: usize = SIZE + 3;
+use crate::form::number;
+
+/// Where the four behind the entries stand, in words before the ledger's end.
+const SIZE: usize = 4;
+const RECORDED: usize = 3;
+const LAST_TABLE: usize = 2;
+const MODE: usize = 1;
 
 /// "1 (packet open) or 2 (looking only)"
 const PACKET_OPEN: u32 = 1;
 const LOOKING: u32 = 2;
+
+/// The most ranges of numbers that are told where nobody needs all of them.
+const MOST_TOLD: usize = 20;
 
 /// The map of a ledger, and what stands behind it.
 pub struct Map {
@@ -37,25 +41,41 @@ fn word(ledger: &[u8], place: usize) -> u32 {
     u32::from_le_bytes([bytes[0], bytes[1], bytes[2], bytes[3]])
 }
 
+/// The word so many words before its end.
+fn behind_entries(ledger: &[u8], place: usize) -> u32 {
+    word(ledger, ledger.len() / 4 - place)
+}
+
+/// The block that the number names, if it is in use.
+pub fn block_of(ledger: &[u8], v: u32) -> Option<u32> {
+    let below_size = v < behind_entries(ledger, SIZE).min(limit(ledger));
+    let entry = below_size.then(|| word(ledger, v as usize));
+    entry.filter(|block| *block != UNUSED)
+}
+
+/// How many entries it has: no number is at or above that, whatever a file says.
+fn limit(ledger: &[u8]) -> u32 {
+    (ledger.len() / 4 - SIZE) as u32
+}
+
 /// How many sectors of the disc are recorded, by the ledger.
 pub fn recorded(ledger: &[u8]) -> usize {
-    word(ledger, RECORDED) as usize
+    behind_entries(ledger, RECORDED) as usize
 }
 
 impl Map {
-    /// Of a whole ledger. No number is at or above the limit, whatever a file says.
+    /// Of a whole ledger.
     pub fn of(ledger: &[u8]) -> Map {
-        let size = word(ledger, SIZE).min(LIMIT);
-        let block = |v| Some(word(ledger, v as usize)).filter(|block| *block != UNUSED);
-        let blocks: Vec<Option<u32>> = (0..size).map(block).collect();
+        let size = behind_entries(ledger, SIZE).min(limit(ledger));
+        let blocks: Vec<Option<u32>> = (0..size).map(|v| block_of(ledger, v)).collect();
         let in_use = |v: &u32| blocks[*v as usize].is_some();
         Map {
             size,
             used: (0..size).filter(in_use).collect(),
             blocks,
-            table: word(ledger, LAST_TABLE),
-            packet_open: word(ledger, MODE) == PACKET_OPEN,
-            looking: word(ledger, MODE) == LOOKING,
+            table: behind_entries(ledger, LAST_TABLE),
+            packet_open: behind_entries(ledger, MODE) == PACKET_OPEN,
+            looking: behind_entries(ledger, MODE) == LOOKING,
         }
     }
 
@@ -81,26 +101,62 @@ impl Map {
 /// For example `size 9, 4 in use: 0, 3 to 5`.
 impl fmt::Display for Map {
     fn fmt(&self, out: &mut fmt::Formatter) -> fmt::Result {
-        write!(out, "size {}, {} in use", self.size, self.used.len())?;
+        let (size, used) = (self.size as usize, self.used.len());
+        write!(out, "size {}, {} in use", number(size), number(used))?;
         match self.used.is_empty() {
             true => Ok(()),
-            false => write!(out, ": {}", in_words(&self.used)),
+            false => write!(out, ": {}", briefly(&self.used)),
         }
     }
 }
 
-/// Ascending numbers, for example `0, 3 to 5`.
+/// Numbers, or blocks by their places, for example `0, 3 to 5`.
 pub fn in_words(numbers: &[u32]) -> String {
-    let mut runs: Vec<(u32, u32)> = Vec::new();
+    ranges(numbers).join(", ")
+}
+
+/// The same; of many ranges the first ones and the last, where `contents` tells them all.
+pub fn briefly(numbers: &[u32]) -> String {
+    let mut ranges = ranges(numbers);
+    if ranges.len() > MOST_TOLD {
+        ranges.splice(MOST_TOLD - 1..ranges.len() - 1, ["...".into()]);
+    }
+    ranges.join(", ")
+}
+
+fn ranges(numbers: &[u32]) -> Vec<String> {
+    let mut ranges: Vec<(u32, u32)> = Vec::new();
     for v in numbers {
-        match runs.last_mut() {
+        match ranges.last_mut() {
             Some((_, last)) if *last + 1 == *v => *last = *v,
-            _ => runs.push((*v, *v)),
+            _ => ranges.push((*v, *v)),
         }
     }
-    let words = runs.into_iter().map(|(first, last)| match last - first {
+    let words = ranges.into_iter().map(|(first, last)| match last - first {
         0 => first.to_string(),
         _ => format!("{first} to {last}"),
     });
-    words.collect::<Vec<String>>().join(", ")
+    words.collect()
+}
+
+#[cfg(test)]
+mod tests {
+    use super::{briefly, in_words, MOST_TOLD};
+
+    #[test]
+    fn numbers_in_words() {
+        assert_eq!(in_words(&[]), "");
+        assert_eq!(in_words(&[0, 3, 4, 5, 7]), "0, 3 to 5, 7");
+        assert_eq!(in_words(&[9, 2, 3, 3]), "9, 2 to 3, 3");
+    }
+
+    #[test]
+    fn many_numbers_are_shortened() {
+        let even = |count: usize| (0..count as u32).map(|v| 2 * v).collect::<Vec<u32>>();
+        let most = even(MOST_TOLD);
+        assert_eq!(briefly(&most), in_words(&most));
+        let more = briefly(&even(MOST_TOLD + 1));
+        assert!(more.starts_with("0, 2, 4, "), "{more}");
+        assert!(more.ends_with(", 36, ..., 40"), "{more}");
+    }
 }

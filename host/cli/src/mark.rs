@@ -7,9 +7,10 @@
 //! over what the ledger relies on, and where the disc beside it gives another sum, the
 //! ledger counts as missing.
 
-use station::{LEDGER, SECTOR};
+use station::LEDGER;
 
 use crate::form::Disc;
+use crate::icb;
 use crate::kinds::DATA;
 use crate::ledger::{recorded, Map};
 
@@ -19,6 +20,9 @@ const MARK: usize = 8;
 /// Bytes of a whole ledger file.
 pub const MARKED: usize = LEDGER + MARK;
 
+/// Bytes of the ledger of the editions before, whose numbers ended at 457.
+const OLDER: usize = 1848;
+
 /// The ledger file of this disc and this ledger.
 pub fn marked(disc: &Disc, ledger: &[u8]) -> Vec<u8> {
     [ledger, &mark(disc, ledger)].concat()
@@ -27,28 +31,47 @@ pub fn marked(disc: &Disc, ledger: &[u8]) -> Vec<u8> {
 /// The ledger in a file, if it was kept for this disc: as it is now, or as it was when
 /// fewer sectors were recorded, which stay as they were.
 pub fn belonging<'a>(disc: &Disc, file: &'a [u8]) -> Option<&'a [u8]> {
-    let (ledger, behind) = file.split_at_checked(LEDGER)?;
+    kept_for(disc, file, LEDGER)
+}
+
+/// The same, if an older edition kept it: it names blocks as they are, but no call can be
+/// lent it.
+pub fn older<'a>(disc: &Disc, file: &'a [u8]) -> Option<&'a [u8]> {
+    kept_for(disc, file, OLDER)
+}
+
+fn kept_for<'a>(disc: &Disc, file: &'a [u8], length: usize) -> Option<&'a [u8]> {
+    let (ledger, behind) = file.split_at_checked(length)?;
     (behind == mark(disc, ledger)).then_some(ledger)
+}
+
+/// The ledger in a file that has a mark.
+pub fn unmarked(file: &[u8]) -> &[u8] {
+    &file[..file.len() - MARK]
 }
 
 /// Summed are the ledger itself, how many sectors the disc has, the kinds of those that
 /// the ledger knows as recorded, and the bytes of the sectors that it relies on: the
-/// last of them, the last table, and every block that no save names yet. What the last
-/// table names is what a mount would show, and needs no sum.
+/// last of them, the last table with its own sectors, and every block that no save names
+/// yet. What the last table names is what a mount would show, and needs no sum.
 fn mark(disc: &Disc, ledger: &[u8]) -> [u8; MARK] {
     let (image, kinds) = disc.lent();
     let known = &kinds[..recorded(ledger).min(kinds.len())];
     let map = Map::of(ledger);
     let last = (known.len() as u32).checked_sub(1);
-    let unsaved = map.written_since().into_iter().map(|v| map.block(v));
-    let relied_on = [last, map.last_table()].into_iter().chain(unsaved);
+    let table = map.last_table();
+    let own = table.map(|table| icb::own_sectors(image, table));
+    let unsaved = map.written_since().into_iter().filter_map(|v| map.block(v));
+    let relied_on = last.into_iter().chain(table);
+    let relied_on = relied_on.chain(own.into_iter().flatten()).chain(unsaved);
     let mut sum = Sum(0);
     sum.add(ledger);
     sum.add(&(kinds.len() as u64).to_le_bytes());
     sum.add(known);
-    for block in relied_on.flatten().map(|block| block as usize) {
-        if known.get(block) == Some(&DATA) {
-            sum.add(&image[block * SECTOR..][..SECTOR]);
+    for block in relied_on {
+        let bytes = icb::sector(image, block);
+        if let Some((DATA, bytes)) = known.get(block as usize).copied().zip(bytes) {
+            sum.add(bytes);
         }
     }
     sum.0.to_le_bytes()

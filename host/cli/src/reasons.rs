@@ -7,8 +7,9 @@ use crate::failure::Failure;
 use crate::first_save::no_save;
 use crate::form::{bytes, counted, number};
 use crate::kinds::BLANK;
-use crate::ledger::{in_words, recorded, Map};
+use crate::ledger::{briefly, recorded, Map};
 use crate::names::shown;
+use crate::older;
 use crate::room::Room;
 use crate::runs;
 use crate::saves::{each_save, newest};
@@ -58,9 +59,8 @@ impl Blocks {
     }
 }
 
-/// Sectors of a save, and of a closing: "an Anchor Volume Descriptor Pointer, 255 zero
-/// sectors and the table sector".
-const TABLE: usize = 1;
+/// Sectors of a closing: "an Anchor Volume Descriptor Pointer, 255 zero sectors and the
+/// table sector". Own sectors of its table are the last of the 255.
 const CLOSING: usize = 257;
 
 /// The failure of a call that altered nothing.
@@ -157,6 +157,7 @@ impl Why<'_> {
         let on_disc = station::recorded(kinds);
         let known = number(recorded(&self.session.ledger));
         match self.session.ledger_file {
+            LedgerFile::Older => older::told(self.session).unwrap_or_default(),
             LedgerFile::Missing => {
                 format!("{disc} has no ledger: mount it, or begin it if it has no save yet.")
             }
@@ -232,7 +233,7 @@ impl Why<'_> {
         match self.map.used.is_empty() {
             true => format!("Number {v} {why}. No number is in use{among}."),
             false => {
-                let used = in_words(&self.map.used);
+                let used = briefly(&self.map.used);
                 format!("Number {v} {why}. In use{among}: {used}.")
             }
         }
@@ -259,11 +260,10 @@ impl Why<'_> {
     }
 
     fn no_room(&self) -> String {
-        let (_, kinds) = self.session.disc.lent();
-        let room = Room::of(kinds, self.map.packet_open);
+        let room = Room::of(&self.session.disc, Some(&self.map));
         let (call, own, left) = match self.asked {
             Asked::Store { blocks, .. } => ("store", blocks.count() + 1, room.left),
-            Asked::Commit(_) => ("commit", TABLE, 0),
+            Asked::Commit(_) => ("commit", room.save(), 0),
             Asked::CloseSession(_) => ("closing", CLOSING, 0),
             _ => ("write", 1, room.left),
         };
@@ -277,25 +277,40 @@ impl Why<'_> {
             _ => "",
         };
         let takes = number(room.links + own);
-        let links = if room.links == 0 {
-            ""
-        } else {
-            ", seven of them links"
-        };
+        let among = self.among_them(&room);
         let must = match left {
             0 => String::new(),
             left if room.links == 0 => format!(" and must leave {left}"),
             left => format!(", and must leave {left}"),
         };
         let todo = self.what_is_left(&room);
-        format!("{blank} {verb} blank; this {call} takes {least}{takes}{links}{must}. {todo}")
+        format!("{blank} {verb} blank; this {call} takes {least}{takes}{among}{must}. {todo}")
+    }
+
+    /// What a call takes beside what it is asked for: links, and own sectors of a save's
+    /// table.
+    fn among_them(&self, room: &Room) -> String {
+        let own = match self.asked {
+            Asked::Commit(_) => room.own,
+            _ => 0,
+        };
+        match (room.links, own) {
+            (0, 0) => String::new(),
+            (_, 0) => ", seven of them links".into(),
+            (0, own) => format!(", {own} of them of the table's own"),
+            (_, own) => format!(", seven of them links and {own} of the table's own"),
+        }
     }
 
     /// What is left to do where a call has no room.
     fn what_is_left(&self, room: &Room) -> &'static str {
         let has_room = |sectors| room.blank >= room.links + sectors;
         let waits = !Unsaved::of(&self.session.disc, &self.map).is_empty();
-        match (waits, has_room(CLOSING), has_room(TABLE)) {
+        match (waits, has_room(CLOSING), has_room(room.save())) {
+            (true, true, _) if !has_room(room.save() + CLOSING) => {
+                "Commit what is written, or close the disc, for which a commit would leave no \
+                 room, and take another one."
+            }
             (true, true, _) => "Commit what is written, or close the disc, and take another one.",
             (true, _, true) => "Commit what is written, and take another disc.",
             (false, true, _) => "Nothing waits to be saved: close the disc, or take another one.",

@@ -11,13 +11,13 @@ use station::Role;
 
 use crate::kinds::{BLANK, DATA, LINK, UNREADABLE};
 use crate::ledger::recorded;
-use crate::mark::MARKED;
+use crate::mark::{unmarked, MARKED};
 
 /// The roles in a file, if they are those of this ledger file and these kinds.
 pub fn known<'a>(file: &'a [u8], ledger: &[u8], kinds: &[u8]) -> Option<&'a [u8]> {
     let (copy, roles) = file.split_at_checked(MARKED)?;
     let fits = copy == ledger
-        && recorded(copy) == station::recorded(kinds)
+        && recorded(unmarked(copy)) == station::recorded(kinds)
         && roles.len() == kinds.len()
         && roles
             .iter()

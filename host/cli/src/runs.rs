@@ -8,18 +8,14 @@
 use station::{Extent, Refusal, Role, SECTOR};
 
 use crate::form::Disc;
-use crate::ledger::Map;
+use crate::icb;
+use crate::ledger::{block_of, Map};
 
-/// Of an entry, a file entry of ECMA-167 4/14.9: its tag identifier, 261; where its file
-/// type stands, and that of an ordinary file, 5; where its information length stands, 64
-/// bits; where the length of its descriptors, and where they begin, each a length and a
-/// block (4/14.14.1).
+/// Of an entry, a file entry of ECMA-167 4/14.9: its tag identifier, 261; the file type of
+/// an ordinary file; where its information length stands, 64 bits.
 const IDENTIFIER: [u8; 2] = [5, 1];
-const FILE_TYPE: (usize, u8) = (27, 5);
+const ORDINARY: u8 = 5;
 const INFORMATION_LENGTH: usize = 56;
-const DESCRIPTORS_LENGTH: usize = 172;
-const DESCRIPTORS: usize = 176;
-const DESCRIPTOR: usize = 8;
 
 /// How many bytes the run has whose entry the number names, or why it names none.
 pub fn length(disc: &Disc, ledger: &[u8], v: u32) -> Result<u64, Refusal> {
@@ -35,14 +31,13 @@ pub fn length(disc: &Disc, ledger: &[u8], v: u32) -> Result<u64, Refusal> {
 /// something of the run is lost.
 pub fn calls_itself_one(disc: &Disc, ledger: &[u8], v: u32) -> bool {
     let entry = block(disc, ledger, v).unwrap_or_default();
-    entry.starts_with(&IDENTIFIER) && entry.get(FILE_TYPE.0) == Some(&FILE_TYPE.1)
+    entry.starts_with(&IDENTIFIER) && entry.get(icb::FILE_TYPE) == Some(&ORDINARY)
 }
 
 /// The bytes of the block that the number names.
 fn block<'a>(disc: &'a Disc, ledger: &[u8], v: u32) -> Option<&'a [u8]> {
     let (image, _) = disc.lent();
-    let block = Map::of(ledger).block(v)? as usize;
-    image.get(block * SECTOR..)?.get(..SECTOR)
+    icb::sector(image, block_of(ledger, v)?)
 }
 
 /// A number in use.
@@ -76,7 +71,8 @@ impl InUse {
             let run = station::view(image, kinds, ledger, v, 0, &mut []).is_ok();
             let mut entry = [0; SECTOR];
             if run && station::read(image, kinds, ledger, v, &mut entry).is_ok() {
-                stretches.extend(extents(&entry).map(|extent| stretch(extent, v)));
+                let extents = icb::extents(&entry).into_iter();
+                stretches.extend(extents.map(|extent| stretch(extent, v)));
             }
             let block = map.block(v).unwrap_or_default() as usize;
             numbers.push(Number { v, block, run });
@@ -85,21 +81,6 @@ impl InUse {
         let parts = parts(stretches, roles);
         InUse { numbers, parts }
     }
-}
-
-/// What a run's entry names.
-fn extents(entry: &[u8; SECTOR]) -> impl Iterator<Item = Extent> + '_ {
-    let count = word(entry, DESCRIPTORS_LENGTH) as usize / DESCRIPTOR;
-    let places = (DESCRIPTORS..).step_by(DESCRIPTOR).take(count);
-    places.map(|place| Extent {
-        length: word(entry, place),
-        location: word(entry, place + 4),
-    })
-}
-
-fn word(entry: &[u8; SECTOR], place: usize) -> u32 {
-    let bytes = &entry[place..][..4];
-    u32::from_le_bytes([bytes[0], bytes[1], bytes[2], bytes[3]])
 }
 
 fn stretch(extent: Extent, v: u32) -> Stretch {
@@ -125,8 +106,8 @@ fn parts(mut stretches: Vec<Stretch>, roles: &[u8]) -> Vec<Option<u32>> {
 
 #[cfg(test)]
 mod tests {
-    use super::{extents, parts, stretch};
-    use station::{Extent, MOST_EXTENTS, MOST_SECTORS};
+    use super::{parts, stretch};
+    use station::{Extent, LIMIT, MOST_EXTENTS, MOST_SECTORS};
 
     #[test]
     fn only_what_no_number_names() {
@@ -149,23 +130,17 @@ mod tests {
     /// and each of these nearly the whole disc.
     #[test]
     fn each_sector_is_looked_at_once() {
-        let all = (0..458u32).flat_map(|v| (0..100).map(move |place| (place, MOST_SECTORS, v)));
+        let of_entry = |v| (0..MOST_EXTENTS).map(move |place| (place, MOST_SECTORS, v));
+        let all = (0..LIMIT).flat_map(of_entry);
         let parts = parts(all.collect(), &vec![1; MOST_SECTORS]);
         assert!(parts.iter().all(|part| *part == Some(0)));
     }
 
     #[test]
-    fn the_extents_of_an_entry() {
-        let extent = |place: usize| Extent {
-            length: 2048 * (place as u32 + 1) - u32::from(place + 1 == MOST_EXTENTS),
-            location: 7 * place as u32,
-        };
-        for count in [1, 2, MOST_EXTENTS] {
-            let named: Vec<Extent> = (0..count).map(extent).collect();
-            let entry = station::file_entry(&named, 9000);
-            assert_eq!(extents(&entry).collect::<Vec<_>>(), named);
+    fn the_sectors_of_an_extent() {
+        for (length, end) in [(1, 8), (2048, 8), (2049, 9), (4096, 9)] {
+            let location = 7;
+            assert_eq!(stretch(Extent { length, location }, 5), (7, end, 5));
         }
-        assert_eq!(stretch(extent(1), 5), (7, 9, 5));
-        assert_eq!(stretch(extent(99), 5), (693, 793, 5));
     }
 }

@@ -1,9 +1,10 @@
 //! The saves of a disc, counted back from the newest.
 
-use station::{Refusal, Role, LEDGER, SECTOR};
+use station::{Refusal, LEDGER, SECTOR, UNUSED};
 
 use crate::form::Disc;
-use crate::kinds::{DATA, LINK};
+use crate::icb;
+use crate::kinds::LINK;
 use crate::ledger::Map;
 
 /// Where counting back came to.
@@ -25,13 +26,11 @@ pub fn each_save(disc: &Disc, mut show: impl FnMut(&Map)) -> Result<Counted, Ref
     let (image, kinds) = disc.lent();
     let (mut roles, mut ledger) = (vec![0; kinds.len()], [0; LEDGER]);
     let clean = station::mount(image, kinds, &mut roles, &mut ledger)?;
-    let tables = tables_among(&roles);
+    let mut tables = Tables::of(disc);
     loop {
         let map = Map::of(&ledger);
         show(&map);
-        let table = map.table as usize;
-        let below = &tables[..tables.partition_point(|other| *other < table)];
-        let broken = match step_back(image, &mut roles, &mut ledger, table, below) {
+        let broken = match tables.step_back(map.table, &mut ledger) {
             Ok(_) => continue,
             // "refusal 9 ends the rows"
             Err(Refusal::ChainEnded) => None,
@@ -41,16 +40,11 @@ pub fn each_save(disc: &Disc, mut show: impl FnMut(&Map)) -> Result<Counted, Ref
     }
 }
 
-/// The map of the table at this block, if it is one. No other sector is read: all are
-/// links on the disc that is lent for it.
+/// The map of the table at this block, if it is one.
 pub fn map_at(disc: &Disc, table: u32) -> Option<Map> {
-    let (image, kinds) = disc.lent();
-    let sectors = table as usize + 1;
-    let image = image.get(..sectors * SECTOR)?;
-    let mut shown = vec![LINK; sectors];
-    shown[sectors - 1] = kinds[sectors - 1];
-    let (mut roles, mut ledger) = (vec![0; sectors], [0; LEDGER]);
-    let found = station::look_back(image, &shown, &mut roles, &mut ledger, 0);
+    let mut ledger = [0; LEDGER];
+    let on_disc = (table as usize) < disc.lent().1.len();
+    let found = on_disc.then(|| Tables::of(disc).look_back(&[table], &mut ledger))?;
     found.ok().map(|_| Map::of(&ledger))
 }
 
@@ -62,39 +56,52 @@ pub fn newest(disc: &Disc) -> Option<Map> {
     found.ok().map(|_| Map::of(&ledger))
 }
 
-/// The blocks of the tables, ascending.
-fn tables_among(roles: &[u8]) -> Vec<usize> {
-    let is_table = |role: &u8| *role == Role::Table.number();
-    let numbered = roles.iter().enumerate();
-    numbered
-        .filter(|(_, role)| is_table(role))
-        .map(|(block, _)| block)
-        .collect()
+/// A disc of which only some tables are shown, with their own sectors. A look back scans
+/// the disc for its tables; all other sectors are links, so that none of them is read.
+struct Tables<'a> {
+    disc: &'a Disc,
+    /// All of them links, but while a look back is made.
+    kinds: Vec<u8>,
+    roles: Vec<u8>,
 }
 
-/// Looks back by one from a table. A look back scans the disc for its tables; here all
-/// sectors are links but this table and the nearest one below, which nearly always is
-/// the one that it names, so that no other sector is read. Where it is not, all
-/// tables below are shown.
-fn step_back(
-    image: &[u8],
-    roles: &mut [u8],
-    ledger: &mut [u8],
-    table: usize,
-    below: &[usize],
-) -> Result<u32, Refusal> {
-    let mut among = |shown: &[usize]| {
-        let mut kinds = vec![LINK; table + 1];
-        kinds[table] = DATA;
-        for block in shown {
-            kinds[*block] = DATA;
+impl Tables<'_> {
+    fn of(disc: &Disc) -> Tables<'_> {
+        let sectors = disc.lent().1.len();
+        let (kinds, roles) = (vec![LINK; sectors], vec![0; sectors]);
+        Tables { disc, kinds, roles }
+    }
+
+    /// By one from a table: the one that it names as previous is shown too.
+    fn step_back(&mut self, table: u32, ledger: &mut [u8]) -> Result<u32, Refusal> {
+        let (image, _) = self.disc.lent();
+        let previous = icb::previous(image, table).unwrap_or(UNUSED);
+        self.look_back(&[table, previous], ledger)
+    }
+
+    /// On the disc that ends with the first of these tables, as many steps as others
+    /// follow.
+    fn look_back(&mut self, tables: &[u32], ledger: &mut [u8]) -> Result<u32, Refusal> {
+        let (image, kinds) = self.disc.lent();
+        let sectors = tables[0] as usize + 1;
+        let own = tables
+            .iter()
+            .flat_map(|table| icb::own_sectors(image, *table));
+        let shown = tables
+            .iter()
+            .copied()
+            .chain(own)
+            .map(|block| block as usize);
+        let shown: Vec<usize> = shown.filter(|block| *block < sectors).collect();
+        for block in &shown {
+            self.kinds[*block] = kinds[*block];
         }
-        let sectors = kinds.len();
-        let image = &image[..sectors * SECTOR];
-        station::look_back(image, &kinds, &mut roles[..sectors], ledger, 1)
-    };
-    match among(&below[below.len().saturating_sub(1)..]) {
-        Err(Refusal::ChainBroken) if below.len() > 1 => among(below),
-        told => told,
+        let (image, roles) = (&image[..sectors * SECTOR], &mut self.roles[..sectors]);
+        let steps = tables.len() as u32 - 1;
+        let found = station::look_back(image, &self.kinds[..sectors], roles, ledger, steps);
+        for block in shown {
+            self.kinds[block] = LINK;
+        }
+        found
     }
 }

@@ -12,7 +12,7 @@ use crate::files::{lock, lock_folder, open, read_at_most, unlock, Place};
 use crate::form::Disc;
 use crate::keeping::{self, Recording, Roles};
 use crate::ledger::{recorded, Map};
-use crate::mark::{belonging, marked, MARKED};
+use crate::mark::{belonging, marked, older, unmarked, MARKED};
 use crate::names::folder_of;
 use crate::parts::clear_left;
 use crate::progress::Progress;
@@ -38,6 +38,8 @@ pub enum Lent {
 pub enum LedgerFile {
     /// It belongs to this disc, now or when fewer sectors were recorded.
     Right,
+    /// It does, but an older edition kept it: it is lent to no call.
+    Older,
     Missing,
     /// It belongs to another disc, or is damaged.
     Foreign,
@@ -62,7 +64,7 @@ pub struct Session {
     pub place: Place,
     pub disc: Disc,
     pub ledger_file: LedgerFile,
-    /// What the ledger file holds, if it belongs to this disc.
+    /// The ledger in the file, if it belongs to this disc.
     kept: Option<Vec<u8>>,
     /// As many as the disc has sectors.
     pub roles: Vec<u8>,
@@ -88,16 +90,16 @@ impl Session {
         let same = file.try_clone();
         let same = same.map_err(|error| Failure::unreadable(name, error))?;
         let (_, kinds) = disc.lent();
-        let (ledger_file, kept) = match lent {
-            Lent::Own => (LedgerFile::Missing, None),
+        let (ledger_file, bytes) = match lent {
+            Lent::Own => (LedgerFile::Missing, Vec::new()),
             Lent::Kept | Lent::New => kept_ledger(&place.ledger, &disc)?,
         };
-        let (ledger, role_file, opened) = match (lent, &kept) {
-            (Lent::Kept, Some(kept)) => {
-                let (role_file, opened) = kept_roles(&place.roles, kept, kinds);
-                (kept[..LEDGER].to_vec(), role_file, opened)
+        let (ledger, role_file, opened) = match (lent, ledger_file) {
+            (Lent::Kept, LedgerFile::Right) => {
+                let (role_file, opened) = kept_roles(&place.roles, &bytes, kinds);
+                (unmarked(&bytes).to_vec(), role_file, opened)
             }
-            (Lent::Kept, None) => (vec![0; LEDGER], unknown_roles(&place.roles), None),
+            (Lent::Kept, _) => (vec![0; LEDGER], unknown_roles(&place.roles), None),
             (Lent::New, _) => (vec![0; LEDGER], RoleFile::Replaced, None),
             (Lent::Own, _) => (vec![0; LEDGER], RoleFile::Own, None),
         };
@@ -112,7 +114,7 @@ impl Session {
             place,
             disc,
             ledger_file,
-            kept,
+            kept: ledger_in(ledger_file, &bytes),
             roles,
             ledger,
             role_file,
@@ -154,14 +156,14 @@ impl Session {
         self.kept.as_ref().map(|kept| Map::of(kept))
     }
 
-    /// What is known of the ledger file, and what it holds if it belongs to this disc: also
-    /// for what is said by a command that only looks, and has not read it.
+    /// What is known of the ledger file, and the ledger in it if it belongs to this disc:
+    /// also for what is said by a command that only looks, and has not read it.
     pub fn ledger_beside(&self) -> (LedgerFile, Option<Vec<u8>>) {
         match self.role_file {
-            RoleFile::Own => {
-                let read = kept_ledger(&self.place.ledger, &self.disc);
-                read.unwrap_or((LedgerFile::Missing, None))
-            }
+            RoleFile::Own => match kept_ledger(&self.place.ledger, &self.disc) {
+                Ok((file, bytes)) => (file, ledger_in(file, &bytes)),
+                Err(_) => (LedgerFile::Missing, None),
+            },
             _ => (self.ledger_file, self.kept.clone()),
         }
     }
@@ -169,15 +171,21 @@ impl Session {
     /// Whether the ledger file belongs to the disc as it is: a commit is then not
     /// refused for it.
     pub fn is_kept_up(&self) -> bool {
-        let kept = self.kept.as_ref();
+        let kept = self.right_ledger();
         kept.is_some_and(|kept| recorded(kept) == self.disc.used())
+    }
+
+    /// The ledger in the file, if it is one that calls are lent.
+    fn right_ledger(&self) -> Option<&Vec<u8>> {
+        let kept = self.kept.as_ref();
+        kept.filter(|_| self.ledger_file == LedgerFile::Right)
     }
 
     /// As the files have it, after a call of several was refused.
     pub fn take_back(&mut self) {
         self.disc.take_back();
-        if let Some(kept) = &self.kept {
-            self.ledger.copy_from_slice(&kept[..LEDGER]);
+        if let Some(kept) = self.right_ledger().cloned() {
+            self.ledger = kept;
         }
     }
 
@@ -213,20 +221,30 @@ impl Session {
     }
 }
 
-/// What is known of the ledger file, and what it holds if it belongs to the disc. Of one
-/// that is longer, one byte too many says so.
-fn kept_ledger(path: &Path, disc: &Disc) -> Result<(LedgerFile, Option<Vec<u8>>), Failure> {
+/// What is known of the ledger file, and its bytes. Of one that is longer than a ledger
+/// file is, one byte too many says so.
+fn kept_ledger(path: &Path, disc: &Disc) -> Result<(LedgerFile, Vec<u8>), Failure> {
     let opened = File::open(path).and_then(|mut file| read_at_most(&mut file, MARKED + 1));
-    let file = match opened {
+    let bytes = match opened {
         Err(error) if error.kind() == ErrorKind::NotFound => {
-            return Ok((LedgerFile::Missing, None))
+            return Ok((LedgerFile::Missing, Vec::new()))
         }
         read => read.map_err(|error| Failure::unreadable(path, error))?,
     };
-    Ok(match belonging(disc, &file) {
-        Some(_) => (LedgerFile::Right, Some(file)),
-        None => (LedgerFile::Foreign, None),
-    })
+    let file = if belonging(disc, &bytes).is_some() {
+        LedgerFile::Right
+    } else if older(disc, &bytes).is_some() {
+        LedgerFile::Older
+    } else {
+        LedgerFile::Foreign
+    };
+    Ok((file, bytes))
+}
+
+/// The ledger in a file that belongs to the disc.
+fn ledger_in(file: LedgerFile, bytes: &[u8]) -> Option<Vec<u8>> {
+    let belongs = matches!(file, LedgerFile::Right | LedgerFile::Older);
+    belongs.then(|| unmarked(bytes).to_vec())
 }
 
 /// Of a disc whose ledger is not known.

@@ -5,10 +5,11 @@ use std::path::Path;
 use station::{Refusal, Role};
 
 use crate::arguments::Arguments;
-use crate::drawing::{self, Count, Plan, Save};
+use crate::drawing::{self, Count, Own, Plan, Save};
 use crate::failure::{Done, Failure};
 use crate::first_save::no_save;
 use crate::form::{counted, number};
+use crate::icb;
 use crate::ledger::Map;
 use crate::looking;
 use crate::making::make;
@@ -39,6 +40,7 @@ pub fn map(given: &Arguments, around: &mut Surroundings) -> Done {
         return Err(given.wrong("--svg names the disc, its ledger or its roles".into()));
     }
     let saves = saves(&session)?;
+    let own = own_sectors(&session, &saves);
     let in_use = in_use(&session);
     let note = looking_at(&session);
     let roles = session.roles.clone();
@@ -49,6 +51,7 @@ pub fn map(given: &Arguments, around: &mut Surroundings) -> Done {
         roles: &roles,
         in_use: &in_use,
         saves: &saves,
+        own: &own,
         note: &note,
     };
     match (given.has("--svg"), file) {
@@ -130,4 +133,28 @@ fn saves(session: &Session) -> Result<Vec<Save>, Failure> {
         Ok(_) | Err(Refusal::NoVat) => Ok(saves),
         Err(refusal) => Err(refused(refusal, &Asked::WholeDisc, session)),
     }
+}
+
+/// The own sectors of their tables. A save's table that is an own sector of another, as a
+/// foreign deck may have it, is told as a table.
+fn own_sectors(session: &Session, saves: &[Save]) -> Vec<Own> {
+    let (image, _) = session.disc.lent();
+    let mut named = Vec::new();
+    for save in saves {
+        let own = icb::own_sectors(image, save.block as u32).into_iter();
+        named.extend(own.map(|block| (block as usize, save.back)));
+    }
+    named.sort_unstable();
+    let same = named.chunk_by(|one, next| one.0 == next.0);
+    let own = same.map(|named| Own {
+        block: named[0].0,
+        newest: named[0].1,
+        oldest: named[named.len() - 1].1,
+    });
+    let is_table = |own: &Own| session.roles.get(own.block) == Some(&Role::Table.number());
+    let is_save = |own: &Own| {
+        let place = saves.partition_point(|save| save.block > own.block);
+        saves.get(place).is_some_and(|save| save.block == own.block)
+    };
+    own.filter(|own| is_table(own) && !is_save(own)).collect()
 }

@@ -8,6 +8,7 @@ use crate::closing;
 use crate::failure::{Done, Failure};
 use crate::form::{bytes, counted, number};
 use crate::ledger::{in_words, recorded, Map};
+use crate::older;
 use crate::reasons::{refused, Asked};
 use crate::room::Room;
 use crate::saves::newest;
@@ -35,9 +36,12 @@ fn in_lines(session: &Session) -> Result<String, Failure> {
     }
     if fits {
         text += &not_saved(&Unsaved::of(&session.disc, &own));
+    } else if let Some(older) = older::told(session) {
+        text += &format!("{older}\n");
     }
     text += &newest_save(session, save.as_ref());
-    text += &room(session, shown);
+    let recorded_from = shown.filter(|map| !map.looking).or(save.as_ref());
+    text += &room(session, recorded_from);
     Ok(text)
 }
 
@@ -71,6 +75,7 @@ fn why_not_mounted(session: &Session) -> String {
     let (_, kinds) = session.disc.lent();
     let behind = station::recorded(kinds).saturating_sub(recorded(&session.ledger));
     match session.ledger_file {
+        LedgerFile::Older => "the ledger beside it was kept by an older edition".into(),
         LedgerFile::Missing => "it has no ledger".into(),
         LedgerFile::Foreign => "the ledger beside it belongs to another disc file".into(),
         LedgerFile::Right => format!(
@@ -103,17 +108,34 @@ fn newest_save(session: &Session, save: Option<&Map>) -> String {
     format!("newest save: table at block {}, {time}\n", save.table)
 }
 
-/// Of a disc that is not begun or mounted, what there would be then.
-fn room(session: &Session, shown: Option<&Map>) -> String {
+/// Of a disc that is not begun or mounted, or only looked at, what there would be then.
+fn room(session: &Session, map: Option<&Map>) -> String {
     let (image, kinds) = session.disc.lent();
     if station::is_closed(image, kinds) == Ok(true) {
         return String::new();
     }
-    let packet_open = shown.is_some_and(|map| map.packet_open);
-    let writes = Room::of(kinds, packet_open).writes();
-    let run = bytes(writes.saturating_sub(1) * SECTOR);
+    let room = Room::of(&session.disc, map);
+    let run = bytes(room.writes().saturating_sub(1) * SECTOR);
     let all = counted(kinds.len(), "sector");
     let recorded = number(station::recorded(kinds));
-    let writes = counted(writes, "more block");
-    format!("{recorded} of {all} recorded; room for {writes}, or for a run of {run}\n")
+    let writes = counted(room.writes(), "more block");
+    let save = save_in_words(&room);
+    format!("{recorded} of {all} recorded; room for {writes}, or for a run of {run}\n{save}")
+}
+
+/// What the next save takes, where its table has own sectors; else it is one sector, and
+/// nothing is told.
+fn save_in_words(room: &Room) -> String {
+    let links = match room.links {
+        0 => String::new(),
+        links => format!("{}, ", counted(links, "link")),
+    };
+    match room.own {
+        0 => String::new(),
+        own => format!(
+            "a save takes {} now: {links}{} and the table\n",
+            counted(room.links + room.save(), "sector"),
+            counted(own, "own sector")
+        ),
+    }
 }

@@ -83,7 +83,7 @@ pub static VIEW: Syntax = Syntax {
 pub static LOOK_BACK: Syntax = plain("look-back", &["DISC", "K"], help::LOOK_BACK);
 pub static TIME: Syntax = plain("time", &["DISC", "K"], help::TIME);
 pub static LIST: Syntax = Syntax {
-    options: &[("--times", None)],
+    options: &[("--times", None), ("--long", None)],
     ..plain("list", &["DISC"], help::LIST)
 };
 pub static STATUS: Syntax = plain("status", &["DISC"], help::STATUS);

@@ -1,7 +1,7 @@
 //! What a ledger has and no save has yet: a mount, a begin or a look back leaves it out,
 //! and a commit saves it.
 
-use crate::form::{counted, Disc};
+use crate::form::{counted, number, Disc};
 use crate::ledger::{in_words, Map};
 use crate::saves::map_at;
 
@@ -23,6 +23,19 @@ impl Unsaved {
             released: released.filter(gone).collect(),
             since: saved.is_some(),
         }
+    }
+
+    /// For example `written 1 to 2; released 0`.
+    pub fn in_words(&self) -> String {
+        let told = |what: &str, numbers: &[u32]| match numbers.is_empty() {
+            true => None,
+            false => Some(format!("{what} {}", in_words(numbers))),
+        };
+        let both = [
+            told("written", &self.written),
+            told("released", &self.released),
+        ];
+        both.into_iter().flatten().collect::<Vec<_>>().join("; ")
     }
 
     pub fn is_empty(&self) -> bool {
@@ -71,11 +84,17 @@ impl Unsaved {
         };
         let new = match self.written.len() {
             0 => format!("none new{since}"),
-            count => format!("{count} new{since}: {}", in_words(&self.written)),
+            count => {
+                let (count, numbers) = (number(count), in_words(&self.written));
+                format!("{count} new{since}: {numbers}")
+            }
         };
         match self.released.len() {
             0 => new,
-            count => format!("{new}; {count} released: {}", in_words(&self.released)),
+            count => {
+                let (count, numbers) = (number(count), in_words(&self.released));
+                format!("{new}; {count} released: {numbers}")
+            }
         }
     }
 }

@@ -197,7 +197,7 @@ fn look_back_shows_each_save() {
 /// file is there afterwards, and of its bytes only those that were recorded.
 #[test]
 fn only_what_is_recorded_is_written() {
-    let folder = Folder::example();
+    let folder = Folder::example_on(60);
     let file = || fs::metadata(folder.path("run.disc")).expect("the disc");
     let before = file();
     let lines = "mount run.disc;release run.disc 1;close run.disc;look-back run.disc 1;\
@@ -213,7 +213,7 @@ fn only_what_is_recorded_is_written() {
     folder.write(0, "run C");
     assert_eq!(file().ino(), before.ino());
     bytes[9 + 12..9 + 20].copy_from_slice(b"22222221");
-    let place = 9 + 31 + 1 + 19 * SECTOR;
+    let place = 9 + 60 + 1 + 19 * SECTOR;
     bytes[place..place + SECTOR].copy_from_slice(&padded("run C"));
     assert!(folder.bytes("run.disc") == bytes);
 }

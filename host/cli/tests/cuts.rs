@@ -66,7 +66,7 @@ fn a_torn_table() {
 #[test]
 fn a_write_cut_after_each_sector() {
     for kept in 0..=8 {
-        let folder = Folder::example();
+        let folder = Folder::example_on(60);
         folder.done("close run.disc");
         folder.put("block", &[7; SECTOR]);
         let line = format!("cut {kept} write run.disc 0 --from block");

@@ -214,7 +214,7 @@ fn a_link_stays_a_link_with_one_ledger() {
 /// there by the other, whose ledger is then behind.
 #[test]
 fn a_disc_with_two_names() {
-    let folder = Folder::example();
+    let folder = Folder::example_on(60);
     fs::create_dir(folder.path("desk")).expect("a folder");
     let (one, other) = (folder.path("run.disc"), folder.path("desk/too.disc"));
     fs::hard_link(one, other).expect("a second name");
@@ -348,7 +348,7 @@ fn a_reader_that_closes_the_pipe() {
         piped("list run.disc | head -n 1"),
         format!("{heading}\n0\n")
     );
-    folder.done_with("store run.disc 0", &[7; 90 * 2048]);
+    folder.done_with("store run.disc 0", &[7; 80 * 2048]);
     assert_eq!(piped("view run.disc 0 | head -c 1"), "\x070\n");
     assert_eq!(piped("commit run.disc | true"), "0\n");
     folder.set_kind(290, b'3');

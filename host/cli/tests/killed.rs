@@ -45,7 +45,7 @@ fn refuses_until_mounted(folder: &Folder) {
 /// The new disc with the old ledger.
 #[test]
 fn killed_between_disc_and_ledger() {
-    let folder = Folder::example();
+    let folder = Folder::example_on(60);
     let [_, ledger, ..] = before_and_after(&folder, "write run.disc 0 --pad");
     folder.put("run.disc.ledger", &ledger);
     refuses_until_mounted(&folder);

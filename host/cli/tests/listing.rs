@@ -3,7 +3,7 @@
 mod common;
 
 use common::{disc_file, Folder, EXAMPLE_LISTING};
-use station::{LEDGER, SECTOR};
+use station::{LEDGER, LIMIT, SECTOR};
 
 /// The listing and the exit status; no file may change.
 fn listed(folder: &Folder) -> (String, i32, String) {
@@ -59,7 +59,7 @@ fn a_refused_mount() {
 
 #[test]
 fn a_broken_disc() {
-    let folder = Folder::example();
+    let folder = Folder::example_on(60);
     folder.set_kind(3, b'3');
     let broken = "   k   block  size  used\n   0      11     2     1\nbroken\n";
     let (text, status, told) = listed(&folder);
@@ -95,8 +95,9 @@ fn rows_are_those_of_look_back() {
         let back = station::look_back(&image, &kinds, &mut roles, &mut ledger, k);
         let block = back.expect("look back");
         let word = |place: usize| &ledger[place * 4..place * 4 + 4];
-        let size = u32::from_le_bytes(word(458).try_into().expect("four bytes"));
-        let used = (0..458).filter(|v| word(*v) != [0xFF; 4]).count();
+        let limit = LIMIT as usize;
+        let size = u32::from_le_bytes(word(limit).try_into().expect("four bytes"));
+        let used = (0..limit).filter(|v| word(*v) != [0xFF; 4]).count();
         let row = format!("{k:4}{block:8}{size:6}{used:6}");
         assert_eq!(lines[k as usize + 1], row);
     }

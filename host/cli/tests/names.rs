@@ -41,7 +41,7 @@ fn words_of_a_command_line() {
         (&["--\t"], "there is no option --\\t".into()),
         (
             &["read", "run.disc", NAME],
-            format!("V is a number from 0 to 457, not '{TOLD}'"),
+            format!("V is a number from 0 to 4086, not '{TOLD}'"),
         ),
         (
             &["cut", "0", NAME],

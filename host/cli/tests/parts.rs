@@ -11,7 +11,7 @@ use station::{Extent, LEDGER, SECTOR};
 fn told(folder: &Folder) -> (String, String) {
     let told = folder.done("space run.disc");
     let lines: Vec<&str> = told.lines().collect();
-    let roles = folder.bytes("run.disc.roles").split_off(LEDGER);
+    let roles = folder.roles();
     for (number, line) in (0..7).zip(&lines) {
         let count = roles.iter().filter(|role| **role == number).count();
         assert_eq!(line[17..25].trim(), count.to_string(), "{line}");
@@ -39,7 +39,7 @@ fn parts_of_runs_in_use() {
     assert_eq!(letters, "pppuT");
     let said = "5 of 60 sectors are recorded, 1 of them in use and 3 as parts of runs in use \
                 (counted as superseded, since only a run's entry has a number); the rest went \
-                above all into tables (1): one for each save.";
+                above all into tables (1): one for each save, more above 458 numbers.";
     assert_eq!(answer, said);
     folder.done_with("store run.disc 1", b"a short run");
     let (answer, letters) = told(&folder);

@@ -5,7 +5,7 @@ mod common;
 
 use common::refusals::{refused, refused_with};
 use common::{disc_file, Folder, CLOSE_SESSION};
-use station::{Refusal, LEDGER, SECTOR};
+use station::{Refusal, LIMIT, SECTOR};
 
 const BLOCK: [u8; SECTOR] = [7; SECTOR];
 
@@ -33,7 +33,7 @@ fn number_2_a_block_of_another_length() {
 #[test]
 fn number_10_a_number_not_in_use() {
     let folder = Folder::example();
-    for v in ["0", "2", "458", "4294967295"] {
+    for v in ["0", "2", "4087", "4294967295"] {
         let why = if v == "0" {
             "was released"
         } else {
@@ -55,7 +55,7 @@ fn number_10_a_number_not_in_use() {
 #[test]
 fn number_12_a_number_above_the_size() {
     let folder = Folder::example();
-    for v in ["3", "4", "457"] {
+    for v in ["3", "4", "500", "4086"] {
         for line in ["write", "store"] {
             let why = refused_with(&folder, &format!("{line} run.disc {v}"), &BLOCK, 12);
             let told = format!("The next new number is 2; {v} would leave a gap.");
@@ -68,51 +68,48 @@ fn number_12_a_number_above_the_size() {
 #[test]
 fn number_13_a_number_above_the_size_and_the_limit() {
     let folder = Folder::example();
-    for v in ["458", "500", "4294967295"] {
+    for v in ["4087", "5000", "4294967295"] {
         for line in ["write", "store"] {
             let why = refused_with(&folder, &format!("{line} run.disc {v}"), &BLOCK, 13);
-            assert_eq!(why, "Numbers end at 457; the next new one is 2.");
+            assert_eq!(why, "Numbers end at 4086; the next new one is 2.");
         }
     }
 }
 
-/// "Write of 458 at size 458 with space: 13."
+/// "4,087 at size 4,087: 13", with space.
 #[test]
 fn number_13_a_number_beyond_the_limit() {
-    let folder = Folder::new();
-    let (mut image, mut kinds) = (vec![0; 600 * SECTOR], vec![0; 600]);
-    let (mut roles, mut ledger) = (vec![0; kinds.len()], [0; LEDGER]);
-    station::begin(&image, &kinds, &mut roles, &mut ledger).expect("begin");
-    for v in 0..458 {
-        station::write(&mut image, &mut kinds, &mut roles, &mut ledger, v, &BLOCK).expect("write");
-    }
-    station::commit(&mut image, &mut kinds, &mut roles, &mut ledger).expect("commit");
-    folder.put("run.disc", &disc_file(&kinds, &image));
+    let folder = Folder::numbered(4500, LIMIT);
     let told = folder.done("mount run.disc");
-    assert!(told.ends_with("size 458, 458 in use: 0 to 457\n"), "{told}");
-    let why = refused_with(&folder, "write run.disc 458", &BLOCK, 13);
-    let start = "Numbers end at 457, and all of them are taken";
+    let mounted = "size 4,087, 4,087 in use: 0 to 4086\n";
+    assert!(told.ends_with(mounted), "{told}");
+    let why = refused_with(&folder, "write run.disc 4087", &BLOCK, 13);
+    let start = "Numbers end at 4086, and all of them are taken";
     assert!(why.starts_with(start), "{why}");
 }
 
-/// "Disc of 9: first write done, second 14", and a commit uses what was kept.
+/// "disc of 16: write 14, [...] 17: second write 14", and a commit uses what was kept.
 #[test]
 fn number_14_no_room() {
-    let folder = Folder::begun(9);
+    refused_with(&Folder::begun(16), "write run.disc 0", &BLOCK, 14);
+    let folder = Folder::begun(17);
     folder.done_with("write run.disc 0", &BLOCK);
     let why = refused_with(&folder, "write run.disc 1", &BLOCK, 14);
-    let told = "8 sectors are blank; this write takes 1 and must leave 8. \
+    let told = "16 sectors are blank; this write takes 1 and must leave 16. \
                 Commit what is written, and take another disc.";
     assert_eq!(why, told);
     let why = refused_with(&folder, "store run.disc 1", &BLOCK, 14);
-    let start = "8 sectors are blank; this store takes at least 2 and must leave 8.";
+    let start = "16 sectors are blank; this store takes at least 2 and must leave 16.";
     assert!(why.starts_with(start), "{why}");
     folder.done("close run.disc");
     let why = refused_with(&folder, "write run.disc 1", &BLOCK, 14);
-    let start = "8 sectors are blank; this write takes 8, seven of them links, and must leave 8.";
+    let start = "16 sectors are blank; this write takes 8, seven of them links, and must leave 16.";
     assert!(why.starts_with(start), "{why}");
     let saved = folder.done("commit run.disc");
     assert!(saved.starts_with("saved, table at block 8:"), "{saved}");
+    for _ in 0..8 {
+        folder.done("commit run.disc");
+    }
     for line in ["commit run.disc", "commit run.disc --now"] {
         let told = "0 sectors are blank; this commit takes 1. \
                     Take another disc: the last finished save stays on this one.";
@@ -120,11 +117,11 @@ fn number_14_no_room() {
     }
 }
 
-/// "On discs of 1,000 sectors or more a write must leave 264 instead of 8": enough
-/// for links and a closing.
+/// "a write leaves 16 below 1,000 sectors, 264 from there on": enough for links and a
+/// save, or for links and a closing.
 #[test]
 fn number_14_what_a_write_leaves() {
-    for (sectors, left, closing) in [(999, 8, 14), (1000, 264, 0)] {
+    for (sectors, left, closing) in [(999, 16, 14), (1000, 264, 0)] {
         let folder = Folder::new();
         let begun = |blank: usize| {
             let kinds = [vec![1; sectors - blank], vec![0; blank]].concat();

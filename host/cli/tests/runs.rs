@@ -181,11 +181,11 @@ fn a_view_leaves_the_disc_free() {
     assert_eq!(told, format!("{saved}\n3000000\n"));
 }
 
-/// All blocks, the entry, and 8 sectors that a write leaves, or 264; 7 links where
+/// All blocks, the entry, and 16 sectors that a write leaves, or 264; 7 links where
 /// the packet is closed.
 #[test]
 fn the_room_for_a_run() {
-    for (sectors, left) in [(31, 8), (999, 8), (1000, 264)] {
+    for (sectors, left) in [(31, 16), (999, 16), (1000, 264)] {
         for links in [0, 7] {
             let folder = Folder::begun(sectors);
             folder.done("commit run.disc");
@@ -216,7 +216,7 @@ fn the_room_that_a_stream_needs() {
     let takes = |line: &str, count: &str| {
         let told = folder.shell(line);
         let blank = "station: refusal 14: 60 sectors are blank; this store takes";
-        let start = format!("{blank} {count} and must leave 8. ");
+        let start = format!("{blank} {count} and must leave 16. ");
         assert!(told.starts_with(&start), "{line}: {told}");
     };
     folder.put("long", &run(288 * SECTOR));
@@ -235,20 +235,20 @@ fn the_room_that_a_stream_needs() {
         takes(line, "at least 62");
     }
     takes("head -c 122950 long | station store run.disc 0", "62");
-    takes("head -c 106497 long | station store run.disc 0", "54");
-    folder.done_with("store run.disc 0", &run(51 * SECTOR));
+    takes("head -c 90113 long | station store run.disc 0", "46");
+    folder.done_with("store run.disc 0", &run(43 * SECTOR));
     for (line, count) in [
         ("station store run.disc 1 < long", "289"),
         ("head -c 9 long | station store run.disc 1", "at least 2"),
         ("cat long | station store run.disc 1", "at least 2"),
     ] {
         let told = folder.shell(line);
-        let start = format!("station: refusal 14: 8 sectors are blank; this store takes {count} ");
+        let start = format!("station: refusal 14: 16 sectors are blank; this store takes {count} ");
         assert!(told.starts_with(&start), "{line}: {told}");
     }
     folder.done("close run.disc");
     let told = folder.shell("cat long | station store run.disc 1");
-    let links = "this store takes at least 9, seven of them links, and must leave 8.";
+    let links = "this store takes at least 9, seven of them links, and must leave 16.";
     assert!(told.contains(links), "{told}");
 }
 
@@ -300,7 +300,7 @@ fn a_stream_whose_number_is_refused() {
     let folder = Folder::begun(60);
     let told = folder.shell("mkfifo pipe; (sleep 5; echo late) > pipe & station store run.disc 3 < pipe 2> told; echo $?; kill $!");
     assert!(told.starts_with("12\n"), "{told}");
-    let told = folder.shell("station store run.disc 458 --from pipe; echo $?");
+    let told = folder.shell("station store run.disc 4087 --from pipe; echo $?");
     assert!(told.ends_with("\n13\n"), "{told}");
 }
 
@@ -314,7 +314,7 @@ fn a_run_that_no_disc_has_room_for() {
     assert_eq!((told.status, &told.out[..]), (14, &b""[..]), "{told:?}");
     let told = folder.run("store run.disc 1 --from long");
     assert_eq!(told.status, 12, "{told:?}");
-    let told = folder.run("store run.disc 458 --from long");
+    let told = folder.run("store run.disc 4087 --from long");
     assert_eq!(told.status, 13, "{told:?}");
 }
 

@@ -20,7 +20,7 @@ fn status(folder: &Folder) -> Vec<String> {
 fn from_a_blank_disc_to_a_closed_one() {
     let folder = Folder::new();
     folder.done("new run.disc 300");
-    let blank = "0 of 300 sectors recorded; room for 292 more blocks, or for a run of 595968 bytes";
+    let blank = "0 of 300 sectors recorded; room for 284 more blocks, or for a run of 579584 bytes";
     assert_eq!(status(&folder), ["not begun", "no save yet", blank]);
     folder.done("begin run.disc");
     let begun = [
@@ -41,7 +41,7 @@ fn from_a_blank_disc_to_a_closed_one() {
         "not saved yet, written: 1",
         "not saved yet, released: 0",
         "newest save: table at block 1, 2026-11-15 14:05 +01:00 (13:05 UTC)",
-        "3 of 300 sectors recorded; room for 289 more blocks, or for a run of 589824 bytes",
+        "3 of 300 sectors recorded; room for 281 more blocks, or for a run of 573440 bytes",
     ];
     assert_eq!(status(&folder), open);
     folder.done("cut 0 commit run.disc");
@@ -98,7 +98,7 @@ fn the_room_that_is_left() {
     for (sectors, packet_open) in [
         (31, true),
         (31, false),
-        (9, true),
+        (17, true),
         (999, true),
         (1000, false),
     ] {

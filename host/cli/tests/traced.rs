@@ -361,7 +361,7 @@ const LINES: [(&str, usize); 10] = [
 
 #[test]
 fn killed_at_each_call_that_writes() {
-    let folder = Folder::example();
+    let folder = Folder::example_on(60);
     folder.done("close run.disc");
     for (line, least) in LINES {
         let stopped = stop_everywhere(&folder, line, KILLED);
@@ -383,7 +383,7 @@ fn killed_before_the_first_save() {
 
 #[test]
 fn each_call_that_writes_meets_a_full_disk() {
-    let folder = Folder::example();
+    let folder = Folder::example_on(60);
     folder.done("close run.disc");
     for (line, least) in LINES {
         let stopped = stop_everywhere(&folder, line, DISK_FULL);

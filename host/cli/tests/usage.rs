@@ -88,8 +88,8 @@ map run.disc --svg | --svg needs a name behind it | map
 --quiet mount run.disc | there is no option --quiet |
 mount --quick run.disc | mount has no option --quick | mount
 commit run.disc -f | commit has no option -f | commit
-read run.disc -1 | V is a number from 0 to 457: -1 is too small | read
-write run.disc -5 --pad | V is a number from 0 to 457: -5 is too small | write
+read run.disc -1 | V is a number from 0 to 4086: -1 is too small | read
+write run.disc -5 --pad | V is a number from 0 to 4086: -5 is too small | write
 look-back run.disc -99999999999999999999 | K is a number from 0 to 4294967295: -99999999999999999999 is too small | look-back
 new other.disc -5 | SECTORS is a number from 1 to 360000: -5 is too small | new
 cut -1 commit run.disc | J is a number from 0 to 4294967295: -1 is too small | cut
@@ -123,10 +123,12 @@ view run.disc 0 --offset x | --offset is a number from 0 to 18446744073709551615
 view run.disc 0 --offset +1 | --offset is a number from 0 to 18446744073709551615, not '+1' | view
 view run.disc 0 --length 18446744073709551616 | --length is a number from 0 to 18446744073709551615: 18446744073709551616 is too large | view
 view run.disc 0 --from x | view has no option --from | view
-view run.disc 4294967296 | V is a number from 0 to 457: 4294967296 is too large | view
+view run.disc 4294967296 | V is a number from 0 to 4086: 4294967296 is too large | view
 look-back run.disc | look-back needs K | look-back
 time run.disc | time needs K | time
 time run.disc 0 --utc | time has no option --utc | time
+list run.disc --long=8 | --long takes no value | list
+list run.disc --own | list has no option --own | list
 commit run.disc --at | --at needs a time behind it | commit
 commit run.disc --at 2026-11-15 | --at is a time such as 2026-11-15T14:05+01:00, not '2026-11-15' | commit
 commit run.disc --at 2026-11-15 14:05 | commit has no use for 14:05 | commit
@@ -197,12 +199,12 @@ const NO_NUMBERS: [(&str, &str); 9] = [
 
 /// What stands before a number, its name, and its true range.
 const RANGES: [(&str, &str); 14] = [
-    ("write run.disc", "V is a number from 0 to 457"),
-    ("store run.disc", "V is a number from 0 to 457"),
-    ("view run.disc", "V is a number from 0 to 457"),
+    ("write run.disc", "V is a number from 0 to 4086"),
+    ("store run.disc", "V is a number from 0 to 4086"),
+    ("view run.disc", "V is a number from 0 to 4086"),
     ("explain", "N is a number from 1 to 20"),
-    ("release run.disc", "V is a number from 0 to 457"),
-    ("read run.disc", "V is a number from 0 to 457"),
+    ("release run.disc", "V is a number from 0 to 4086"),
+    ("read run.disc", "V is a number from 0 to 4086"),
     ("look-back run.disc", "K is a number from 0 to 4294967295"),
     ("time run.disc", "K is a number from 0 to 4294967295"),
     ("cut", "J is a number from 0 to 4294967295"),

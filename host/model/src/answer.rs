@@ -5,7 +5,7 @@
 pub enum Refusal {
     /// "no sectors, more than 360,000, or image length is not 2048 × kinds length"
     DiscSize = 1,
-    /// "a lent block is not 2048 bytes, or a lent ledger is not 1,848"; "A lent
+    /// "a lent block is not 2048 bytes"; a lent ledger is not "16,364 bytes"; "A lent
     /// timestamp or answer of another length gives 2", a view's "lent buffer (at most
     /// 65,536 bytes, else 2)", and "a lent role buffer of another length than the
     /// kinds gives 2" (document 02)
@@ -31,7 +31,7 @@ pub enum Refusal {
     Unreadable = 11,
     /// "write of v above size"
     AboveSize = 12,
-    /// "write of v at or above 458"
+    /// "write of v at or above" the limit, 4,087
     AboveLimit = 13,
     /// "no room"
     NoRoom = 14,

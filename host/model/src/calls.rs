@@ -10,14 +10,16 @@ use crate::effect::Effect;
 use crate::ledger::{Volume, IDLE, LEDGER, READ_ONLY};
 use crate::roles::Role;
 use crate::run::MOST_VIEWED;
-use crate::table::{recognise, stamped_vat_sector, LIMIT, NONE, SECTOR};
+use crate::save::Save;
+use crate::table::{LIMIT, NONE, SECTOR};
 use crate::time::{Moment, Stamp, NO_STAMP, STAMP, TIME};
 
-/// "Write needs links + 1 + 8 blank sectors": room kept for links and a commit.
-const SHORT_RESERVE: u32 = 8;
+/// "the short disc's reserve grows from 8 to 16" (document 02): room for links and a
+/// commit of the largest table.
+const SHORT_RESERVE: u32 = 16;
 
-/// "On discs of 1,000 sectors or more a write must leave 264 instead of 8"
-/// (document 02): room for links and a closing.
+/// "On discs of 1,000 sectors or more a write must leave 264" (document 02): room for
+/// links and a closing.
 const LONG_RESERVE: u32 = 264;
 const LONG_DISC: u32 = 1000;
 
@@ -124,7 +126,7 @@ pub fn effect(lent: &Lent, call: Call) -> Result<Effect, Refusal> {
         Call::Read(v) => read_effect(&disc, fitting_volume(lent, &disc)?, v),
         Call::Write(v) => write_effect(lent, &disc, writable_volume(lent, &disc)?, Some(v)),
         Call::WriteUnnumbered => write_effect(lent, &disc, writable_volume(lent, &disc)?, None),
-        Call::Release(v) => release_effect(&disc, writable_volume(lent, &disc)?, v),
+        Call::Release(v) => release_effect(lent, writable_volume(lent, &disc)?, v),
         Call::ClosePacket => close_packet_effect(writable_volume(lent, &disc)?),
         Call::Commit => commit_effect(&disc, writable_volume(lent, &disc)?, &NO_STAMP),
         Call::CommitAt => commit_at_effect(lent, &disc, writable_volume(lent, &disc)?),
@@ -205,14 +207,14 @@ fn write_effect(
     refuse(v.is_some_and(|v| v as usize >= LIMIT), Refusal::AboveLimit)?;
     refuse(v.is_some_and(|v| v > volume.size), Refusal::AboveSize)?;
     refuse(disc.blank() < needed, Refusal::NoRoom)?;
-    refuse(would_pass(&data, block), Refusal::WouldBeVat)?;
+    refuse(would_pass(disc, &data, block), Refusal::WouldBeVat)?;
     let role = v.map_or(Role::Unnumbered, |_| Role::InUse);
     let before = v.and_then(|v| volume.block_of(v));
     if let Some(v) = v {
         volume.set(v, block);
     }
     let recorded = Effect::recorded(volume, vec![(Sector::data(data), role)]);
-    Ok(recorded.letting_go(disc, before))
+    Ok(recorded.letting_go(lent.roles, before))
 }
 
 /// What "a write must leave" (document 02).
@@ -227,15 +229,15 @@ fn reserve(disc: &Disc) -> u32 {
 /// Rule 15: "the lent block would be a table sector at the block it is about to
 /// take", which "also covers every block with such a tag" as a closing's pointer
 /// has (document 02).
-fn would_pass(data: &[u8; SECTOR], block: u32) -> bool {
-    recognise(data, block).is_some() || has_pointer_tag(data, block)
+fn would_pass(disc: &Disc, data: &[u8; SECTOR], block: u32) -> bool {
+    disc.vat_if(data, block).is_some() || has_pointer_tag(data, block)
 }
 
 /// "sets the entry to unused. Size stays."
-fn release_effect(disc: &Disc, mut volume: Volume, v: u32) -> Result<Effect, Refusal> {
+fn release_effect(lent: &Lent, mut volume: Volume, v: u32) -> Result<Effect, Refusal> {
     let before = volume.block_of(v).ok_or(Refusal::NotInUse)?;
     volume.map[v as usize] = NONE;
-    Ok(Effect::unrecorded(0, volume).letting_go(disc, Some(before)))
+    Ok(Effect::unrecorded(0, volume).letting_go(lent.roles, Some(before)))
 }
 
 /// "mode 0 (also after an underrun). Nothing is recorded. Closing a closed
@@ -245,29 +247,34 @@ fn close_packet_effect(mut volume: Volume) -> Result<Effect, Refusal> {
     Ok(Effect::unrecorded(0, volume))
 }
 
-/// "records the table sector, which becomes the last table".
+/// "records the table sector, which becomes the last table", and before it what it
+/// needs of sectors of the table's own.
 fn commit_effect(disc: &Disc, volume: Volume, stamp: &Stamp) -> Result<Effect, Refusal> {
     save_effect(disc, volume, Vec::new(), stamp)
 }
 
-/// Data sectors, which only a closing has and which are "without a number" (document
-/// 02), and behind them the table sector: "previous = the ledger's last table".
-/// "Commit [needs] links + 1" blank sectors, and "Closing needs links + 257 blank
-/// sectors, else 14" (document 02).
+/// Data sectors, which only a closing has and which are "without a number"; then the
+/// table's own sectors that are recorded, which at a closing "take the last of the
+/// 255"; then the ICB. "Commit needs blank sectors for what it records", and "Closing
+/// needs links + 257 blank sectors, else 14" (document 02).
 fn save_effect(
     disc: &Disc,
     mut volume: Volume,
-    data: Vec<Sector>,
+    mut before: Vec<Sector>,
     stamp: &Stamp,
 ) -> Result<Effect, Refusal> {
-    let before = data.len() as u32;
-    refuse(disc.blank() < volume.links() + before + 1, Refusal::NoRoom)?;
-    let table = next_data_block(&volume) + before;
-    let vat = stamped_vat_sector(table, volume.entries(), volume.last_vat, stamp);
-    let unnumbered = data.into_iter().map(|sector| (sector, Role::Unnumbered));
-    let vat = (Sector::data(vat), Role::Table);
-    volume.last_vat = table;
-    Ok(Effect::recorded(volume, unnumbered.chain([vat]).collect()))
+    let save = Save::of(disc, &volume);
+    before.truncate(before.len().saturating_sub(save.own_recorded()));
+    let first = next_data_block(&volume) + before.len() as u32;
+    let tables = save.sectors(first, stamp);
+    let end = first + tables.len() as u32;
+    refuse(disc.blank() < end - volume.recorded, Refusal::NoRoom)?;
+    volume.last_vat = end - 1;
+    let unnumbered = before.into_iter().map(|data| (data, Role::Unnumbered));
+    let tables = tables
+        .into_iter()
+        .map(|bytes| (Sector::data(bytes), Role::Table));
+    Ok(Effect::recorded(volume, unnumbered.chain(tables).collect()))
 }
 
 /// "16, a timestamp given or found breaks these limits; it is tested after 5 on
@@ -280,7 +287,8 @@ fn commit_at_effect(lent: &Lent, disc: &Disc, volume: Volume) -> Result<Effect, 
 
 /// "Closing records, after links as usual, an Anchor Volume Descriptor Pointer,
 /// 255 zero sectors and the table sector, all as data. [...] The second number and
-/// ledger are as after a commit"; 18 is "tested directly after 17" (document 02).
+/// ledger are as after a commit"; 18 is "tested directly after 17" (document 02). Own
+/// sectors of the table take the place of the last zeros.
 fn close_session_effect(disc: &Disc, volume: Volume, anchor: &Anchor) -> Result<Effect, Refusal> {
     refuse(anchor.partition_start > MOST_START, Refusal::PartitionStart)?;
     let pointer = pointer_sector(next_data_block(&volume), anchor);

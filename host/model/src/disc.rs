@@ -19,8 +19,8 @@ pub const UNREADABLE: u8 = 3;
 /// "It has 1 to 360,000 sectors."
 pub const MOST_SECTORS: usize = 360_000;
 
-/// A closing's pointer stands so many sectors before its table: itself and "255
-/// zero sectors" (document 02).
+/// A closing's pointer stands so many sectors before its table: itself and the 255
+/// behind it (document 02).
 pub const BEFORE_TABLE: u32 = 256;
 
 /// A disc of right size, not yet known to be sound.
@@ -89,9 +89,28 @@ impl<'a> Disc<'a> {
         }
     }
 
-    /// What the block holds if it is a table sector.
+    /// What the block tells if it is a table sector.
     pub fn vat_at(&self, block: u32) -> Option<Vat> {
-        recognise(self.data(block)?, block)
+        self.vat_if(self.data(block)?, block)
+    }
+
+    /// What the block would tell if it held these bytes: of a table in own sectors
+    /// they name these, and the disc has them.
+    pub fn vat_if(&self, sector: &[u8; SECTOR], block: u32) -> Option<Vat> {
+        recognise(sector, block, |own| self.data(own))
+    }
+
+    /// Each table sector, and "each sector that a table names" as its own (document
+    /// 02); some more than once.
+    pub fn vat_blocks(&self) -> Vec<u32> {
+        let mut blocks = Vec::new();
+        for block in 0..self.recorded() {
+            if let Some(vat) = self.vat_at(block) {
+                blocks.push(block);
+                blocks.extend(vat.own);
+            }
+        }
+        blocks
     }
 
     /// What the block shows if it holds a run's entry.

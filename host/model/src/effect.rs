@@ -76,10 +76,11 @@ impl Effect {
         }
     }
 
-    /// The same where a number has let go of a block, if it had one.
-    pub fn letting_go(mut self, disc: &Disc, block: Option<u32>) -> Effect {
-        let volume = self.volume.as_ref();
-        let superseded = volume.and_then(|volume| let_go(disc, volume, block));
+    /// The same where a number has let go of a block, if it had one, whose role is
+    /// among those lent.
+    pub fn letting_go(mut self, lent: &[u8], block: Option<u32>) -> Effect {
+        let left = self.volume.as_ref().zip(block);
+        let superseded = left.and_then(|(volume, block)| let_go(lent, volume, block));
         self.roles.extend(superseded);
         self
     }

@@ -2,17 +2,21 @@
 
 /// The 16-bit field at a byte.
 pub fn u16_at(bytes: &[u8], at: usize) -> u16 {
-    u16::from_le_bytes([bytes[at], bytes[at + 1]])
+    u16::from_le_bytes(field_at(bytes, at))
 }
 
 /// The 32-bit field at a byte.
 pub fn u32_at(bytes: &[u8], at: usize) -> u32 {
-    u32::from(u16_at(bytes, at)) | u32::from(u16_at(bytes, at + 2)) << 16
+    u32::from_le_bytes(field_at(bytes, at))
 }
 
 /// The 64-bit field at a byte.
 pub fn u64_at(bytes: &[u8], at: usize) -> u64 {
-    u64::from(u32_at(bytes, at)) | u64::from(u32_at(bytes, at + 4)) << 32
+    u64::from_le_bytes(field_at(bytes, at))
+}
+
+fn field_at<const LENGTH: usize>(bytes: &[u8], at: usize) -> [u8; LENGTH] {
+    *bytes[at..].first_chunk().expect("a field within the bytes")
 }
 
 /// Sets the bytes of a field.

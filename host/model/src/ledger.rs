@@ -1,14 +1,15 @@
 //! The ledger: the volume's working state between calls.
 //!
-//! "It is 1,848 bytes: 458 map entries, then size, recorded, last table, mode,
-//! each 32 bits." Every byte has a meaning, so load and store are inverse.
+//! "The ledger [becomes] 16,364 bytes" (document 02): 4,087 "map entries, then size,
+//! recorded, last table, mode, each 32 bits." Every byte has a meaning, so load and
+//! store are inverse.
 
 use crate::disc::{Disc, Found, DATA};
 use crate::fields::{put, u32_at};
 use crate::table::{LIMIT, NONE};
 
-/// "It is 1,848 bytes"
-pub const LEDGER: usize = 1848;
+/// "the ledger 16,364 bytes" (document 02)
+pub const LEDGER: usize = 16_364;
 
 /// "Mode is 0 (no packet open), 1 (packet open) or 2 (looking only)."
 pub const IDLE: u32 = 0;
@@ -35,7 +36,7 @@ pub struct Volume {
 }
 
 impl Volume {
-    /// The state in the lent bytes, if they are 1,848.
+    /// The state in the lent bytes, if they are 16,364.
     pub fn load(bytes: &[u8]) -> Option<Volume> {
         (bytes.len() == LEDGER).then(|| Volume {
             map: std::array::from_fn(|v| u32_at(bytes, 4 * v)),
@@ -46,7 +47,7 @@ impl Volume {
         })
     }
 
-    /// The state's 1,848 bytes.
+    /// The state's 16,364 bytes.
     pub fn to_bytes(&self) -> [u8; LEDGER] {
         let mut bytes = [0; LEDGER];
         for (v, entry) in self.map.iter().enumerate() {
@@ -92,7 +93,7 @@ impl Volume {
             && self.mode_fits(disc)
     }
 
-    /// Against "size above 458; an entry from size on not FFFFFFFF; one below
+    /// Against "size above" the limit; "an entry from size on not FFFFFFFF; one below
     /// size neither FFFFFFFF nor below recorded".
     fn map_fits(&self) -> bool {
         let Some((used, rest)) = self.map.split_at_checked(self.size as usize) else {

@@ -13,12 +13,14 @@
 //! - [`fields`]: little-endian fields; [`extent`]: extents as descriptors name them;
 //! - [`answer`]: the two numbers that each call answers, and the refusals;
 //! - [`time`]: timestamps, their limits, and the minutes that they tell;
-//! - [`table`]: the table sector at block b;
+//! - [`table`]: the table sector at block b; [`own`]: the sectors of its own that a
+//!   table may lie in;
 //! - [`anchor`]: the pointer that a closing records, and its tag;
 //! - [`run`]: the entry of a run longer than a block, and what it shows;
 //! - [`disc`]: image and kinds, the newest table, the walk back, runs, whether it is
 //!   closed, recording;
 //! - [`ledger`]: the volume's working state and when it fits the disc;
+//! - [`save`]: what a save records of a table;
 //! - [`roles`]: what each sector is used for, by a scan and from the history;
 //! - [`effect`]: what a call does; [`calls`]: the thirteen calls;
 //! - [`book`]: pages and draft, what the cut rule promises.
@@ -38,7 +40,9 @@ pub mod effect;
 pub mod extent;
 pub mod fields;
 pub mod ledger;
+pub mod own;
 pub mod roles;
 pub mod run;
+pub mod save;
 pub mod table;
 pub mod time;

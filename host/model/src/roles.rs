@@ -22,36 +22,69 @@ pub enum Role {
     Blank = 6,
 }
 
-impl Role {
+/// What decides the roles of the data on a disc, block by block.
+struct Known<'a> {
+    disc: &'a Disc<'a>,
+    /// "In the roles each sector that a table names counts as table."
+    in_tables: Vec<bool>,
+    in_use: Vec<bool>,
+    unnumbered: Vec<bool>,
+}
+
+impl<'a> Known<'a> {
+    fn of(disc: &'a Disc, volume: &Volume, unnumbered: impl Iterator<Item = u32>) -> Known<'a> {
+        let sectors = disc.sectors();
+        Known {
+            disc,
+            in_tables: marked(sectors, disc.vat_blocks().into_iter()),
+            in_use: marked(sectors, volume.entries().iter().copied()),
+            unnumbered: marked(sectors, unnumbered),
+        }
+    }
+
     /// "The kind decides the last three; a table is never in use."
-    fn of(disc: &Disc, volume: &Volume, unnumbered: &[u32], block: u32) -> Role {
-        match disc.kind(block) {
+    fn role(&self, block: u32) -> Role {
+        let at = block as usize;
+        match self.disc.kind(block) {
             None | Some(BLANK) => Role::Blank,
             Some(LINK) => Role::Link,
             Some(UNREADABLE) => Role::Unreadable,
-            _ if disc.vat_at(block).is_some() => Role::Table,
-            _ if volume.names(block) => Role::InUse,
-            _ if unnumbered.contains(&block) => Role::Unnumbered,
+            _ if self.in_tables[at] => Role::Table,
+            _ if self.in_use[at] => Role::InUse,
+            _ if self.unnumbered[at] => Role::Unnumbered,
             _ => Role::Superseded,
         }
     }
+
+    fn roles(self) -> Vec<Role> {
+        let blocks = 0..self.disc.sectors();
+        blocks.map(|block| self.role(block)).collect()
+    }
+}
+
+/// Which of so many sectors are among these blocks.
+fn marked(sectors: u32, blocks: impl Iterator<Item = u32>) -> Vec<bool> {
+    let mut marks = vec![false; sectors as usize];
+    for block in blocks {
+        if let Some(mark) = marks.get_mut(block as usize) {
+            *mark = true;
+        }
+    }
+    marks
 }
 
 /// "a scan then gives the start, where data the map does not name counts as
 /// superseded"
 pub fn scan(disc: &Disc, volume: &Volume) -> Vec<(u32, Role)> {
-    let blocks = 0..disc.sectors();
-    let role = |block| (block, Role::of(disc, volume, &[], block));
-    blocks.map(role).collect()
+    let known = Known::of(disc, volume, std::iter::empty());
+    (0..).zip(known.roles()).collect()
 }
 
-/// What becomes of the block that a number has let go: superseded, if no other
-/// number of the map names it. The kind decides a link and an unreadable sector, and
-/// a table was never in use.
-pub fn let_go(disc: &Disc, volume: &Volume, block: Option<u32>) -> Option<(u32, Role)> {
-    let was_in_use = |block: &u32| disc.data(*block).is_some() && disc.vat_at(*block).is_none();
-    let block = block.filter(was_in_use)?;
-    (!volume.names(block)).then_some((block, Role::Superseded))
+/// What becomes of the block that a number has let go: superseded, if it was in use,
+/// by the role that is lent, and no other number of the map names it.
+pub fn let_go(lent: &[u8], volume: &Volume, block: u32) -> Option<(u32, Role)> {
+    let was_in_use = lent.get(block as usize) == Some(&(Role::InUse as u8));
+    (was_in_use && !volume.names(block)).then_some((block, Role::Superseded))
 }
 
 /// "the history since begin, mount or look back": each call done, that one the
@@ -71,13 +104,13 @@ impl Since {
 
     /// Every role "from that history", given the disc and the map that it has left.
     pub fn roles(&self, disc: &Disc, volume: &Volume) -> Vec<u8> {
-        let unnumbered: Vec<u32> = self.unnumbered().collect();
-        let role = |block| Role::of(disc, volume, &unnumbered, block) as u8;
-        (0..disc.sectors()).map(role).collect()
+        let known = Known::of(disc, volume, self.unnumbered());
+        let roles = known.roles().into_iter();
+        roles.map(|role| role as u8).collect()
     }
 
     /// The blocks recorded by a write without a number; and "A closing's sectors
-    /// before its table are without a number".
+    /// before its table are without a number", but for its table's own.
     fn unnumbered(&self) -> impl Iterator<Item = u32> + '_ {
         self.0.iter().flat_map(|(call, second)| match call {
             Call::WriteUnnumbered => *second..second + 1,

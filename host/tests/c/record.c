@@ -1,9 +1,9 @@
 /*
  * Records on a small disc through the C header: begin, writes, commits, a
  * closed packet, and then what mount, read, look back, time of and the roles show
- * of it; records a run longer than a block on another one and views it; and closes the
- * session of a larger one. Exits 0 if every answer is right, and names the first
- * that is not.
+ * of it; records a run longer than a block on another one and views it; closes the
+ * session of a larger one; and saves more numbers than one sector holds. Exits 0 if
+ * every answer is right, and names the first that is not.
  */
 #include <stdio.h>
 #include <stdlib.h>
@@ -33,7 +33,7 @@ static uint8_t burned_kinds[SECTORS];
 static size_t burned;
 
 /* A disc with room for a run, its entry and a save. */
-#define RUN_SECTORS 12
+#define RUN_SECTORS 20
 
 static uint8_t run_image[RUN_SECTORS * STATION_SECTOR];
 static uint8_t run_kinds[RUN_SECTORS];
@@ -53,15 +53,26 @@ static uint8_t closed_image[CLOSED_SECTORS * STATION_SECTOR];
 static uint8_t closed_kinds[CLOSED_SECTORS];
 static uint8_t closed_roles[CLOSED_SECTORS];
 
+/* So many numbers that their table lies in two sectors of its own, and a disc with
+ * room for two saves of them. */
+#define NUMBERS 512
+#define LARGE_SECTORS 540
+
+static uint8_t large_image[LARGE_SECTORS * STATION_SECTOR];
+static uint8_t large_kinds[LARGE_SECTORS];
+static uint8_t large_roles[LARGE_SECTORS];
+
 #define LEDGER ledger, sizeof ledger
 #define DISC image, sizeof image, kinds, sizeof kinds
 #define RUN_DISC run_image, sizeof run_image, run_kinds, sizeof run_kinds
 #define CLOSED_DISC closed_image, sizeof closed_image, closed_kinds, sizeof closed_kinds
+#define LARGE_DISC large_image, sizeof large_image, large_kinds, sizeof large_kinds
 
 /* What a call is lent that alters disc or ledger. */
 #define LENT DISC, roles, sizeof roles, LEDGER
 #define RUN_LENT RUN_DISC, run_roles, sizeof run_roles, LEDGER
 #define CLOSED_LENT CLOSED_DISC, closed_roles, sizeof closed_roles, LEDGER
+#define LARGE_LENT LARGE_DISC, large_roles, sizeof large_roles, LEDGER
 
 static void expect(const char *call, uint64_t answer, uint32_t outcome, uint32_t second)
 {
@@ -131,7 +142,8 @@ static void record(void)
 {
     expect("begin", station_begin_roles(LENT), STATION_DONE, 0);
     expect("write 1 at size 0", write_number(1, 0x11), STATION_ABOVE_SIZE, 0);
-    expect("write 500 at size 0", write_number(500, 0x11), STATION_ABOVE_LIMIT, 0);
+    expect("write 4,086 at size 0", write_number(4086, 0x11), STATION_ABOVE_SIZE, 0);
+    expect("write 4,087 at size 0", write_number(4087, 0x11), STATION_ABOVE_LIMIT, 0);
     expect("write 0", write_number(0, 0x11), STATION_DONE, 0);
     burn();
     expect("commit", station_commit_roles(LENT), STATION_DONE, 1);
@@ -340,6 +352,37 @@ static void close_the_session(void)
     expect("commit on a closed disc", station_commit_roles(CLOSED_LENT), STATION_SESSION_CLOSED, 0);
 }
 
+/* The table sector at a block names two sectors, of 2,048 and of 36 bytes. */
+static void named(const char *what, uint32_t at, uint32_t first, uint32_t last)
+{
+    const uint8_t *sector = large_image + (size_t)at * STATION_SECTOR;
+
+    hold(what, sector[34] == 0 && number(sector + 64) == 2 && number(sector + 172) == 16 &&
+                   number(sector + 176) == STATION_SECTOR && number(sector + 180) == first &&
+                   number(sector + 184) == 36 && number(sector + 188) == last);
+}
+
+/* A number a block, and two saves: of the second only what has changed is recorded,
+ * which is the sector with the block of the save before. */
+static void save_many_numbers(void)
+{
+    expect("begin", station_begin_roles(LARGE_LENT), STATION_DONE, 0);
+    for (uint32_t v = 0; v < NUMBERS; v++) {
+        memset(block, (int)(v % 251), sizeof block);
+        expect("write", station_write_roles(LARGE_LENT, v, block, sizeof block), STATION_DONE, v);
+    }
+    expect("commit", station_commit_roles(LARGE_LENT), STATION_DONE, NUMBERS + 2);
+    named("both recorded", NUMBERS + 2, NUMBERS, NUMBERS + 1);
+    expect("commit again", station_commit_roles(LARGE_LENT), STATION_DONE, NUMBERS + 4);
+    named("the first named again", NUMBERS + 4, NUMBERS, NUMBERS + 3);
+    hold("five sectors of tables", count(large_roles, LARGE_SECTORS, STATION_ROLE_TABLE) == 5);
+    memset(ledger, 0xA5, sizeof ledger);
+    expect("mount", station_mount_roles(LARGE_LENT), STATION_DONE, 1);
+    hold("all numbers", entry(STATION_LIMIT) == NUMBERS && entry(NUMBERS - 1) == NUMBERS - 1);
+    expect("read", station_read(LARGE_DISC, LEDGER, 500, block, sizeof block), STATION_DONE, 0);
+    hold("500 reads 500 modulo 251", block[0] == 500 % 251);
+}
+
 int main(void)
 {
     record();
@@ -354,6 +397,8 @@ int main(void)
     lend_wrongly();
     mount_and_read();
     close_the_session();
-    puts("recorded, mounted, read, looked back, told the times and the space, viewed a run and closed");
+    save_many_numbers();
+    puts("recorded, mounted, read, looked back, told the times and the space, viewed a run, closed"
+         " and saved many numbers");
     return 0;
 }

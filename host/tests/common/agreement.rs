@@ -78,8 +78,8 @@ fn tells(
     })
 }
 
-/// "lent any 1,848 bytes as ledger": the call is done, "size and entries are
-/// the [...] page's", and reads give what it has.
+/// "lent any [...] bytes as ledger": the call is done, "size and entries are the [...]
+/// page's", and reads give what it has.
 fn shows(copy: &mut Core, call: Call, page: &Snapshot, random: &mut Random) -> Result<(), String> {
     random.fill(&mut copy.ledger);
     random.fill(&mut copy.roles);
@@ -96,7 +96,7 @@ fn shows(copy: &mut Core, call: Call, page: &Snapshot, random: &mut Random) -> R
     check(same_map(&volume, page), || {
         format!("{call:?} shows other entries than the page")
     })?;
-    for v in (0..page.size() + 3).chain([LIMIT as u32, NONE]) {
+    for v in numbers(page, random) {
         reads(copy, v, page).map_err(|found| format!("after {call:?}, {found}"))?;
         let block = page.in_use(v).map_or(NONE, |entry| entry.block);
         if runs::is_likely(&copy.disc(), block) || random.one_in(16) {
@@ -104,6 +104,23 @@ fn shows(copy: &mut Core, call: Call, page: &Snapshot, random: &mut Random) -> R
         }
     }
     Ok(())
+}
+
+/// Each number of a small page, and some of a large one, those about the borders of its
+/// table's own sectors among them; and numbers that it does not have.
+fn numbers(page: &Snapshot, random: &mut Random) -> Vec<u32> {
+    let size = page.size();
+    let mut numbers: Vec<u32> = match size {
+        0..100 => (0..size).collect(),
+        _ => {
+            let borders = (0..=size).step_by(512);
+            let about = borders.flat_map(|v| [v.wrapping_sub(1), v]);
+            let any = (0..20).map(|_| random.below(size as usize) as u32);
+            about.chain(any).chain([size - 1]).collect()
+        }
+    };
+    numbers.extend([size, size + 1, size + 2, LIMIT as u32, NONE]);
+    numbers
 }
 
 /// Every role is that of a scan, whatever was lent.

@@ -2,10 +2,10 @@
 //! closings that lie at a bound.
 
 use station_model::calls::Call;
-use station_model::disc::BLANK;
+use station_model::disc::{Disc, BLANK};
 use station_model::fields::u32_at;
 use station_model::ledger::LEDGER;
-use station_model::table::{vat_sector, LIMIT, NONE, SECTOR};
+use station_model::table::{seal, vat_sector, LIMIT, NONE, SECTOR};
 use station_model::time::NO_STAMP;
 
 use super::closing::{pointer, starting, ANCHOR};
@@ -72,7 +72,7 @@ pub fn every_call(station: &Station) {
 fn calls(station: &Station) -> Vec<Call> {
     let size = size(station);
     let mut numbers = vec![0, 1, size.wrapping_sub(1), size, size.wrapping_add(1)];
-    numbers.extend([457, 458, 459, NONE]);
+    numbers.extend([457, 458, 4086, 4087, 4088, NONE]);
     numbers.sort_unstable();
     numbers.dedup();
     let steps = (0..station.kinds.len().min(8) as u32 + 2).chain([NONE]);
@@ -97,13 +97,16 @@ fn size(station: &Station) -> u32 {
     }
 }
 
-/// Plain bytes; table sectors, also behind attributes, and a closing's pointer for
-/// the block before the links, the block behind them, and the one after that.
+/// Plain bytes; table sectors, also behind attributes, a closing's pointer, and the
+/// disc's own newest table, if it has one, for the block before the links, the block
+/// behind them, and the one after that.
 fn blocks(station: &Station) -> Vec<Vec<u8>> {
     let recorded = station.kinds.iter().filter(|kind| **kind != BLANK).count() as u32;
     let table = |block| vat_sector(block, &[NONE], NONE).to_vec();
     let behind = |block| vat_behind(&[0x5A; 8], block, &[NONE], NONE).to_vec();
-    vec![
+    let newest = |block| newest_for(station, block);
+    let copies = [recorded, recorded + 7, recorded + 8].map(newest);
+    let mut blocks = vec![
         BLOCK.to_vec(),
         table(recorded),
         behind(recorded),
@@ -113,5 +116,15 @@ fn blocks(station: &Station) -> Vec<Vec<u8>> {
         pointer(recorded, recorded).to_vec(),
         pointer(recorded + 7, recorded + 7).to_vec(),
         pointer(recorded + 8, recorded + 8).to_vec(),
-    ]
+    ];
+    blocks.extend(copies.into_iter().flatten());
+    blocks
+}
+
+/// The disc's newest table sector, tagged for another block.
+fn newest_for(station: &Station, block: u32) -> Option<Vec<u8>> {
+    let disc = Disc::lent(&station.image, &station.kinds).ok()?;
+    let mut sector = *disc.data(disc.newest_vat()?.block)?;
+    seal(&mut sector, block);
+    Some(sector.to_vec())
 }

@@ -120,7 +120,7 @@ impl Core {
     }
 
     pub fn volume(&self) -> Volume {
-        Volume::load(&self.ledger).expect("1,848 bytes")
+        Volume::load(&self.ledger).expect("16,364 bytes")
     }
 
     pub fn same_bytes(&self, other: &Core) -> bool {

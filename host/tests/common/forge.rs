@@ -7,11 +7,12 @@ use station_model::ledger::{Volume, LEDGER, READ_ONLY};
 use station_model::table::{seal, LIMIT, NONE, SECTOR};
 
 use super::closing::{anchor, any_pointer};
+use super::large;
 use super::random::Random;
 use super::runs;
 use super::stamps::{put_modified, stamp};
 use super::station::Station;
-use super::tables::{most_attributes, put_lengths, vat_behind, ATTRIBUTES};
+use super::tables::{most_attributes, put_lengths, vat_behind, ATTRIBUTES, MOST_EMBEDDED};
 
 /// A disc of 1 to 60 sectors without a table sector: blank, or used.
 pub fn disc_without_vat(random: &mut Random) -> Station {
@@ -53,9 +54,9 @@ fn recorded(random: &mut Random, sectors: usize) -> usize {
     1 + random.below(most.min(sectors))
 }
 
-/// A disc with table sectors whose entries and previous name anything that
-/// they may: links, unreadable sectors, other tables, or a sector that breaks
-/// the chain.
+/// A disc with table sectors, embedded or in own sectors, whose entries and previous
+/// name anything that they may: links, unreadable sectors, other tables, or a sector
+/// that breaks the chain.
 pub fn disc_with_vats(random: &mut Random) -> Station {
     let sectors = sectors(random);
     used_disc_with_vats(random, sectors)
@@ -66,10 +67,13 @@ pub fn used_disc_with_vats(random: &mut Random, sectors: usize) -> Station {
     let recorded = station.disc().recorded() as usize;
     for _ in 0..1 + random.below(3) {
         let block = random.below(recorded) as u32;
-        let sector = if random.one_in(4) {
-            near_vat(random, block)
-        } else {
-            valid_vat(random, block)
+        let sector = match random.below(8) {
+            0..=1 => near_vat(random, block),
+            2..=3 if block > 0 => {
+                large::forge(random, &mut station, block);
+                continue;
+            }
+            _ => valid_vat(random, block),
         };
         station.put_sector(block, DATA, &sector);
     }
@@ -204,7 +208,12 @@ pub fn foreign_fields(random: &mut Random, sector: &mut [u8; SECTOR]) {
 /// None or a few words, as a rule; sometimes any number of words up to the most
 /// before a table of this size, and sometimes the most.
 fn attributes(random: &mut Random, size: usize) -> Vec<u8> {
-    let most = most_attributes(size) / 4;
+    up_to(random, most_attributes(size))
+}
+
+/// The same up to so many bytes.
+pub fn up_to(random: &mut Random, most: usize) -> Vec<u8> {
+    let most = most / 4;
     let words = match random.below(24) {
         0 => most,
         1 => random.below(most + 1),
@@ -214,20 +223,20 @@ fn attributes(random: &mut Random, size: usize) -> Vec<u8> {
     random.bytes(4 * words)
 }
 
-/// Small as a rule; sometimes near the limit.
+/// The size of an embedded table: small as a rule; sometimes near the most.
 fn size(random: &mut Random) -> usize {
     match random.below(12) {
-        0 => LIMIT - usize::from(random.one_in(4)),
+        0 => MOST_EMBEDDED - usize::from(random.one_in(4)),
         _ => random.below(7),
     }
 }
 
-fn entries(random: &mut Random, size: usize, below: u32) -> Vec<u32> {
+pub fn entries(random: &mut Random, size: usize, below: u32) -> Vec<u32> {
     (0..size).map(|_| entry(random, below)).collect()
 }
 
 /// Unused, or a block below the bound.
-fn entry(random: &mut Random, below: u32) -> u32 {
+pub fn entry(random: &mut Random, below: u32) -> u32 {
     if below == 0 || random.one_in(4) {
         NONE
     } else {
@@ -235,14 +244,15 @@ fn entry(random: &mut Random, below: u32) -> u32 {
     }
 }
 
-/// A block to write: random, a copy of some sector, or a table sector, a closing's
-/// pointer or a run's entry, or nearly one, for a block that the write may or may
-/// not take.
+/// A block to write: random, a copy of some sector, or a table sector, also one that
+/// names own sectors, a closing's pointer or a run's entry, or nearly one, for a block
+/// that the write may or may not take.
 pub fn block(random: &mut Random, image: &[u8], kinds: &[u8]) -> Vec<u8> {
     let sectors = image.len() / SECTOR;
     let recorded = kinds.iter().take_while(|kind| **kind != BLANK).count() as u32;
     let next = recorded + random.pick(&[0, 7]);
-    match random.below(14) {
+    match random.below(16) {
+        14..=15 => large::icb_on(random, image, kinds, next).to_vec(),
         0 => image[random.below(sectors) * SECTOR..][..SECTOR].to_vec(),
         1 => valid_vat(random, recorded).to_vec(),
         2 => valid_vat(random, recorded + 7).to_vec(),
@@ -282,7 +292,10 @@ pub fn lost_ledger(random: &mut Random, disc: &Disc, before: &[u8]) -> Vec<u8> {
 /// A state that fits the disc and need not be one that a call has left.
 pub fn fitting(random: &mut Random, disc: &Disc) -> Volume {
     let mut volume = Volume::begun(disc);
-    let size = size(random);
+    let size = match random.below(8) {
+        0 => large::size(random),
+        _ => size(random),
+    };
     let map = entries(random, size, volume.recorded);
     volume.map[..size].copy_from_slice(&map);
     volume.size = size as u32;
@@ -311,14 +324,14 @@ pub fn spoiled(random: &mut Random, ledger: &[u8]) -> Vec<u8> {
         0 => random.next() as u32,
         1 => old.wrapping_add(1),
         2 => old.wrapping_sub(1),
-        3 => random.pick(&[0, 1, 2, 3, 457, 458, 459, NONE]),
+        3 => random.pick(&[0, 1, 2, 3, 458, 459, 4086, 4087, 4088, NONE]),
         _ => old ^ 1 << random.below(32),
     };
     put(&mut spoiled, 4 * field, &new.to_le_bytes());
     spoiled
 }
 
-/// The size that a ledger of 1,848 bytes holds, as far as it can be meant.
+/// The size that a ledger of 16,364 bytes holds, as far as it can be meant.
 pub fn size_in(ledger: &[u8]) -> usize {
     let size = u32_at(ledger, 4 * LIMIT) as usize;
     size.min(LIMIT + 1)
@@ -327,7 +340,7 @@ pub fn size_in(ledger: &[u8]) -> usize {
 /// A number near the bound, sometimes near the limit or far above it.
 pub fn number(random: &mut Random, bound: usize) -> u32 {
     match random.below(16) {
-        0 => random.pick(&[457, 458, 459, 500, u32::MAX, 1 << 31]),
+        0 => random.pick(&[458, 500, 4086, 4087, 4088, u32::MAX, 1 << 31]),
         1 => random.next() as u32,
         2 => bound as u32 + 1,
         3..=6 => bound as u32,

@@ -1,6 +1,6 @@
 //! The places where the calls ask whether a sector is a table sector: the
-//! search of mount and begin, the ledger's last table, the walk back, and the
-//! block about to be written.
+//! search of mount and begin, the ledger's last table, the walk back, the table whose
+//! time is told, and the block about to be written. Sectors below it may be its own.
 
 use station_model::answer::Answer;
 use station_model::calls::Call;
@@ -9,6 +9,7 @@ use station_model::ledger::{Volume, PACKET_OPEN};
 use station_model::table::{vat_sector, SECTOR};
 
 use super::pair::Pair;
+use super::stamps::ANSWER;
 use super::station::{done, refused, Station};
 
 pub struct Recogniser {
@@ -41,10 +42,19 @@ impl Recogniser {
         }
     }
 
+    /// Puts a sector on all of these discs, below the block.
+    pub fn put_below(&mut self, below: u32, kind: u8, bytes: &[u8; SECTOR]) {
+        assert!(below < self.block);
+        for pair in [&mut self.last, &mut self.previous, &mut self.written] {
+            pair.put_sector(below, kind, bytes);
+        }
+    }
+
     /// Whether all of these places, on the core and on the model, take the
     /// sector for a table sector; all or none do.
     pub fn is_vat(&mut self, sector: &[u8; SECTOR]) -> bool {
         let found = self.mounts(sector);
+        assert_eq!(self.tells(), found);
         assert_eq!(self.last_table_fits(), found);
         assert_eq!(self.begins(), !found);
         assert_eq!(self.is_previous(sector), found);
@@ -55,6 +65,12 @@ impl Recogniser {
     fn mounts(&mut self, sector: &[u8; SECTOR]) -> bool {
         self.last.put_sector(self.block, DATA, sector);
         is(self.last.call(Call::Mount, &[]), done(1), refused(7))
+    }
+
+    /// Whatever its time is.
+    fn tells(&mut self) -> bool {
+        let answer = self.last.call(Call::TimeOf(0), &ANSWER);
+        answer == done(0) || is(answer, refused(16), refused(7))
     }
 
     fn last_table_fits(&mut self) -> bool {
@@ -102,7 +118,7 @@ fn with_links(block: u32, data: usize) -> Station {
 
 /// A packet is open and the block is the next.
 fn open_packet(block: u32) -> Station {
-    let mut station = Station::blank(block as usize + 9);
+    let mut station = Station::blank(block as usize + 17);
     station.kinds[..block as usize].fill(DATA);
     let mut volume = Volume::begun(&station.disc());
     volume.mode = if block == 0 { 0 } else { PACKET_OPEN };

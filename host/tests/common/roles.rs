@@ -7,6 +7,7 @@ use station_model::ledger::Volume;
 use station_model::roles::{Role, Since};
 
 use super::closing::CLOSE;
+use super::station::Station;
 
 /// The ten calls that are lent roles.
 pub const KEEPING: [Call; 10] = [
@@ -21,6 +22,14 @@ pub const KEEPING: [Call; 10] = [
     CLOSE,
     Call::LookBack(0),
 ];
+
+/// The roles are these digits, and the rest of the disc is blank.
+#[track_caller]
+pub fn assert_roles(station: &Station, recorded: &str) {
+    let digits = station.roles.iter().map(|role| char::from(b'0' + role));
+    let blank = "6".repeat(station.roles.len() - recorded.len());
+    assert_eq!(digits.collect::<String>(), recorded.to_string() + &blank);
+}
 
 /// How the roles differ from those worked out afresh, or do not add up.
 pub fn astray(disc: &Disc, volume: &Volume, roles: &[u8], since: &Since) -> Option<String> {

@@ -46,7 +46,7 @@ impl Station {
     }
 
     pub fn volume(&self) -> Volume {
-        Volume::load(&self.ledger).expect("1,848 bytes")
+        Volume::load(&self.ledger).expect("16,364 bytes")
     }
 
     pub fn change(&mut self, change: impl FnOnce(&mut Volume)) {

@@ -1,9 +1,14 @@
 //! Table sectors that commit would not record, and sums laid by hand.
 
-use station_model::fields::put;
+use station_model::fields::{put, u32_at};
 use station_model::table::{crc, seal, table_length, vat_sector, SECTOR};
 
-/// Byte 176, where extended attributes start, and behind them the table.
+/// "176 + 4 × N + 36 < 2048, so N is at most 458": the most entries of a table that is
+/// embedded.
+pub const MOST_EMBEDDED: usize = 458;
+
+/// Byte 176, where extended attributes start, and behind them the table or its
+/// descriptors.
 pub const ATTRIBUTES: usize = 176;
 
 /// A table sector as commit records it, but behind these extended attributes:
@@ -11,21 +16,33 @@ pub const ATTRIBUTES: usize = 176;
 /// reach beyond the sector is cut off.
 pub fn vat_behind(attributes: &[u8], block: u32, map: &[u32], previous: u32) -> [u8; SECTOR] {
     let mut sector = vat_sector(block, map, previous);
-    let table = ATTRIBUTES + attributes.len();
-    sector.copy_within(ATTRIBUTES..SECTOR - attributes.len(), table);
-    put(&mut sector, ATTRIBUTES, attributes);
-    let descriptors = table_length(map.len()) as u32;
-    put_lengths(&mut sector, attributes.len() as u32, descriptors);
+    put_attributes(&mut sector, attributes);
     seal(&mut sector, block);
     sector
 }
 
-/// Puts attribute length and descriptor length, and CRC length and information
-/// length that agree with them, modulo 2 to the 16 where they are larger.
+/// Puts extended attributes into a table sector that has none; its sums are then to be
+/// laid again.
+pub fn put_attributes(sector: &mut [u8; SECTOR], attributes: &[u8]) {
+    let behind = ATTRIBUTES + attributes.len();
+    sector.copy_within(ATTRIBUTES..SECTOR - attributes.len(), behind);
+    put(sector, ATTRIBUTES, attributes);
+    let descriptors = u32_at(sector, 172);
+    put_described(sector, attributes.len() as u32, descriptors);
+}
+
+/// Puts attribute length and descriptor length, and an information length that agrees
+/// with them as that of an embedded table does.
 pub fn put_lengths(sector: &mut [u8; SECTOR], attributes: u32, descriptors: u32) {
+    put_described(sector, attributes, descriptors);
+    put(sector, 56, &u64::from(descriptors).to_le_bytes());
+}
+
+/// Puts attribute length and descriptor length, and a CRC length that agrees with
+/// them, modulo 2 to the 16 where they are larger.
+pub fn put_described(sector: &mut [u8; SECTOR], attributes: u32, descriptors: u32) {
     let crc_length = 160u32.wrapping_add(attributes).wrapping_add(descriptors);
     put(sector, 10, &(crc_length as u16).to_le_bytes());
-    put(sector, 56, &u64::from(descriptors).to_le_bytes());
     put(sector, 168, &attributes.to_le_bytes());
     put(sector, 172, &descriptors.to_le_bytes());
 }

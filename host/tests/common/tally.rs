@@ -37,8 +37,9 @@ pub struct Tally {
     done: [usize; CALLS],
     cut: [usize; CALLS],
     refused: [usize; OUTCOMES],
-    /// By the sectors that were kept: of a write or commit 0 to 8.
-    cut_after: [usize; 9],
+    /// By the sectors that were kept: of a write or commit 0 to 16, as seven links,
+    /// eight own sectors and an ICB are.
+    cut_after: [usize; 17],
     /// Of a closing: no pointer, the pointer, all but the table, all.
     closing_cut: [usize; 4],
     /// Cuts tried beside the lists.
@@ -80,14 +81,15 @@ impl Tally {
         tallies.concat().iter().sum()
     }
 
-    /// Every call done and cut, a cut after each j, and every refusal: but a
-    /// list's discs are sound (3), and a draft at the limit is rare (13).
+    /// Every call done and cut, a cut after each j up to links and two sectors, and
+    /// every refusal: but a list's discs are sound (3). A save that records more of
+    /// its own sectors is rare, and is cut in `large_cuts.rs`.
     pub fn covers_all(&self) -> bool {
         let met = |count: &usize| *count > 0;
-        let refusals = (1..OUTCOMES).filter(|refusal| ![3, 13].contains(refusal));
+        let refusals = (1..OUTCOMES).filter(|refusal| *refusal != 3);
         self.done.iter().all(met)
             && self.cut.iter().all(met)
-            && self.cut_after.iter().all(met)
+            && self.cut_after[..=9].iter().all(met)
             && self.closing_cut.iter().all(met)
             && refusals.map(|refusal| &self.refused[refusal]).all(met)
     }
@@ -104,7 +106,7 @@ impl fmt::Display for Tally {
         writeln!(out, "{}", NAMES.join(", "))?;
         writeln!(out, "  done {:?}, cut {:?}", self.done, self.cut)?;
         writeln!(out, "refusals 1 to 20: {:?}", &self.refused[1..])?;
-        writeln!(out, "cut after 0 to 8 sectors: {:?}", self.cut_after)?;
+        writeln!(out, "cut after 0 to 16 sectors: {:?}", self.cut_after)?;
         let places = "before the pointer, behind it, before the table, behind it";
         write!(out, "closings cut {places}: {:?}", self.closing_cut)
     }

@@ -186,13 +186,67 @@ fn table_start(sector: &[u8]) -> usize {
     176 + u32_at(sector, 168) as usize
 }
 
-/// The entries of a UDF 1.50 table; 36 bytes stand behind them.
+/// The entries of a UDF 1.50 table that is embedded.
 pub fn entries(sector: &[u8]) -> Vec<u32> {
-    let table = table(sector);
+    entries_of(table(sector))
+}
+
+/// The entries of a UDF 1.50 table; 36 bytes stand behind them.
+fn entries_of(table: &[u8]) -> Vec<u32> {
     let entries = table
         .chunks_exact(4)
         .take(table.len().saturating_sub(36) / 4);
     entries.map(|entry| u32_at(entry, 0)).collect()
+}
+
+/// The entries of a UDF 1.50 table that lies in the extents of its file entry
+/// (allocation type 0, ECMA-167 4/14.6.8), and the block behind its regid.
+pub fn recorded_entries(image: &[u8], sector: &[u8]) -> (Vec<u32>, u32) {
+    let mut table = Vec::new();
+    for Extent { length, location } in extents(sector) {
+        let start = location as usize * SECTOR;
+        table.extend(&image[start..start + length as usize]);
+    }
+    assert_eq!(u64_at(sector, 56), table.len() as u64, "information length");
+    let previous = u32_at(&table, table.len() - 4);
+    (entries_of(&table), previous)
+}
+
+/// A UDF 1.50 table (UDF 1.50 2.2.10): its entries, the identifier of a table with its
+/// suffix for UDF (2.1.5.3: revision 1.50, and no operating system), and the previous
+/// table's block.
+pub fn table_of(map: &[u32], previous: u32) -> Vec<u8> {
+    let mut table: Vec<u8> = map.iter().flat_map(|entry| entry.to_le_bytes()).collect();
+    let mut regid = [0; 32];
+    put(&mut regid, 1, b"*UDF Virtual Alloc Tbl");
+    put(&mut regid, 24, &0x0150u16.to_le_bytes());
+    table.extend(regid);
+    table.extend(previous.to_le_bytes());
+    table
+}
+
+/// A file entry as it is, but for the block where it stands and its contents, which are
+/// recorded in these extents (ECMA-167 4/14.9): the flags' allocation type 0 (4/14.6.8),
+/// information length, logical blocks recorded, and short allocation descriptors
+/// (4/14.14.1) behind its attributes.
+pub fn recorded_in(sector: &[u8], block: usize, extents: &[Extent]) -> Vec<u8> {
+    let attributes = attributes(sector).len();
+    let mut entry = sector[..176 + attributes].to_vec();
+    for extent in extents {
+        entry.extend(extent.length.to_le_bytes());
+        entry.extend(extent.location.to_le_bytes());
+    }
+    let crc_length = entry.len() as u16 - 16;
+    let total: u64 = extents.iter().map(|extent| u64::from(extent.length)).sum();
+    entry.resize(SECTOR, 0);
+    put(&mut entry, 10, &crc_length.to_le_bytes());
+    put(&mut entry, 12, &(block as u32).to_le_bytes());
+    entry[34] &= !7;
+    put(&mut entry, 56, &total.to_le_bytes());
+    put(&mut entry, 64, &(extents.len() as u64).to_le_bytes());
+    put(&mut entry, 172, &(8 * extents.len() as u32).to_le_bytes());
+    seal(&mut entry);
+    entry
 }
 
 /// Puts a file entry's table behind other extended attributes and says so in its

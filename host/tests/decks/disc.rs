@@ -3,6 +3,7 @@
 //! kept only to hand the whole to another reader.
 
 use station::{Extent, Refusal, SaveTime, Timestamp, LEDGER, SECTOR};
+use station_model::table::Vat;
 
 use super::descriptors::{partition, put, u32_at, NONE};
 
@@ -12,6 +13,11 @@ const DATA: u8 = 1;
 /// What a blank sector's bytes are here. They mean nothing, and links keep
 /// them; so they are no zeros, which readers like to take for an end.
 const UNRECORDED: u8 = 0xA5;
+
+/// The ledger: 4,087 "map entries, then size, recorded, last table, mode, each 32
+/// bits".
+const SIZE: usize = 4 * 4087;
+const LAST_VAT: usize = SIZE + 8;
 
 /// What a lost ledger and lost roles hold: begin and mount do not read them.
 const LOST: u8 = 0xEE;
@@ -79,20 +85,34 @@ impl Disc {
         &self.image[block * SECTOR..(block + 1) * SECTOR]
     }
 
+    /// Records a sector of another writer behind the last one; its block.
+    pub fn append(&mut self, bytes: &[u8]) -> usize {
+        let block = self.recorded();
+        self.kinds[block] = DATA;
+        self.set_sector(block, bytes);
+        block
+    }
+
     pub fn set_sector(&mut self, block: usize, bytes: &[u8]) {
         self.image[block * SECTOR..(block + 1) * SECTOR].copy_from_slice(bytes);
     }
 
-    /// The ledger's map below its size: "458 map entries, then size, recorded,
-    /// last table, mode, each 32 bits".
+    /// What the model finds at the block, which is a table to it.
+    pub fn found_by_model(&self, block: usize) -> Vat {
+        let disc = station_model::disc::Disc::lent(&self.image, &self.kinds);
+        let found = disc.expect("a disc of right size").vat_at(block as u32);
+        found.expect("a table to the model")
+    }
+
+    /// The ledger's map below its size.
     pub fn map(&self) -> Vec<u32> {
-        let size = u32_at(&self.ledger, 1832) as usize;
+        let size = u32_at(&self.ledger, SIZE) as usize;
         (0..size).map(|v| u32_at(&self.ledger, 4 * v)).collect()
     }
 
     /// The ledger's last table.
     pub fn last_vat(&self) -> Option<usize> {
-        let block = u32_at(&self.ledger, 1840);
+        let block = u32_at(&self.ledger, LAST_VAT);
         (block != NONE).then_some(block as usize)
     }
 
@@ -141,13 +161,13 @@ impl Disc {
 
     /// Lets the ledger have this recorded block as number v, which is its size.
     pub fn name(&mut self, v: u32, block: usize) {
-        assert_eq!(u32_at(&self.ledger, 1832), v, "the size");
+        assert_eq!(u32_at(&self.ledger, SIZE), v, "the size");
         put(
             &mut self.ledger,
             4 * v as usize,
             &(block as u32).to_le_bytes(),
         );
-        put(&mut self.ledger, 1832, &(v + 1).to_le_bytes());
+        put(&mut self.ledger, SIZE, &(v + 1).to_le_bytes());
     }
 
     /// Records a block as number v; the block's place.

@@ -171,10 +171,10 @@ fn a_cut_commit_behind_links_shows_the_old_save() {
     }
 }
 
-/// A full map of 458 numbers. The volume names number 457 as its file set, so
-/// udfinfo has to read the last entry of the largest table.
+/// A map of 458 numbers. The volume names number 457 as its file set, so udfinfo has to
+/// read the last entry of the largest table that is embedded.
 #[test]
-fn udfinfo_reads_the_last_number_of_a_full_map() {
+fn udfinfo_reads_the_last_number_of_a_full_icb() {
     let mut volume = written_by_mkudffs(EDITION_150[0]);
     name_file_set(&mut volume, 457);
     let mut disc = taken_over(&volume);

@@ -5,7 +5,6 @@ use std::fmt::Debug;
 use std::time::{SystemTime, UNIX_EPOCH};
 
 use station::{Timestamp, SECTOR};
-use station_model::table::recognise;
 
 use super::descriptors::{
     attributes, entries, put, rows_not_kept, seal, seal_over, u16_at, with_attributes, NONE,
@@ -90,8 +89,7 @@ fn assert_writers_map(disc: &Disc, icb: &[u8], recipe: Recipe) {
     let map = entries(icb);
     assert_eq!(map.len(), 2, "file set and root directory, {recipe:?}");
     assert_eq!(disc.map(), map, "{recipe:?}");
-    let icb: &[u8; SECTOR] = icb.try_into().expect("a sector");
-    let found = recognise(icb, writers_vat(disc) as u32).expect("a table to the model");
+    let found = disc.found_by_model(writers_vat(disc));
     assert_eq!(
         (found.map, found.previous),
         (map.clone(), NONE),

@@ -75,7 +75,7 @@ returns-2 c =
 scan-requires : tie.Need-scan-requires
 scan-requires c κs =
     let e = c .before .before in let j = called e in let s = start-of j in
-    let r = ready (D s) (L s) begin (done e) (j .begin .ensures) (R s) (lengths-right j) refl refl (e .before .before .ledger .given) (begin-few (D s) (L s) (done e)) (R s) refl in
+    let r = ready (D s) (L s) begin (done e) (j .begin .ensures) (R s) (lengths-right j) (e .before .before .ledger .given) (begin-few (D s) (L s) (done e)) in
     let t = begin-ends (D s) (L s) (done e) in
     (r .0, r .1, r .2, r .3, t .0, t .1)
 

@@ -91,7 +91,7 @@ ends c =
 scan-requires : tie.Need-scan-requires
 scan-requires c κs =
     let q = c .before .before in let e = accepted q in let j = called e in let s = start-of j in
-    let r = ready (D s) (L s) (call s) (done e) (j .look-back .ensures) (R s) (lengths-right j) refl refl (e .before .before .ledger .given) (look-back-few (D s) (L s) (s .args .k) (done e)) (R s) refl in
+    let r = ready (D s) (L s) (call s) (done e) (j .look-back .ensures) (R s) (lengths-right j) (e .before .before .ledger .given) (look-back-few (D s) (L s) (s .args .k) (done e)) in
     let t = ends q in
     (r .0, r .1, r .2, r .3, t .0, t .1)
 

@@ -6,6 +6,7 @@ use mathlib.Core.Path.{_≡_, refl, sym, ap, _∙_, subst}
 use mathlib.Core.Bool.{true}
 use mathlib.Core.List.{List, []}
 use Rattle.disc.specs.Disc.{Disc, lent}
+use Rattle.disc.proofs.Recording.{leading-le}
 use Rattle.recorder.specs.Calls.{mount}
 use Rattle.recorder.specs.Refusals.{first, outcome}
 use Rattle.recorder.proofs.Done.{ledger-accepted, mount-done}
@@ -87,12 +88,12 @@ ends c =
     subst (λ (n : ℕ). Ends (D s) (n + 1)) (sym (c .last .ensures)) (mount-ends (D s) (L s) (done e) (j .mount .ensures))
 
 add-end : tie.Need-add-end
-add-end c = let s = start-of (called (accepted c)) in omega (arith, ends c .0, mount-done (D s) (L s) (done (accepted c)) .0 .few)
+add-end c = let s = start-of (called (accepted c)) in omega (arith, ends c .0, mount-done (D s) (L s) (done (accepted c)) .0 .few, leading-le (D s .kinds))
 
 scan-requires : tie.Need-scan-requires
 scan-requires c κs =
     let q = c .before .before in let e = accepted q in let j = called e in let s = start-of j in
-    let r = ready (D s) (L s) mount (done e) (j .mount .ensures) (R s) (lengths-right j) refl refl (e .before .before .ledger .given) (mount-few (D s) (L s) (done e)) (R s) refl in
+    let r = ready (D s) (L s) mount (done e) (j .mount .ensures) (R s) (lengths-right j) (e .before .before .ledger .given) (mount-few (D s) (L s) (done e)) in
     let t = ends q in
     (r .0, r .1, r .2, r .3, t .0, t .1)
 

@@ -12,7 +12,7 @@ use Rattle.recorder.specs.Refusals.{first, blockOf, outcome}
 use Rattle.recorder.proofs.Done.{ledger-accepted, release-done}
 use Rattle.roles.specs.Keeping.{rolesTests, leftRoles}
 use Rattle.keeper.proofs.Kept.{is-done, turned-away, refused, kept}
-use Rattle.keeper.proofs.Calls.{release-few, ready, release-kept}
+use Rattle.keeper.proofs.Calls.{release-few, known, release-kept}
 use borrow.Author.Needs.{needs}
 use Rattle.keeper.proofs.release.Statement.{statement}
 use Rattle.keeper.proofs.release.Tie as tie
@@ -94,7 +94,7 @@ returns-2 c =
 let-go-requires : tie.Need-let-go-requires
 let-go-requires c κs =
     let e = c .before .before in let j = called e in let s = start-of j in
-    ready (D s) (L s) (call s) (done e) (j .release .ensures) (R s) (lengths-right j) refl refl (e .before .before .ledger .given) (release-few (D s) (L s) (s .args .v) (done e)) (R s) refl
+    known (D s) (L s) (call s) (done e) (j .release .ensures) (e .before .before .ledger .given) (release-few (D s) (L s) (s .args .v) (done e))
 
 same-length-4 : tie.Need-same-length-4
 same-length-4 c = c .before .roles .given

@@ -1,6 +1,6 @@
 -- `keeper::write` meets its contract.
 -- Assumes nothing.
-use Prim.Native.Nat.{ℕ, _-_}
+use Prim.Native.Nat.{ℕ}
 use mathlib.Core.Path.{_≡_, refl, sym, ap, _∙_}
 use mathlib.Core.Bool.{true}
 use mathlib.Core.List.{List}
@@ -13,7 +13,7 @@ use Rattle.recorder.proofs.Done.{ledger-accepted, write-done}
 use Rattle.roles.specs.Roles.{inUse}
 use Rattle.roles.specs.Keeping.{marked, rolesTests, leftRoles}
 use Rattle.keeper.proofs.Kept.{is-done, turned-away, refused, kept}
-use Rattle.keeper.proofs.Calls.{write-few, ready, Placed, write-placed, markable, marked-there, write-kept}
+use Rattle.keeper.proofs.Calls.{write-few, known, Placed, write-placed, markable, marked-there, write-kept}
 use borrow.Author.Needs.{needs}
 use Rattle.keeper.proofs.write.Statement.{statement}
 use Rattle.keeper.proofs.write.Tie as tie
@@ -136,26 +136,24 @@ mark-requires c κs =
 
 let-go-requires : tie.Need-let-go-requires
 let-go-requires c κs =
-    let r = c .before .before .before .before .before in let e = r .before .before .before in let j = called e in let s = start-of j in
-    let l = e .before .before in
-    ready (D s) (L s) (call s) (done e) (j .write .ensures) (R s) (lengths-right j) (l .before .before .before .before .image .given) (l .before .before .kinds .given) (l .ledger .given)
-    (write-few (D s) (L s) (s .args .v) (s .args .block .now) (done e)) (r .before .mark .last .0) (r .roles .given)
+    let e = c .before .before .before .before .before .before in let j = called e in let s = start-of j in
+    known (D s) (L s) (call s) (done e) (j .write .ensures) (e .before .before .ledger .given) (write-few (D s) (L s) (s .args .v) (s .args .block .now) (done e))
 
 same-length-8 : tie.Need-same-length-8
-same-length-8 c = c .before .before .before .before .before .before .before .before .before .before .before .before .before .before .before .before .before .image .given
+same-length-8 c = c .before .before .before .before .before .before .before .before .before .before .before .before .before .before .before .image .given
 
 same-length-9 : tie.Need-same-length-9
-same-length-9 c = c .before .before .before .before .before .before .before .before .before .before .before .before .before .before .before .kinds .given
+same-length-9 c = c .before .before .before .before .before .before .before .before .before .before .before .before .before .kinds .given
 
 same-length-10 : tie.Need-same-length-10
-same-length-10 c = c .before .roles2 .given ∙ c .before .before .before .before .before .before .before .before .roles .given
+same-length-10 c = c .before .roles2 .given ∙ c .before .before .before .before .before .before .roles .given
 
 same-length-11 : tie.Need-same-length-11
-same-length-11 c = c .before .before .before .before .before .before .before .before .before .before .before .before .before .ledger .given
+same-length-11 c = c .before .before .before .before .before .before .before .before .before .before .before .ledger .given
 
 returns-3 : tie.Need-returns-3
 returns-3 c =
-    let h = c .before .before in let k = h .before .before .before .before .before .before .before in let e = k .before .before in let j = called e in let s = start-of j in
+    let h = c .before .before in let k = h .before .before .before .before .before in let e = k .before .before in let j = called e in let s = start-of j in
     kept (D s) (R s) (L s) (call s) refl (lengths-right j) (j .write .ensures) (done e)
     (write-kept (D s) (R s) (L s) (s .args .v) (s .args .block .now) (j .write .ensures) (named e) (marked-so k) (h .let-go .ensures))
 

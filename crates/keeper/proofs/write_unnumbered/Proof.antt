@@ -1,6 +1,7 @@
 -- `keeper::write_unnumbered` meets its contract.
 -- Assumes nothing.
-use Prim.Native.Nat.{ℕ, _-_}
+use Prim.Native.Nat.{ℕ}
+use native.Mathlib.Omega.{arith}
 use mathlib.Core.Path.{_≡_, refl, sym, ap, _∙_}
 use mathlib.Core.Bool.{true}
 use mathlib.Core.List.{List}
@@ -133,8 +134,9 @@ same-length-11 c = c .before .before .before .before .before .before .ledger .gi
 returns-3 : tie.Need-returns-3
 returns-3 c =
     let h = c .before .before in let e = h .before .before in let j = called e in let s = start-of j in
+    let room = markable (D s) (R s) (L s) (placed-at e) (own e) (links-are e) refl refl (lengths-right j) in
     kept (D s) (R s) (L s) (call s) refl (lengths-right j) (j .write-unnumbered .ensures) (done e)
-    (unnumbered-kept (D s) (R s) (L s) (s .args .block .now) (j .write-unnumbered .ensures) (e .before .before .before .before .kinds .given) (placed-at e .few)
+    (unnumbered-kept (D s) (R s) (L s) (s .args .block .now) (j .write-unnumbered .ensures) (omega (arith, c .before .roles .given, room .1))
     (marked-there (D s) (R s) (L s) (placed-at e) (own e) (links-are e) refl refl unnumbered (h .mark .ensures)))
 
 pub write-unnumbered-spec : {M : Type 1} → statement M

@@ -60,7 +60,11 @@ returns c =
     ∙ refused-left (D s) (L s) (call s) (j .close-session .result) (j .close-session .ensures) (c .before .if1 .taken)
 
 close-requires : tie.Need-close-requires
-close-requires c κs = let e = c .before .before .before in let s = start-of e in closing-saves (D s) (L s) (s .args .main) (s .args .reserve) (s .args .start) (done e)
+close-requires c κs =
+    let e = c .before .before .before in let s = start-of e in
+    let t = closing-saves (D s) (L s) (s .args .main) (s .args .reserve) (s .args .start) (done e) in
+    let v = t .0 in
+    (v .0, v .1, v .2, v .3, v .4, v .5, t .1, t .2)
 
 cast-result : tie.Need-cast-result
 cast-result c = search needs

@@ -61,7 +61,11 @@ slice-aggregate-save : tie.Need-slice-aggregate-save
 slice-aggregate-save c = search needs
 
 save-requires : tie.Need-save-requires
-save-requires c κs = let e = c .before .before .before .before in let s = start-of e in commit-saves (D s) (L s) none (done e)
+save-requires c κs =
+    let e = c .before .before .before .before in let s = start-of e in
+    let t = commit-saves (D s) (L s) none (done e) in
+    let v = t .0 in
+    (v .0, v .1, v .2, v .3, v .4, v .5, t .1, t .2)
 
 cast-result : tie.Need-cast-result
 cast-result c = search needs

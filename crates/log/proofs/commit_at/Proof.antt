@@ -58,7 +58,11 @@ returns c =
     ∙ refused-left (D s) (L s) (commit (some (s .args .stamp .now))) (j .commit-at .result) (j .commit-at .ensures) (c .before .if1 .taken)
 
 save-requires : tie.Need-save-requires
-save-requires c κs = let e = c .before .before .before in let s = start-of e in commit-saves (D s) (L s) (some (s .args .stamp .now)) (done e)
+save-requires c κs =
+    let e = c .before .before .before in let s = start-of e in
+    let t = commit-saves (D s) (L s) (some (s .args .stamp .now)) (done e) in
+    let v = t .0 in
+    (v .0, v .1, v .2, v .3, v .4, v .5, t .1, t .2)
 
 cast-result : tie.Need-cast-result
 cast-result c = search needs

@@ -12,7 +12,8 @@ use Rattle.disc.specs.declared.Walk.the-variants.{Reached}
 use Rattle.disc.specs.Tables.{mapAt}
 use Rattle.recorder.specs.Refusals.{walked}
 use Rattle.recorder.specs.Calls.{lookBack}
-use Rattle.recorder.proofs.Done.{ledger-accepted, look-back-done, shown-fits}
+use Rattle.disc.proofs.Recording.{sound-sized}
+use Rattle.recorder.proofs.Done.{ledger-accepted, look-back-done}
 use Rattle.calls.proofs.Left.{refused-left, look-back-left}
 use borrow.Author.Needs.{needs}
 use Rattle.log.proofs.look_back.Statement.{statement}
@@ -50,11 +51,11 @@ counted c = after-look-back c .look-back .ensures .1 (c .if1 .left) .0
 found : (c : tie.Else1) → let s = start-of c in walked (D s) (s .args .k) ≡ Reached (after-look-back c .look-back .result .block)
 found c = after-look-back c .look-back .ensures .1 (c .if1 .left) .1
 
-shown : (c : tie.After-show) → let a = after-look-back (admitted c) in let s = entered a in c .show .last .1 .0 ≡ pack (shownAt (D s) (a .look-back .result .block) 2)
+shown : (c : tie.After-show) → let a = after-look-back (admitted c) in let s = entered a in c .show .last .1 .1 .0 ≡ pack (shownAt (D s) (a .look-back .result .block) 2)
 shown c =
     let e = admitted c in let a = after-look-back e in let s = entered a in
     let b : ℕ = a .look-back .result .block in
-    c .show .ensures (D s .kinds) ∙ ap (λ (r : ℕ). pack (filled (mapAt (D s) b) b r 2)) (counted e)
+    c .show .ensures ∙ ap (λ (r : ℕ). pack (filled (mapAt (D s) b) b r 2)) (counted e)
 
 look-back-requires : tie.Need-look-back-requires
 look-back-requires c κs = search needs
@@ -74,9 +75,7 @@ returns c =
 show-requires : tie.Need-show-requires
 show-requires c κs =
     let e = c .before in let a = after-look-back e in let s = entered a in
-    let b : ℕ = a .look-back .result .block in
-    let t = shown-fits (D s) b (look-back-done (D s) (L s) (s .args .k) (done e) .0) (a .look-back .ensures .1 (e .if1 .left) .2) in
-    (ledger-accepted (D s) (L s) (lookBack (s .args .k)) (done e), t .0, t .1)
+    (ledger-accepted (D s) (L s) (lookBack (s .args .k)) (done e), sound-sized (D s) (look-back-done (D s) (L s) (s .args .k) (done e) .0), a .look-back .ensures .1 (e .if1 .left) .2)
 
 cast-result : tie.Need-cast-result
 cast-result c = search needs

@@ -13,11 +13,11 @@ use mathlib.Core.Option.{some}
 use Rattle.disc.specs.Tables.{tableAt, mapAt, newest}
 use Rattle.volume.specs.Volume.{filled}
 use borrow.Author.Tests.{eq-eqb, ne-eqb}
-use Rattle.disc.proofs.Recording.{leading-le}
+use Rattle.disc.proofs.Recording.{sound-sized, leading-le}
 use Rattle.disc.proofs.Found.{newest-table, newest-below}
 use Rattle.recorder.specs.Effects.{cleanNumber}
 use Rattle.recorder.specs.Calls.{mount}
-use Rattle.recorder.proofs.Done.{ledger-accepted, mount-done, shown-fits}
+use Rattle.recorder.proofs.Done.{ledger-accepted, mount-done}
 use Rattle.calls.proofs.Left.{refused-left, mount-left}
 use borrow.Author.Needs.{needs}
 use Rattle.log.proofs.mount.Statement.{statement}
@@ -55,11 +55,11 @@ counted c = after-mount c .mount .ensures .1 (c .if1 .left) .0
 found : (c : tie.Else1) → let s = start-of c in newest (D s) ≡ some (after-mount c .mount .result .block)
 found c = after-mount c .mount .ensures .1 (c .if1 .left) .1
 
-shown : (c : tie.After-show) → let a = after-mount (admitted c) in let s = entered a in c .show .last .1 .0 ≡ pack (shownAt (D s) (a .mount .result .block) 0)
+shown : (c : tie.After-show) → let a = after-mount (admitted c) in let s = entered a in c .show .last .1 .1 .0 ≡ pack (shownAt (D s) (a .mount .result .block) 0)
 shown c =
     let e = admitted c in let a = after-mount e in let s = entered a in
     let b : ℕ = a .mount .result .block in
-    c .show .ensures (D s .kinds) ∙ ap (λ (r : ℕ). pack (filled (mapAt (D s) b) b r 0)) (counted e)
+    c .show .ensures ∙ ap (λ (r : ℕ). pack (filled (mapAt (D s) b) b r 0)) (counted e)
 
 mount-requires : tie.Need-mount-requires
 mount-requires c κs = search needs
@@ -80,8 +80,7 @@ show-requires : tie.Need-show-requires
 show-requires c κs =
     let e = c .before in let s = start-of e in
     let b : ℕ = after-mount e .mount .result .block in
-    let t = shown-fits (D s) b (mount-done (D s) (L s) (done e) .0) (newest-table (tableAt (D s)) (recorded (D s)) b (found e)) in
-    (ledger-accepted (D s) (L s) mount (done e), t .0, t .1)
+    (ledger-accepted (D s) (L s) mount (done e), sound-sized (D s) (mount-done (D s) (L s) (done e) .0), newest-table (tableAt (D s)) (recorded (D s)) b (found e))
 
 add-if2 : tie.Need-add-if2
 add-if2 c =

@@ -15,7 +15,7 @@ use Rattle.disc.proofs.Found.{length-time}
 use Rattle.recorder.specs.Calls.{timeOf}
 use Rattle.recorder.specs.Refusals.{walked, timeReached, outcome}
 use Rattle.recorder.specs.Effects.{left}
-use Rattle.recorder.proofs.Done.{TimeDone, time-done, shown-fits}
+use Rattle.recorder.proofs.Done.{TimeDone, time-done, shown-within}
 use Rattle.calls.proofs.Left.{refused-left, time-left}
 use borrow.Author.Needs.{needs}
 use Rattle.log.proofs.time_of.Statement.{statement}
@@ -58,7 +58,7 @@ way : (c : tie.Else1) → let s = start-of c in walked (D s) (s .args .k) ≡ Re
 way c = after-time-of c .time-of .ensures .1 (c .if1 .left) .0
 
 within : (c : tie.Else1) → sectorLength * B c + sectorLength ≤ length (D (start-of c) .image)
-within c = shown-fits (D (start-of c)) (B c) (facts c .sound-disc) (after-time-of c .time-of .ensures .1 (c .if1 .left) .1) .0
+within c = shown-within (D (start-of c)) (B c) (facts c .sound-disc) (after-time-of c .time-of .ensures .1 (c .if1 .left) .1)
 
 -- the bytes that were taken are the table's time
 taken : (c : tie.After-time-at) → let e = c .before in c .time-at .result .now ≡ timeAt (D (start-of e)) (B e)

@@ -1,13 +1,15 @@
--- `roles::mark_tables` meets its contract: below the block come to every table is marked.
+-- `roles::mark_tables` meets its contract: below the block come to every table is marked, and what it names.
 -- Assumes nothing.
 use Prim.Native.Nat.{ℕ, _-_, _≤_}
 use native.Mathlib.Omega.{arith}
 use mathlib.Core.Path.{_≡_, sym, ap, _∙_}
 use mathlib.Core.Logic.{⊎-elim}
 use mathlib.Core.List.{List}
-use lib.ListN.{length, set}
+use lib.ListN.{length, set, length-set}
 use Rattle.disc.specs.Disc.{Disc, lent}
-use Rattle.roles.specs.Roles.{tableRole, tabulate}
+use Rattle.disc.specs.Tables.{namedBy}
+use Rattle.disc.proofs.Recording.{leading-le}
+use Rattle.roles.specs.Roles.{tableRole, tabulate, markedAt}
 use Rattle.roles.proofs.Roles.{length-tabulate}
 use Rattle.roles.proofs.Scanning.{passedTo, none-passed, all-passed, table-passed, other-passed}
 use borrow.Author.Needs.{needs}
@@ -33,17 +35,26 @@ entered s = s .pre .1 ∙ none-passed (D s) (length (D s .kinds))
 long : (c : tie.At-loop Inv-loop μ-loop) → length (c .loop .roles) ≡ length (D (start-of c) .kinds)
 long c = let d : Disc = D (start-of c) in ap length (c .loop .inv .1) ∙ length-tabulate (passedTo d (c .loop .b)) (length (d .kinds))
 
+-- the blocks passed over lie on the disc
+inside : (c : tie.At-loop Inv-loop μ-loop) → start-of c .args .end ≤ length (D (start-of c) .kinds)
+inside c = let s = start-of c in omega (arith, s .pre .2, leading-le (D s .kinds))
+
 loop-holds : tie.Need-loop-holds Inv-loop μ-loop
 loop-holds c = (omega arith, entered (c .before .before .before))
 
-is-table-requires : tie.Need-is-table-requires Inv-loop μ-loop
-is-table-requires c κs = let s = start-of (c .before) in (s .pre .0, omega (arith, s .pre .2))
+table-at-requires : tie.Need-table-at-requires Inv-loop μ-loop
+table-at-requires c κs = start-of (c .before) .pre .0
 
 cast-place : tie.Need-cast-place Inv-loop μ-loop
 cast-place c = search needs
 
 slice-write-roles : tie.Need-slice-write-roles Inv-loop μ-loop
-slice-write-roles c = let p = c .before .before .before in omega (arith, long p, start-of p .pre .2)
+slice-write-roles c = let p = c .before .before .before in omega (arith, long p, inside p)
+
+mark-named-requires : tie.Need-mark-named-requires Inv-loop μ-loop
+mark-named-requires c κs =
+    let q = c .before .before in let p = q .before .before in let s = start-of p in
+    (s .pre .0, length-set (p .loop .roles) (p .loop .b) tableRole ∙ long p, sym (q .table-at .ensures) ∙ c .before .if1 .taken)
 
 add-b : tie.Need-add-b Inv-loop μ-loop
 add-b c = omega arith
@@ -55,10 +66,11 @@ loop-again : tie.Need-loop-again Inv-loop μ-loop
 loop-again c =
     let q = c .before in let p = q .before .before in let l = p .loop in let s = start-of p in
     let m : ℕ = length (D s .kinds) in
-    let here = q .is-table .ensures in (
+    let here = q .table-at .ensures in (
       omega arith,
       ⊎-elim
-          (λ w. w .1 ∙ ap (λ (xs : List ℕ). set xs (l .b) tableRole) (l .inv .1) ∙ table-passed (D s) m (l .b) (omega (arith, s .pre .2)) (sym here ∙ w .0 .taken))
+          (λ w. w .5 ∙ w .2 .ensures ∙ ap (λ (xs : List ℕ). markedAt (namedBy (D s) (l .b)) (set xs (l .b) tableRole)) (l .inv .1)
+          ∙ table-passed (D s) m (l .b) (omega (arith, inside p)) (sym here ∙ w .0 .taken))
           (λ w. w .1 ∙ l .inv .1 ∙ other-passed (D s) m (l .b) (sym here ∙ w .0 .left)) (c .if1 .came),
     )
 
@@ -72,7 +84,7 @@ returns c =
     let p = c .before in let l = p .loop in let s = start-of p in
     let m : ℕ = length (D s .kinds) in
     let all : l .b ≡ s .args .end = omega arith in
-    l .inv .1 ∙ ap (λ (n : ℕ). tabulate (passedTo (D s) n) m) all ∙ all-passed (D s) m (s .args .end) (s .pre .3)
+    l .inv .1 ∙ ap (λ (n : ℕ). tabulate (passedTo (D s) n) m) all ∙ all-passed (D s) m (s .args .end) (s .pre .2) (s .pre .3)
 
 pub mark-tables-spec : {M : Type 1} → statement M
 mark-tables-spec =
@@ -81,9 +93,10 @@ mark-tables-spec =
     Inv-loop
     μ-loop
     loop-holds
-    is-table-requires
+    table-at-requires
     cast-place
     slice-write-roles
+    mark-named-requires
     add-b
     loop-less
     loop-again

@@ -10,16 +10,16 @@ use lib.ListN.{length, take, set, length-set}
 use lib.Seq.{take-all, take-suc-set}
 use Rattle.le.specs.Field.{readLe, words}
 use Rattle.le.proofs.Runs.{words-none}
-use Rattle.volume.specs.Volume.{unpack}
+use Rattle.volume.specs.Volume.{places, unpack}
 use Rattle.volume.proofs.State.{words-snoc}
 use Rattle.volume.proofs.load_entries.Statement.{statement}
 use Rattle.volume.proofs.load_entries.Tie as tie
 
 abbrev Inv-loop : tie.InvT-loop
-Inv-loop l entries₀ i₀ entries i = (i ≤ 458) × (length entries ≡ 458) × (take i entries ≡ words i l 0)
+Inv-loop l entries₀ i₀ entries i = (i ≤ places) × (length entries ≡ places) × (take i entries ≡ words i l 0)
 
 abbrev μ-loop : tie.MeasureT-loop
-μ-loop l entries₀ i₀ entries i = 458 - i
+μ-loop l entries₀ i₀ entries i = places - i
 
 loop-holds : tie.Need-loop-holds Inv-loop μ-loop
 loop-holds c = (omega arith, refl, sym (words-none (c .before .args .l .now) 0))
@@ -60,9 +60,9 @@ returns : tie.Need-returns Inv-loop μ-loop
 unfolding unpack
 returns c =
     let at = c .before in
-    let done : at .loop .i ≡ 458 = omega arith in
+    let done : at .loop .i ≡ places = omega arith in
     let e : List ℕ = at .loop .entries in
-    sym (take-all 458 e (omega arith)) ∙ rw done at (at .loop .inv .2)
+    sym (take-all places e (omega arith)) ∙ rw done at (at .loop .inv .2)
 
 pub load-entries-spec : {M : Type 1} → statement M
 load-entries-spec =

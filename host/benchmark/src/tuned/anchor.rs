@@ -2,6 +2,7 @@
 //! tag recognised, and the sector made in its place on the disc.
 
 use super::crc::crc;
+use super::extent::Extent;
 use super::fields::{put, u16_at, u32_at};
 use super::table::{tag_sum, Sector, BODY};
 
@@ -13,12 +14,6 @@ const POINTER: u16 = 2;
 
 /// "CRC length 496"
 const CRC_LENGTH: usize = 496;
-
-/// "length, location, 32 bits each"
-pub struct Extent {
-    pub length: u32,
-    pub location: u32,
-}
 
 /// "The host gives the two extents and the partition's start as 32-bit numbers."
 pub struct Anchor {
@@ -42,10 +37,8 @@ pub fn put_pointer(sector: &mut Sector, b: u32, anchor: &Anchor) {
     sector[2] = 2;
     put(sector, 10, &(CRC_LENGTH as u16).to_le_bytes());
     put(sector, 12, &(anchor.partition_start + b).to_le_bytes());
-    for (at, extent) in [(16, &anchor.main), (24, &anchor.reserve)] {
-        put(sector, at, &extent.length.to_le_bytes());
-        put(sector, at + 4, &extent.location.to_le_bytes());
-    }
+    put(sector, 16, &anchor.main.to_bytes());
+    put(sector, 24, &anchor.reserve.to_bytes());
     let sum = crc(&sector[BODY..BODY + CRC_LENGTH]);
     put(sector, 8, &sum.to_le_bytes());
     sector[4] = tag_sum(sector);

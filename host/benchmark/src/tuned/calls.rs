@@ -8,24 +8,25 @@ use super::disc::{Disc, BEFORE_TABLE, DATA, LINK};
 use super::fields::u32_at;
 use super::ledger::{self, put_u32, Ledger, LEDGER};
 use super::ledger::{IDLE, LAST_VAT, MODE, PACKET_OPEN, READ_ONLY, RECORDED, SIZE};
-use super::roles::{self, IN_USE, SUPERSEDED, TABLE, UNNUMBERED};
+use super::roles::{self, IN_USE, TABLE, UNNUMBERED};
 use super::run::{self, MOST_VIEWED};
-use super::table::{put_vat, recognise, Sector, LIMIT, NONE, SECTOR};
-use super::time::{told, Stamp, NO_STAMP, TIME};
+use super::save::{Save, Table};
+use super::table::{recognise, Sector, LIMIT, NONE};
+use super::time::{self, Stamp, NO_STAMP, TIME};
 
-/// "Write needs links + 1 + 8 blank sectors"; "On discs of 1,000 sectors or more a
-/// write must leave 264 instead of 8" (document 02).
+/// "the short disc's reserve grows from 8 to 16"; "On discs of 1,000 sectors or more a
+/// write must leave 264" (document 02).
 #[inline(always)]
 fn reserve(sectors: usize) -> usize {
     if sectors < 1000 {
-        8
+        16
     } else {
         264
     }
 }
 
 /// Refusal 2 of roles and ledger: "a lent role buffer of another length than the
-/// kinds" (document 02), "a lent ledger is not 1,848".
+/// kinds" (document 02), or a ledger of another length than its own.
 #[inline(always)]
 fn lent_ledger<'a>(
     disc: &Disc,
@@ -91,7 +92,7 @@ pub fn write(
     let disc = Disc::lent(image, kinds)?;
     let ledger = lent_ledger(&disc, roles, ledger)?;
     let data: &Sector = block.try_into().map_err(|_| Refusal::LentLength)?;
-    let recorded = ledger::writable(ledger, &disc)?;
+    let recorded = ledger::writable(ledger, &disc)?.recorded;
     let size = u32_at(ledger, SIZE);
     let links = ledger::links(ledger, recorded);
     let place = recorded + links;
@@ -104,13 +105,15 @@ pub fn write(
         Refusal::NoRoom,
     )?;
     refuse(
-        has_pointer_tag(data, place as u32) || recognise(data, place as u32).is_some(),
+        has_pointer_tag(data, place as u32) || recognise(data, place as u32, &disc).is_some(),
         Refusal::WouldBeVat,
     )?;
-    let superseded = v.and_then(|v| roles::let_go(ledger, &disc, v));
-    *record(image, kinds, roles, recorded..place, place) = *data;
+    if let Some(v) = v {
+        roles::let_go(roles, ledger, v);
+    }
+    put_kinds(kinds, roles, recorded..place, place);
     roles[place] = if v.is_some() { IN_USE } else { UNNUMBERED };
-    supersede(roles, superseded);
+    image.as_chunks_mut().0[place] = *data;
     if let Some(v) = v {
         put_u32(ledger, 4 * v as usize, place as u32);
         put_u32(ledger, SIZE, size + u32::from(v == size));
@@ -125,7 +128,7 @@ pub fn release(image: &[u8], kinds: &[u8], roles: &mut [u8], ledger: &mut [u8], 
     let ledger = lent_ledger(&disc, roles, ledger)?;
     ledger::writable(ledger, &disc)?;
     ledger::block_of(ledger, v).ok_or(Refusal::NotInUse)?;
-    supersede(roles, roles::let_go(ledger, &disc, v));
+    roles::let_go(roles, ledger, v);
     put_u32(ledger, 4 * v as usize, NONE);
     Ok(0)
 }
@@ -143,8 +146,9 @@ pub fn close_packet(image: &[u8], kinds: &[u8], roles: &[u8], ledger: &mut [u8])
 pub fn commit(image: &mut [u8], kinds: &mut [u8], roles: &mut [u8], ledger: &mut [u8]) -> Answer {
     let disc = Disc::lent(image, kinds)?;
     let ledger = lent_ledger(&disc, roles, ledger)?;
-    let recorded = ledger::writable(ledger, &disc)?;
-    save(image, kinds, roles, ledger, recorded, 0, &NO_STAMP)
+    let told = ledger::writable(ledger, &disc)?;
+    let save = Save::of(&table(ledger), told.last);
+    record_save(image, kinds, roles, ledger, &save, save.fresh, &NO_STAMP)
 }
 
 /// "A second form of commit takes a 12-byte ECMA-167 timestamp"; 16 "is tested
@@ -159,14 +163,15 @@ pub fn commit_at(
     let disc = Disc::lent(image, kinds)?;
     let ledger = lent_ledger(&disc, roles, ledger)?;
     let stamp: &Stamp = stamp.try_into().map_err(|_| Refusal::LentLength)?;
-    let recorded = ledger::writable(ledger, &disc)?;
-    refuse(told(stamp).is_none(), Refusal::BadTimestamp)?;
-    save(image, kinds, roles, ledger, recorded, 0, stamp)
+    let told = ledger::writable(ledger, &disc)?;
+    refuse(time::told(stamp).is_none(), Refusal::BadTimestamp)?;
+    let save = Save::of(&table(ledger), told.last);
+    record_save(image, kinds, roles, ledger, &save, save.fresh, stamp)
 }
 
 /// "Closing records, after links as usual, an Anchor Volume Descriptor Pointer, 255
-/// zero sectors and the table sector, all as data"; 18 is "tested directly after 17"
-/// (document 02).
+/// zero sectors and the table sector, all as data"; own sectors "take the last of the
+/// 255"; 18 is "tested directly after 17" (document 02).
 pub fn close_session(
     image: &mut [u8],
     kinds: &mut [u8],
@@ -176,50 +181,46 @@ pub fn close_session(
 ) -> Answer {
     let disc = Disc::lent(image, kinds)?;
     let ledger = lent_ledger(&disc, roles, ledger)?;
-    let recorded = ledger::writable(ledger, &disc)?;
+    let told = ledger::writable(ledger, &disc)?;
     refuse(anchor.partition_start > MOST_START, Refusal::PartitionStart)?;
-    let table = save(
-        image,
-        kinds,
-        roles,
-        ledger,
-        recorded,
-        BEFORE_TABLE,
-        &NO_STAMP,
-    )?;
-    let pointer = table as usize - BEFORE_TABLE;
-    let sectors = &mut image.as_chunks_mut::<SECTOR>().0[pointer..table as usize];
+    let save = Save::of(&table(ledger), told.last);
+    let icb = record_save(image, kinds, roles, ledger, &save, BEFORE_TABLE, &NO_STAMP)?;
+    let pointer = icb as usize - BEFORE_TABLE;
+    let sectors = &mut image.as_chunks_mut().0[pointer..icb as usize - save.fresh];
     sectors.as_flattened_mut().fill(0);
     put_pointer(&mut sectors[0], pointer as u32, anchor);
-    Ok(table)
+    Ok(icb)
 }
 
-/// Either form of commit, and a closing, which records so many data sectors before
-/// the table: "links + 1" blank sectors and these; "previous = the ledger's last
-/// table".
+/// The table of the ledger's map: "previous = the ledger's last table".
 #[inline(always)]
-fn save(
+fn table(ledger: &Ledger) -> Table<'_> {
+    Table::of(ledger::entries(ledger), u32_at(ledger, LAST_VAT))
+}
+
+/// Either form of commit, and a closing: so many data sectors before the ICB, of which
+/// the last are own sectors. "Commit needs blank sectors for what it records" (document
+/// 02).
+#[inline(always)]
+fn record_save(
     image: &mut [u8],
     kinds: &mut [u8],
     roles: &mut [u8],
     ledger: &mut Ledger,
-    recorded: usize,
+    save: &Save,
     before: usize,
     stamp: &Stamp,
 ) -> Answer {
+    let recorded = u32_at(ledger, RECORDED) as usize;
     let first = recorded + ledger::links(ledger, recorded);
     let place = first + before;
     refuse(kinds.len() <= place, Refusal::NoRoom)?;
-    let entries = &ledger[..4 * u32_at(ledger, SIZE) as usize];
-    let previous = u32_at(ledger, LAST_VAT);
-    put_vat(
-        record(image, kinds, roles, recorded..first, place),
-        place as u32,
-        entries,
-        previous,
-        stamp,
-    );
-    roles[place] = TABLE;
+    let own = place - save.fresh;
+    put_kinds(kinds, roles, recorded..first, place);
+    roles[first..own].fill(UNNUMBERED);
+    roles[own..=place].fill(TABLE);
+    let sectors = &mut image.as_chunks_mut().0[own..=place];
+    save.record(sectors, own as u32, &table(ledger), stamp);
     put_u32(ledger, LAST_VAT, place as u32);
     open_packet(ledger, place);
     Ok(place as u32)
@@ -266,34 +267,18 @@ pub fn time_of(image: &[u8], kinds: &[u8], ledger: &[u8], k: u32, answer: &mut [
     let recorded = disc.recorded()?;
     let newest = disc.newest_vat(recorded).ok_or(Refusal::NoVat)?;
     let found = disc.walk_back(newest, k)?;
-    let moment = told(&found.vat.modified()).ok_or(Refusal::BadTimestamp)?;
+    let moment = time::told(&found.vat.modified()).ok_or(Refusal::BadTimestamp)?;
     *answer = moment.to_bytes();
     Ok(0)
 }
 
 /// "For a link sector only its kind changes, to 2; its image bytes stay." Behind the
-/// links data sectors are recorded, before the last without a number; the answer is
-/// where the last one's bytes go.
+/// links data sectors are recorded.
 #[inline(always)]
-fn record<'a>(
-    image: &'a mut [u8],
-    kinds: &mut [u8],
-    roles: &mut [u8],
-    links: Range<usize>,
-    last: usize,
-) -> &'a mut Sector {
+fn put_kinds(kinds: &mut [u8], roles: &mut [u8], links: Range<usize>, last: usize) {
     kinds[links.end..=last].fill(DATA);
     kinds[links.clone()].fill(LINK);
-    roles[links.end..last].fill(UNNUMBERED);
     roles[links].fill(roles::LINK);
-    &mut image.as_chunks_mut().0[last]
-}
-
-#[inline(always)]
-fn supersede(roles: &mut [u8], block: Option<usize>) {
-    if let Some(block) = block {
-        roles[block] = SUPERSEDED;
-    }
 }
 
 /// "After each call that is done, the ledger's recorded equals the disc's";

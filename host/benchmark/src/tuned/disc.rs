@@ -75,6 +75,12 @@ impl<'a> Disc<'a> {
         (self.kinds.get(block as usize) == Some(&DATA)).then_some(sector)
     }
 
+    /// Whether a block below b, which is one of the disc's, has kind 1.
+    #[inline(always)]
+    pub fn is_data_below(&self, block: u32, b: u32) -> bool {
+        block < b && self.kinds[block as usize] == DATA
+    }
+
     /// Whether all of these recorded blocks have kind 1, without an exit.
     #[inline(always)]
     pub fn is_data(&self, blocks: Range<usize>) -> bool {
@@ -85,7 +91,7 @@ impl<'a> Disc<'a> {
     /// What the block holds if it is a table sector.
     #[inline(always)]
     pub fn vat_at(&self, block: u32) -> Option<Found<'a>> {
-        let vat = recognise(self.data(block)?, block)?;
+        let vat = recognise(self.data(block)?, block, self)?;
         Some(Found { block, vat })
     }
 

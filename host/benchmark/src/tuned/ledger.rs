@@ -1,13 +1,14 @@
-//! The ledger, used where it lies: "458 map entries, then size, recorded, last
-//! table, mode, each 32 bits".
+//! The ledger, used where it lies: "map entries, then size, recorded, last table,
+//! mode, each 32 bits".
 
 use super::answer::{refuse, Refusal};
 use super::disc::{Disc, Found, DATA};
 use super::fields::{put, u32_at};
-use super::table::{all_none_or_below, LIMIT, NONE};
+use super::table::{all_none_or_below, Vat, LIMIT, NONE};
+use super::words::joined;
 
-/// "It is 1,848 bytes"
-pub const LEDGER: usize = 1848;
+/// "4,087 numbers and the ledger 16,364 bytes" (document 02)
+pub const LEDGER: usize = 16_364;
 pub type Ledger = [u8; LEDGER];
 
 /// "Mode is 0 (no packet open), 1 (packet open) or 2 (looking only)."
@@ -23,33 +24,49 @@ pub const MODE: usize = SIZE + 12;
 /// "We count all seven at the opening."
 const LINKS: usize = 7;
 
-/// Refusals 3 and 4, or the count of recorded sectors, which the ledger tells
-/// if it fits.
+/// What a ledger that fits tells: the count of recorded sectors, and the last table.
+pub struct Told<'a> {
+    pub recorded: usize,
+    pub last: Option<Vat<'a>>,
+}
+
+/// Refusals 3 and 4, or what the ledger tells.
 #[inline(always)]
-pub fn fitting(ledger: &Ledger, disc: &Disc) -> Result<usize, Refusal> {
+pub fn fitting<'a>(ledger: &Ledger, disc: &Disc<'a>) -> Result<Told<'a>, Refusal> {
     let recorded = disc.recorded_likely(u32_at(ledger, RECORDED) as usize)?;
     refuse(!fits(ledger, disc, recorded), Refusal::LedgerUnfit)?;
-    Ok(recorded)
+    let last = last_vat(ledger, disc)?;
+    Ok(Told { recorded, last })
 }
 
 /// Refusal 5 too: "write, release, close packet or commit with mode 2"; and refusal
 /// 17, "tested directly after 5" (document 02).
 #[inline(always)]
-pub fn writable(ledger: &Ledger, disc: &Disc) -> Result<usize, Refusal> {
-    let recorded = fitting(ledger, disc)?;
+pub fn writable<'a>(ledger: &Ledger, disc: &Disc<'a>) -> Result<Told<'a>, Refusal> {
+    let told = fitting(ledger, disc)?;
     refuse(u32_at(ledger, MODE) == READ_ONLY, Refusal::ReadOnly)?;
-    refuse(disc.is_closed(recorded), Refusal::SessionClosed)?;
-    Ok(recorded)
+    refuse(disc.is_closed(told.recorded), Refusal::SessionClosed)?;
+    Ok(told)
 }
 
-/// Refusal 4 is the contrary; the last table's sum is the dearest test.
+/// Refusal 4 is the contrary, but for the last table, which is the dearest test.
 #[inline(always)]
 fn fits(ledger: &Ledger, disc: &Disc, recorded: usize) -> bool {
-    let last = u32_at(ledger, LAST_VAT);
     u32_at(ledger, RECORDED) as usize == recorded
         && mode_fits(ledger, disc, recorded)
         && map_fits(ledger, recorded)
-        && (last == NONE || disc.vat_at(last).is_some())
+}
+
+/// Against "last table neither FFFFFFFF nor a table sector".
+#[inline(always)]
+fn last_vat<'a>(ledger: &Ledger, disc: &Disc<'a>) -> Result<Option<Vat<'a>>, Refusal> {
+    match u32_at(ledger, LAST_VAT) {
+        NONE => Ok(None),
+        last => {
+            let found = disc.vat_at(last).ok_or(Refusal::LedgerUnfit)?;
+            Ok(Some(found.vat))
+        }
+    }
 }
 
 /// Against "mode above 2; mode 1 where the last recorded sector is missing or
@@ -62,7 +79,7 @@ fn mode_fits(ledger: &Ledger, disc: &Disc, recorded: usize) -> bool {
     }
 }
 
-/// Against "size above 458; an entry from size on not FFFFFFFF; one below size
+/// Against "size above" the limit; "an entry from size on not FFFFFFFF; one below size
 /// neither FFFFFFFF nor below recorded".
 #[inline(always)]
 fn map_fits(ledger: &Ledger, recorded: usize) -> bool {
@@ -71,8 +88,7 @@ fn map_fits(ledger: &Ledger, recorded: usize) -> bool {
         return false;
     }
     let (used, rest) = ledger[..SIZE].split_at(4 * size);
-    all_none_or_below(used, recorded as u32)
-        && rest.iter().fold(0xFF, |all, byte| all & byte) == 0xFF
+    all_none_or_below(used, recorded as u32) && joined(rest, |x| !x, |one, other| one | other) == 0
 }
 
 /// The block of number v, if v is below size and in use.
@@ -85,17 +101,17 @@ pub fn block_of(ledger: &Ledger, v: u32) -> Option<u32> {
     (block != NONE).then_some(block)
 }
 
-/// The entries below size.
+/// The bytes of the entries below size.
 #[inline(always)]
-pub fn entries(ledger: &Ledger) -> impl Iterator<Item = u32> + '_ {
-    let used = &ledger[..4 * u32_at(ledger, SIZE) as usize];
-    used.as_chunks().0.iter().map(|x| u32::from_le_bytes(*x))
+pub fn entries(ledger: &Ledger) -> &[u8] {
+    &ledger[..4 * u32_at(ledger, SIZE) as usize]
 }
 
-/// Whether a block is that of one number alone, without an exit.
+/// Whether a block is that of one number alone.
 #[inline(always)]
 pub fn names_once(ledger: &Ledger, block: u32) -> bool {
-    entries(ledger).fold(0, |times, entry| times + u32::from(entry == block)) == 1
+    let is_named = |entry| u32::from(entry == block);
+    joined(entries(ledger), is_named, |one, other| one + other) == 1
 }
 
 /// "In mode 0 with recorded above 0, write and commit first record seven link
@@ -120,17 +136,11 @@ pub fn begin(ledger: &mut Ledger, recorded: usize) {
 /// table". "Unused map entries, all entries from size on, [...] are hex FFFFFFFF."
 #[inline(always)]
 pub fn show(ledger: &mut Ledger, found: &Found, recorded: usize, mode: u32) {
-    let entries = found.vat.entries;
-    let (used, rest) = ledger[..SIZE].split_at_mut(entries.len());
-    used.copy_from_slice(entries);
+    let numbers = found.vat.numbers;
+    let (used, rest) = ledger[..SIZE].split_at_mut(4 * numbers);
+    found.vat.copy_entries(used);
     rest.fill(0xFF);
-    put_state(
-        ledger,
-        entries.len() as u32 / 4,
-        recorded,
-        found.block,
-        mode,
-    );
+    put_state(ledger, numbers as u32, recorded, found.block, mode);
 }
 
 #[inline(always)]

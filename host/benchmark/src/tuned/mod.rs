@@ -3,10 +3,11 @@
 //! Written to be fast in safe Rust for plain x86-64, with the same contract as
 //! the recording core: the 64-bit answer and every lent byte. No call allocates.
 //!
-//! - [`fields`]: little-endian fields;
+//! - [`fields`]: little-endian fields; [`words`]: passes over many words;
 //! - [`crc`]: the sum, sixteen bytes at a time;
 //! - [`time`]: timestamps, their limits, and the minutes that they tell;
-//! - [`table`]: the table sector at block b, recognised and made;
+//! - [`extent`]: extents as descriptors name them;
+//! - [`table`]: the table at block b, recognised; [`save`]: what a save records of one;
 //! - [`anchor`]: the pointer that a closing records, and its tag;
 //! - [`disc`]: one pass over the kinds, the newest table, the walk back, whether it
 //!   is closed;
@@ -22,20 +23,25 @@ mod answer;
 mod calls;
 mod crc;
 mod disc;
+mod extent;
 mod fields;
 mod ledger;
 mod roles;
 mod run;
+mod save;
 mod table;
 mod time;
+mod words;
 
-use anchor::{Anchor, Extent};
+use anchor::Anchor;
 use answer::packed;
+use extent::Extent;
 
 pub use crc::crc;
 pub use ledger::LEDGER;
 pub use run::MOST_VIEWED;
-pub use table::{put_vat, Sector, LIMIT, NONE, SECTOR};
+pub use save::{own_sectors, put_table, EMBEDDED};
+pub use table::{Sector, LIMIT, NONE, SECTOR};
 pub use time::{Stamp, TIME};
 
 pub fn begin(image: &[u8], kinds: &[u8], roles: &mut [u8], ledger: &mut [u8]) -> u64 {

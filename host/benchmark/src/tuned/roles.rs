@@ -7,7 +7,7 @@ use super::ledger::{self, Ledger};
 /// "in use by the ledger's map, superseded, without a number, table, link,
 /// unreadable, blank"
 pub const IN_USE: u8 = 0;
-pub const SUPERSEDED: u8 = 1;
+const SUPERSEDED: u8 = 1;
 pub const UNNUMBERED: u8 = 2;
 pub const TABLE: u8 = 3;
 pub const LINK: u8 = 4;
@@ -21,11 +21,12 @@ pub fn scan(roles: &mut [u8], disc: &Disc, newest: Option<Found>, ledger: &Ledge
         *role = of_kind(*kind);
     }
     if let Some(newest) = newest {
-        roles[newest.block as usize] = TABLE;
+        mark(roles, &newest);
         mark_tables(roles, disc, newest.block as usize);
     }
-    for block in ledger::entries(ledger) {
-        if let Some(role @ &mut SUPERSEDED) = roles.get_mut(block as usize) {
+    for entry in ledger::entries(ledger).as_chunks().0 {
+        let block = u32::from_le_bytes(*entry) as usize;
+        if let Some(role @ &mut SUPERSEDED) = roles.get_mut(block) {
             *role = IN_USE;
         }
     }
@@ -55,18 +56,31 @@ fn mark_tables(roles: &mut [u8], disc: &Disc, end: usize) {
 }
 
 fn mark_each(roles: &mut [u8], disc: &Disc, start: usize, end: usize) {
-    for (block, role) in (start..end).zip(&mut roles[start..end]) {
-        if disc.vat_at(block as u32).is_some() {
-            *role = TABLE;
+    for block in start..end {
+        if let Some(found) = disc.vat_at(block as u32) {
+            mark(roles, &found);
         }
     }
 }
 
-/// The block that number v lets go, if it is superseded then: no other number names
-/// it, and it is data and no table.
+/// "each sector that a table names counts as table" (document 02), as its ICB does.
 #[inline(always)]
-pub fn let_go(ledger: &Ledger, disc: &Disc, v: u32) -> Option<usize> {
-    let block = ledger::block_of(ledger, v)?;
-    let was_in_use = disc.data(block).is_some() && disc.vat_at(block).is_none();
-    (was_in_use && ledger::names_once(ledger, block)).then_some(block as usize)
+fn mark(roles: &mut [u8], found: &Found) {
+    roles[found.block as usize] = TABLE;
+    for (block, _) in found.vat.own() {
+        roles[block as usize] = TABLE;
+    }
+}
+
+/// Number v lets its block go: it is superseded exactly if its role that is lent is in
+/// use and no other number names it.
+#[inline(always)]
+pub fn let_go(roles: &mut [u8], ledger: &Ledger, v: u32) {
+    let Some(block) = ledger::block_of(ledger, v) else {
+        return;
+    };
+    let role = &mut roles[block as usize];
+    if *role == IN_USE && ledger::names_once(ledger, block) {
+        *role = SUPERSEDED;
+    }
 }

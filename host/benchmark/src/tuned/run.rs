@@ -2,6 +2,7 @@
 //! part of its run copied.
 
 use super::disc::Disc;
+use super::extent::{Descriptor, Extent};
 use super::fields::{u16_at, u32_at, u64_at};
 use super::table::{has_tag, is_summed, is_tagged, Sector, HEAD, SECTOR};
 
@@ -13,9 +14,6 @@ const MOST_EXTENTS: usize = 100;
 
 /// The high two bits of a descriptor's first word are its type.
 const TYPE: u32 = 3 << 30;
-
-/// Length, with the type, and block, 32 bits each.
-type Descriptor = [u8; 8];
 
 /// A run's descriptors, all of which hold, and its length.
 pub struct Run<'a> {
@@ -31,7 +29,7 @@ pub fn recognise<'a>(sector: &'a Sector, b: u32, disc: &Disc) -> Option<Run<'a>>
     }
     let run = Run::named_in(sector)?;
     let holds = is_summed(sector, HEAD + 8 * run.descriptors.len())
-        && run.extents().all(|extent| extent.is_data_below(b, disc));
+        && run.extents().all(|extent| is_data_below(extent, b, disc));
     holds.then_some(run)
 }
 
@@ -40,29 +38,13 @@ fn is_ordinary_file(sector: &Sector) -> bool {
     u16_at(sector, 20) == 4 && sector[27] == 5 && sector[34] & 7 == 0 && u32_at(sector, 168) == 0
 }
 
-/// One extent: its bytes on the disc.
-#[derive(Clone, Copy)]
-struct Extent {
-    block: usize,
-    length: usize,
-}
-
-impl Extent {
-    #[inline(always)]
-    fn of(descriptor: &Descriptor) -> Extent {
-        Extent {
-            block: u32_at(descriptor, 4) as usize,
-            length: u32_at(descriptor, 0) as usize,
-        }
-    }
-
-    /// "recorded data below the entry's block", without an exit over the kinds, so that
-    /// the compiler takes sixteen at a time.
-    #[inline(always)]
-    fn is_data_below(self, b: u32, disc: &Disc) -> bool {
-        let end = self.block + self.length.div_ceil(SECTOR);
-        end <= b as usize && disc.is_data(self.block..end)
-    }
+/// "recorded data below the entry's block", without an exit over the kinds, so that
+/// the compiler takes sixteen at a time.
+#[inline(always)]
+fn is_data_below(extent: Extent, b: u32, disc: &Disc) -> bool {
+    let start = extent.location as usize;
+    let end = start + (extent.length as usize).div_ceil(SECTOR);
+    end <= b as usize && disc.is_data(start..end)
 }
 
 impl<'a> Run<'a> {
@@ -104,12 +86,12 @@ impl<'a> Run<'a> {
         let mut offset = offset;
         let mut filled = 0;
         for extent in self.extents() {
-            let length = extent.length as u64;
+            let length = u64::from(extent.length);
             if offset >= length {
                 offset -= length;
                 continue;
             }
-            let start = SECTOR * extent.block + offset as usize;
+            let start = SECTOR * extent.location as usize + offset as usize;
             let count = (buffer.len() - filled).min((length - offset) as usize);
             buffer[filled..filled + count].copy_from_slice(&image[start..start + count]);
             filled += count;

@@ -11,7 +11,7 @@ use super::noted::State;
 use super::RUN;
 use crate::form::Disc;
 use crate::ledger::Map;
-use crate::listing::listing;
+use crate::listing::{listing, Columns};
 use crate::mark;
 use crate::roles;
 
@@ -135,12 +135,15 @@ pub fn lists_as_proved(left: &State, disc: &Disc) {
     input.write_all(&left.disc).expect("it reads a whole disc");
     drop(input);
     let output = running.wait_with_output().expect("an answer");
-    assert_eq!(listing(disc, false).0.as_bytes(), output.stdout);
+    assert_eq!(
+        listing(disc, Columns::default()).0.as_bytes(),
+        output.stdout
+    );
 }
 
 /// A row for each page, with its size and how many numbers are in use.
 fn lists(disc: &Disc, book: &History, clean: bool) {
-    let (text, refusal) = listing(disc, false);
+    let (text, refusal) = listing(disc, Columns::default());
     if book.pages.is_empty() {
         assert_eq!(
             (text.as_str(), refusal),

@@ -56,9 +56,10 @@ const fn cut(line: &'static str, call: Call) -> Event {
 
 impl Desk {
     /// A disc of so many sectors, of which some are recorded: written as number
-    /// 0, after a save of nothing, and not saved. Blank sectors hold bytes that no
-    /// call records, so that each piece of a sector makes a difference.
-    fn new(sectors: usize, recorded: usize) -> Desk {
+    /// 0, after a save of nothing, and not saved. Of so many numbers more each was
+    /// released. Blank sectors hold bytes that no call records, so that each piece of a
+    /// sector makes a difference.
+    fn new(sectors: usize, recorded: usize, released: u32) -> Desk {
         let number = DESKS.fetch_add(1, Ordering::Relaxed);
         let folder = env::temp_dir().join(format!("station-crash-{}-{number}", process::id()));
         fs::create_dir(&folder).expect("a new folder");
@@ -85,6 +86,7 @@ impl Desk {
             let ending = Ending::Answered(Answer::done(made.expect("done")));
             feed(&mut desk.book, call, &BLOCK, ending);
         }
+        desk.release(&mut ledger, released);
         let digits: String = kinds.iter().map(u8::to_string).collect();
         let mut file = format!("{sectors:8}\n{digits}\n").into_bytes();
         file.extend(image);
@@ -98,6 +100,15 @@ impl Desk {
         state.ledger = Some(ledger);
         desk.put(&state);
         desk
+    }
+
+    /// As if so many numbers more had been written and released: their writes would take
+    /// a sector each.
+    fn release(&mut self, ledger: &mut [u8; LEDGER], released: u32) {
+        let draft = self.book.draft.as_mut().expect("a draft");
+        let size = draft.size() + released;
+        draft.entries.resize(size as usize, None);
+        ledger[LEDGER - 16..][..4].copy_from_slice(&size.to_le_bytes());
     }
 
     fn path(&self, name: &str) -> PathBuf {
@@ -276,7 +287,7 @@ fn feed(book: &mut History, call: Call, written: &[u8; SECTOR], ending: Ending) 
 
 #[test]
 fn every_state_of_every_command() {
-    let mut desk = Desk::new(60, 0);
+    let mut desk = Desk::new(60, 0, 0);
     let events = [
         event("write run.disc 0", Call::Write(0)),
         event("commit run.disc", Call::Commit),
@@ -311,7 +322,7 @@ fn every_state_of_every_command() {
 /// commit; so the run is viewed whole or not at all.
 #[test]
 fn every_state_of_a_store() {
-    let mut desk = Desk::new(60, 0);
+    let mut desk = Desk::new(60, 0, 0);
     let events = [
         event("store run.disc 0", Call::Write(0)),
         event("commit run.disc", Call::Commit),
@@ -341,7 +352,7 @@ fn every_state_of_a_store() {
 fn digits_across_two_pieces() {
     for recorded in 494..505 {
         for line in ["commit run.disc", "write run.disc 0", "store run.disc 0"] {
-            let mut desk = Desk::new(540, recorded);
+            let mut desk = Desk::new(540, recorded, 0);
             desk.take(&event("close run.disc", Call::ClosePacket));
             let call = if line.starts_with('c') {
                 Call::Commit
@@ -354,11 +365,50 @@ fn digits_across_two_pieces() {
     }
 }
 
+/// Own sectors come before the table: a crash between them leaves the old save.
+#[test]
+fn every_state_of_a_large_save() {
+    let mut desk = Desk::new(120, 3, 519);
+    let events = [
+        event("commit run.disc", Call::Commit),
+        event("write run.disc 3", Call::Write(3)),
+        event("commit run.disc --now", Call::Commit),
+        event("close run.disc", Call::ClosePacket),
+        event("commit run.disc", Call::Commit),
+        event("look-back run.disc 2", Call::LookBack(2)),
+        event("mount run.disc", Call::Mount),
+        event("release run.disc 3", Call::Release(3)),
+        cut("cut 8 --torn commit run.disc", Call::Commit),
+        event("mount run.disc", Call::Mount),
+        event("write run.disc 520", Call::Write(520)),
+        cut("cut 1 commit run.disc", Call::Commit),
+        event("mount run.disc", Call::Mount),
+        event("commit run.disc", Call::Commit),
+    ];
+    for event in &events {
+        desk.take(event);
+    }
+    println!("{} states judged", desk.judged);
+    assert!(desk.judged > 100, "{}", desk.judged);
+    assert_eq!(desk.book.pages.len(), 5);
+}
+
+/// Behind seven links, block 503 is the first of two own sectors, the second, or the
+/// table, and its digit the first of the second piece.
+#[test]
+fn digits_of_a_large_save_across_two_pieces() {
+    for recorded in 494..497 {
+        let mut desk = Desk::new(540, recorded, 519);
+        desk.take(&event("close run.disc", Call::ClosePacket));
+        desk.take(&event("commit run.disc", Call::Commit));
+    }
+}
+
 /// "In the cut rule a closing counts as a commit." The digits of its 264 sectors lie
 /// across two pieces too.
 #[test]
 fn every_state_of_a_closing() {
-    let mut desk = Desk::new(1200, 400);
+    let mut desk = Desk::new(1200, 400, 0);
     let events = [
         event("close run.disc", Call::ClosePacket),
         cut(
@@ -385,7 +435,7 @@ fn every_state_of_a_closing() {
 /// Before the first save: begin is done whatever is left.
 #[test]
 fn the_first_write_of_a_disc() {
-    let mut desk = Desk::new(31, 0);
+    let mut desk = Desk::new(31, 0, 0);
     desk.take(&event("begin run.disc", Call::Begin));
     desk.take(&event("write run.disc 0", Call::Write(0)));
     desk.take(&event("begin run.disc --anyway", Call::Begin));

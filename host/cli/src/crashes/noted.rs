@@ -10,9 +10,9 @@ use crate::progress::Progress;
 /// The disk takes such a piece of a file whole or not at all.
 const PIECE: usize = 512;
 
-/// The most pieces of which all subsets are built. Of more, as the sectors of a
-/// closing have, some are.
-const MOST_PIECES: usize = 10;
+/// The most pieces of which all subsets are built. Of more, as two sectors have, some
+/// are.
+const MOST_PIECES: usize = 8;
 
 #[derive(Clone, Debug)]
 pub enum Step {

@@ -10,7 +10,7 @@ use super::lettering::{escaped, Lettering, INK, QUIET};
 use super::shown::{Count, Shown};
 use super::signs::{strong, swatch, WHITE};
 use super::squares::Squares;
-use super::words::{answer, balanced, name, share, title};
+use super::words::{answer, balanced, name, notes, share, title};
 use super::Plan;
 use crate::form::{counted, number};
 
@@ -55,7 +55,7 @@ pub fn svg(plan: &Plan) -> String {
     if squares.group > 1 {
         marks(&mut out, below);
     }
-    foot(&mut out, squares.group, plan.note);
+    foot(&mut out, squares.group, &notes(plan).join(" "));
     out.push_str(&squares.drawn());
     out.push_str("</svg>\n");
     out
@@ -129,7 +129,7 @@ fn marks(out: &mut String, y: f64) {
 }
 
 /// On a screen also what the pointer is good for.
-fn foot(out: &mut String, group: usize, note: &str) {
+fn foot(out: &mut String, group: usize, notes: &str) {
     let cell_is = match group {
         1 => "One cell is one sector.".into(),
         _ => format!(
@@ -139,7 +139,7 @@ fn foot(out: &mut String, group: usize, note: &str) {
     };
     let words = format!(
         "{cell_is} At the left of a row is its first block. At the right are the saves in it, \
-         counted back from the newest, which has a ring. {note}"
+         counted back from the newest, which has a ring. {notes}"
     );
     let words = balanced(words.trim_end(), 180);
     lines(out, FOOT, (LEFT, 1094.0), 24.0, &words);

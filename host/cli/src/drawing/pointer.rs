@@ -6,7 +6,7 @@ use std::ops::Range;
 use station::Role;
 
 use super::shown::{Count, Shown};
-use super::Plan;
+use super::{Own, Plan};
 use crate::form::number;
 use crate::ledger::in_words;
 
@@ -45,19 +45,24 @@ pub fn stretches(plan: &Plan, group: usize) -> Vec<Stretch> {
     stretches
 }
 
+/// What the pointer tells apart: what is shown of a sector, and of table sectors a save's
+/// table from an own sector of one.
+#[derive(Clone, Copy, PartialEq)]
+enum Held {
+    Shown(Shown),
+    Own,
+}
+
 fn of_square(plan: &Plan, blocks: Range<usize>) -> Stretch {
     let parts = &plan.in_use.parts[blocks.clone()];
     let count = Count::of(&plan.roles[blocks.clone()], parts);
-    let held = Shown::ALL
-        .into_iter()
-        .filter(|shown| count.drawn(*shown) > 0);
-    let held: Vec<Shown> = held.collect();
+    let held = held(&count, own(plan, &blocks).len());
     let alike = held.len() == 1;
-    let words = held.into_iter().map(|shown| {
-        let more = more(plan, &blocks, shown);
+    let words = held.into_iter().map(|(what, sectors)| {
+        let more = more(plan, &blocks, what);
         match alike {
-            true => alone(shown, more, &count),
-            false => among_others(count.drawn(shown), shown, more),
+            true => alone(what, more, &count),
+            false => among_others(sectors, what, more),
         }
     });
     let words = words.collect::<Vec<String>>().join(", ");
@@ -68,12 +73,36 @@ fn of_square(plan: &Plan, blocks: Range<usize>) -> Stretch {
     }
 }
 
+/// What is among sectors of which so many are own sectors, and how many there are of each.
+fn held(count: &Count, own: usize) -> Vec<(Held, usize)> {
+    let mut held = Vec::new();
+    for shown in Shown::ALL {
+        let own = match shown {
+            Shown::Role(Role::Table) => own,
+            _ => 0,
+        };
+        held.push((Held::Shown(shown), count.drawn(shown) - own));
+        held.push((Held::Own, own));
+    }
+    held.retain(|(_, sectors)| *sectors > 0);
+    held
+}
+
+/// The own sectors among these blocks.
+fn own<'a>(plan: &'a Plan, blocks: &Range<usize>) -> &'a [Own] {
+    let before = |end: usize| plan.own.partition_point(|own| own.block < end);
+    &plan.own[before(blocks.start)..before(blocks.end)]
+}
+
 /// Of a part its role is told too, if all have the same.
-fn alone(shown: Shown, more: Option<String>, count: &Count) -> String {
+fn alone(what: Held, more: Option<String>, count: &Count) -> String {
     let parts = count.drawn(Shown::Part);
     let role = Role::ALL
         .into_iter()
         .find(|role| count.parts.count(*role) == parts);
+    let Held::Shown(shown) = what else {
+        return format!("table's own sector, {}", more.unwrap_or_default());
+    };
     match (shown, more, role) {
         (Shown::Part, Some(run), Some(role)) => format!("part of {run} ({role})"),
         (Shown::Part, Some(run), None) => format!("part of {run}"),
@@ -82,9 +111,13 @@ fn alone(shown: Shown, more: Option<String>, count: &Count) -> String {
     }
 }
 
-fn among_others(count: usize, shown: Shown, more: Option<String>) -> String {
+fn among_others(count: usize, what: Held, more: Option<String>) -> String {
     let plural = if count == 1 { "" } else { "s" };
     let count = number(count);
+    let Held::Shown(shown) = what else {
+        let saves = more.unwrap_or_default();
+        return format!("{count} own sector{plural} of tables ({saves})");
+    };
     match (shown, more) {
         (Shown::Part, Some(run)) => format!("{count} part{plural} of {run}"),
         (Shown::Part, None) => format!("{count} part{plural} of runs"),
@@ -97,11 +130,12 @@ fn among_others(count: usize, shown: Shown, more: Option<String>) -> String {
 }
 
 /// What else is known of those of the sectors that are shown so.
-fn more(plan: &Plan, blocks: &Range<usize>, shown: Shown) -> Option<String> {
-    match shown {
-        Shown::Role(Role::InUse) => numbers(plan, blocks),
-        Shown::Role(Role::Table) => saves(plan, blocks),
-        Shown::Part => run(plan, blocks),
+fn more(plan: &Plan, blocks: &Range<usize>, what: Held) -> Option<String> {
+    match what {
+        Held::Shown(Shown::Role(Role::InUse)) => numbers(plan, blocks),
+        Held::Shown(Shown::Role(Role::Table)) => saves(plan, blocks),
+        Held::Shown(Shown::Part) => run(plan, blocks),
+        Held::Own => owners(plan, blocks),
         _ => None,
     }
 }
@@ -126,13 +160,23 @@ fn numbers(plan: &Plan, blocks: &Range<usize>) -> Option<String> {
 fn saves(plan: &Plan, blocks: &Range<usize>) -> Option<String> {
     let from = |block: usize| plan.saves.partition_point(|save| save.block >= block);
     let saves = &plan.saves[from(blocks.end)..from(blocks.start)];
-    let (newest, oldest) = (saves.first()?.back, saves.last()?.back);
-    Some(match newest {
+    Some(saves_back(saves.first()?.back, saves.last()?.back))
+}
+
+/// The saves whose tables' own sectors these are.
+fn owners(plan: &Plan, blocks: &Range<usize>) -> Option<String> {
+    let own = own(plan, blocks).iter();
+    let (newest, oldest) = (own.clone().map(|own| own.newest), own.map(|own| own.oldest));
+    Some(saves_back(newest.min()?, oldest.max()?))
+}
+
+fn saves_back(newest: usize, oldest: usize) -> String {
+    match newest {
         0 if oldest == 0 => "the newest save".into(),
         0 => format!("the newest save to {oldest} back"),
         _ if newest == oldest => format!("the save {newest} back"),
         _ => format!("the saves {newest} to {oldest} back"),
-    })
+    }
 }
 
 /// The run that all parts among the blocks belong to, if it is one.

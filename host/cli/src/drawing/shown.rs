@@ -34,7 +34,7 @@ impl Shown {
             }
             Shown::Role(Role::WithoutNumber) => "parts of runs, or of a closing",
             Shown::Part => "its run is in use; counted above",
-            Shown::Role(Role::Table) => "one for each save",
+            Shown::Role(Role::Table) => "one for each save, more above 458 numbers",
             Shown::Role(Role::Link) => "seven at each opening of a packet",
             Shown::Role(Role::Unreadable) => "left by a power cut, or damaged",
             Shown::Role(Role::Blank) => "nothing recorded yet",

@@ -5,7 +5,7 @@ use station::Role;
 
 use super::cells::{cells, group, Cell};
 use super::shown::{Count, Shown};
-use super::words::{answer, share, title, wrapped};
+use super::words::{answer, notes, share, title, wrapped};
 use super::{Plan, Save};
 use crate::form::{counted, number};
 
@@ -92,8 +92,8 @@ fn drawn(plan: &Plan, width: usize, paint: Paint) -> String {
     lines.push(String::new());
     lines.extend(wrapped(&cell_in_words(group), width));
     lines.extend(wrapped(&saves_in_words(plan.saves), width));
-    if !plan.note.is_empty() {
-        lines.extend(wrapped(plan.note, width));
+    for said in notes(plan) {
+        lines.extend(wrapped(&said, width));
     }
     lines.join("\n") + "\n"
 }

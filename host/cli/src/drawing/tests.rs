@@ -23,6 +23,7 @@ fn plan<'a>(roles: &'a [u8], in_use: &'a InUse, saves: &'a [Save]) -> Plan<'a> {
         roles,
         in_use,
         saves,
+        own: &[],
         note: "",
     }
 }

@@ -96,6 +96,21 @@ pub fn title(plan: &Plan) -> String {
     format!("Where the space of {} went", name(plan))
 }
 
+/// What is told of the whole beside the cells: how many of the table sectors are own
+/// sectors, if some are, and the plan's own note.
+pub fn notes(plan: &Plan) -> Vec<String> {
+    let own = match plan.own.len() {
+        0 => String::new(),
+        1 => "1 of the table sectors is a table's own sector; list --long tells whose.".into(),
+        own => format!(
+            "{} of the table sectors are tables' own sectors; list --long tells whose.",
+            number(own)
+        ),
+    };
+    let notes = [own, plan.note.into()].into_iter();
+    notes.filter(|note| !note.is_empty()).collect()
+}
+
 /// The disc's name, fit for a line of a terminal or of XML; the middle of a long one
 /// is left out.
 pub fn name(plan: &Plan) -> String {

@@ -3,6 +3,7 @@
 // Each test file uses its own part of these.
 #![allow(dead_code)]
 
+pub mod older;
 pub mod refusals;
 
 use std::collections::{BTreeMap, BTreeSet};
@@ -233,10 +234,16 @@ impl Folder {
         folder
     }
 
-    /// Document 01's example: "begin, write 0, commit, write 1, release 0,
-    /// commit, close packet, commit".
+    /// Document 01's example, "A blank disc of 31: begin, write 0, commit, write 1,
+    /// release 0, commit, close packet, commit".
     pub fn example() -> Folder {
-        let folder = Folder::begun(31);
+        Folder::example_on(31)
+    }
+
+    /// The same on a disc of so many sectors: on one of 31 it leaves no room for a write
+    /// behind links.
+    pub fn example_on(sectors: usize) -> Folder {
+        let folder = Folder::begun(sectors);
         assert_eq!(folder.write(0, "run A"), "block 0\n");
         folder.done("commit run.disc");
         assert_eq!(folder.write(1, "run B"), "block 2\n");
@@ -244,6 +251,23 @@ impl Folder {
             folder.done(line);
         }
         folder.done("commit run.disc");
+        folder
+    }
+
+    /// A disc on which so many numbers are written, one after another from block 0 on, and
+    /// saved, by the core itself; without a ledger.
+    pub fn numbered(sectors: usize, numbers: u32) -> Folder {
+        let (mut image, mut kinds) = (vec![0; sectors * SECTOR], vec![0; sectors]);
+        let (mut roles, mut ledger) = (vec![0; sectors], [0; LEDGER]);
+        let (i, k, r, l) = (&mut image, &mut kinds, &mut roles, &mut ledger);
+        station::begin(i, k, r, l).expect("begin");
+        for v in 0..numbers {
+            let block = padded(&format!("run {v}"));
+            station::write(i, k, r, l, v, &block).expect("write");
+        }
+        station::commit(i, k, r, l).expect("commit");
+        let folder = Folder::new();
+        folder.put("run.disc", &disc_file(&kinds, &image));
         folder
     }
 

@@ -28,7 +28,7 @@ is-table-requires c κs = search needs
 returns : tie.Need-returns
 returns c =
     let t = c .before in let s = start-of t in
-    let table : isTable (lower s) (s .args .block .now) (s .args .b) ≡ true = sym (t .is-table .ensures (lower s)) ∙ c .if1 .taken in
+    let table : isTable (lower s) (s .args .block .now) (s .args .b) ≡ true = sym (t .is-table .ensures) ∙ c .if1 .taken in
     sym (ap (λ (b : Bool). b || tagged s) table)
 
 tagged-requires : tie.Need-tagged-requires
@@ -37,7 +37,7 @@ tagged-requires c κs = search needs
 returns-2 : tie.Need-returns-2
 returns-2 c =
     let t = c .before .before in let s = start-of t in
-    let other : isTable (lower s) (s .args .block .now) (s .args .b) ≡ false = sym (t .is-table .ensures (lower s)) ∙ c .before .if1 .left in
+    let other : isTable (lower s) (s .args .block .now) (s .args .b) ≡ false = sym (t .is-table .ensures) ∙ c .before .if1 .left in
     c .tagged .ensures ∙ sym (ap (λ (b : Bool). b || tagged s) other)
 
 pub forbidden-at-spec : {M : Type 1} → statement M

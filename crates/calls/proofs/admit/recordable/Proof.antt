@@ -9,7 +9,7 @@ use lib.Dec.{ltb}
 use lib.ListN.{length}
 use borrow.Author.Tests.{le-ltb, lt-ltb}
 use Rattle.disc.specs.Disc.{Disc, lent, leading}
-use Rattle.disc.proofs.Recording.{leading-le}
+use Rattle.disc.proofs.Recording.{sized-tells, leading-le}
 use Rattle.volume.specs.declared.Volume.{Volume}
 use Rattle.volume.specs.Volume.{unpack}
 use Rattle.recorder.specs.Refusals.{test, links, target, reserve, forbiddenAt}
@@ -41,7 +41,7 @@ abbrev forbidden : tie.Start → Bool
 forbidden s = forbiddenAt (D s) (target (v s)) (s .args .block .now)
 
 own : (c : tie.After-recorded) → c .recorded .result ≡ leading (start-of c .args .kinds .now)
-own c = c .recorded .ensures ∙ start-of c .pre .1
+own c = c .recorded .ensures ∙ start-of c .pre .2
 
 judged : (c : tie.After-forbidden-at) → let r = c .before .before .before in c .forbidden-at .result ≡ forbidden (start-of r)
 judged c =
@@ -55,7 +55,7 @@ recorded-requires : tie.Need-recorded-requires
 recorded-requires c κs = search needs
 
 cast-blank : tie.Need-cast-blank
-cast-blank c = search needs
+cast-blank c = let s = start-of c in omega (arith, sized-tells (D s) (s .pre .0) .few)
 
 sub-blank : tie.Need-sub-blank
 sub-blank c = omega (arith, own c, leading-le (start-of c .args .kinds .now))
@@ -86,10 +86,12 @@ roomy c =
 add-forbidden-at : tie.Need-add-forbidden-at
 add-forbidden-at c =
     let r = c .before .before in let s = start-of r in
-    omega (arith, own r, leading-le (s .args .kinds .now), s .pre .2, r .before .links .ensures, links-few (v s))
+    omega (arith, own r, leading-le (s .args .kinds .now), sized-tells (D s) (s .pre .0) .few, r .before .links .ensures, links-few (v s))
 
 forbidden-at-requires : tie.Need-forbidden-at-requires
-forbidden-at-requires c κs = search needs
+forbidden-at-requires c κs =
+    let e = c in let r = e .before .before in let s = start-of r in
+    (s .pre .0, omega (arith, own r, r .before .links .ensures, e .before .reserve .ensures, e .if1 .left), s .pre .3)
 
 returns-2 : tie.Need-returns-2
 returns-2 c =

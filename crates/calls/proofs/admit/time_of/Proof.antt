@@ -15,7 +15,7 @@ use Rattle.disc.specs.declared.Walk.the-variants.{Reached}
 use Rattle.disc.proofs.Recording.{Sound}
 use Rattle.disc.proofs.Found.{length-time}
 use Rattle.recorder.specs.Refusals.{first, basic, answerLent, walked, walkTests}
-use Rattle.recorder.proofs.Done.{basic-passed, shown-fits}
+use Rattle.recorder.proofs.Done.{basic-passed, shown-within}
 use Rattle.calls.proofs.Outcomes.{time-stopped, time-16, time-0}
 use borrow.Author.Needs.{needs}
 use Rattle.calls.proofs.admit.time_of.Statement.{statement}
@@ -58,7 +58,7 @@ within : (c : tie.Else1) → sectorLength * B c + sectorLength ≤ length (D (st
 within c =
     let s = start-of c in
     let ok : Sound (D s) = basic-passed (D s) (answerLent (L s) (A s)) (walkTests (D s) (s .args .k)) (passed c) .sound-disc in
-    shown-fits (D s) (B c) ok (table c) .0
+    shown-within (D s) (B c) ok (table c)
 
 -- the bytes that were taken are the table's time
 taken : (c : tie.After-time-at) → let e = c .before in c .time-at .result .now ≡ timeAt (D (start-of e)) (B e)

@@ -12,6 +12,7 @@ use borrow.Author.Tests.{eqb-true}
 use Rattle.le.proofs.Rows.{and-right}
 use Rattle.vat.specs.Table.{sectorLength, limit}
 use Rattle.disc.specs.Disc.{Disc, lent}
+use Rattle.disc.proofs.Recording.{sound-sized}
 use Rattle.volume.specs.Volume.{unpack}
 use Rattle.recorder.specs.Refusals.{first, ledgerLent, gate}
 use Rattle.recorder.proofs.Done.{basic-passed, workingTests, Admitted, working-admits}
@@ -83,7 +84,7 @@ returns-3 c =
 recordable-requires : tie.Need-recordable-requires
 recordable-requires c κs =
     let e = before-size c in let a = admits e in
-    (a .ledger-long, a .fit .same-recorded, a .sound-disc .few, block-long e)
+    (sound-sized (D (start-of e)) (a .sound-disc), a .ledger-long, a .fit .same-recorded, block-long e)
 
 returns-4 : tie.Need-returns-4
 returns-4 c =

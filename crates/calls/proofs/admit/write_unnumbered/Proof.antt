@@ -11,6 +11,7 @@ use borrow.Author.Tests.{eqb-true}
 use Rattle.le.proofs.Rows.{and-right}
 use Rattle.vat.specs.Table.{sectorLength}
 use Rattle.disc.specs.Disc.{Disc, lent}
+use Rattle.disc.proofs.Recording.{sound-sized}
 use Rattle.recorder.specs.Refusals.{first, ledgerLent, gate}
 use Rattle.recorder.proofs.Done.{basic-passed, workingTests, Admitted, working-admits}
 use Rattle.calls.proofs.Outcomes.{write-stopped, unnumbered-tested}
@@ -57,7 +58,7 @@ returns c =
     e ∙ sym (write-stopped (D s) (L s) (s .args .block .now) none (λ z. c .if1 .taken (e ∙ z)))
 
 recordable-requires : tie.Need-recordable-requires
-recordable-requires c κs = let a = admits c in (a .ledger-long, a .fit .same-recorded, a .sound-disc .few, block-long c)
+recordable-requires c κs = let a = admits c in (sound-sized (D (start-of c)) (a .sound-disc), a .ledger-long, a .fit .same-recorded, block-long c)
 
 returns-2 : tie.Need-returns-2
 returns-2 c =

@@ -1,60 +1,100 @@
--- `calls::effects::close` meets its contract: links, the pointer, the zero sectors, and the table sector and the state behind them.
+-- `calls::effects::close` meets its contract: links, the pointer, the zero sectors, and the table's sectors and the state behind them.
 -- Assumes nothing.
-use Prim.Native.Nat.{ℕ, _+_}
-use mathlib.Core.Path.{_≡_, sym, ap, ap₂, _∙_}
+use Prim.Native.Nat.{ℕ, _+_, _≤_}
+use native.Mathlib.Omega.{arith}
+use mathlib.Core.Path.{_≡_, refl, ap, _∙_}
 use mathlib.Core.List.{List}
-use lib.ListN.{length, replicate}
+use lib.ListN.{length}
+use Rattle.vat.specs.Table.{mostOwn}
 use Rattle.vat.specs.Sector.{noStamp}
 use Rattle.disc.specs.Disc.{Disc, lent, Sector, puts}
-use Rattle.disc.specs.Session.{zeroSectors, zeroSector, closing, closingLength}
+use Rattle.disc.specs.Session.{closing}
+use Rattle.disc.specs.Again.{freshOf}
+use Rattle.disc.proofs.Recording.{sized-tells}
 use Rattle.volume.specs.declared.Volume.{Volume}
 use Rattle.volume.specs.Volume.{unpack, pack, committed}
 use Rattle.recorder.specs.Refusals.{target}
-use Rattle.recorder.proofs.Sectors.{length-closing}
-use Rattle.calls.proofs.Left.{closing-puts, linkedKinds, saved-disc, saved-at}
+use Rattle.recorder.specs.Effects.{closingFirst}
+use Rattle.recorder.proofs.Sectors.{length-closing, own-few}
+use Rattle.calls.proofs.Left.{linkedKinds, linked-puts, tableOf, Ready, Savable, closing-ready, behind-sound, behind-at, behind-known, behind-room, saved-disc, saved-at}
 use borrow.Author.Needs.{needs}
 use Rattle.calls.proofs.effects.close.Statement.{statement}
 use Rattle.calls.proofs.effects.close.Tie as tie
 
 -- the places of the function, each found from a later one
-abbrev start-of : tie.After-record-links → tie.Start
-start-of c = c .before .before .before .before .before .before
+abbrev start-of : tie.After-own-recorded → tie.Start
+start-of c = c .before .before .before .before .before .before .before
 
-abbrev after-links : tie.After-record-anchor → tie.After-record-links
-after-links c = c .before .before .before .before .before
+abbrev after-count : tie.After-record-closing → tie.After-own-recorded
+after-count c = c .before .before .before .before
 
-abbrev after-anchor : tie.After-zeros → tie.After-record-anchor
-after-anchor c = c .before .before .before .before .before .before .before
+abbrev after-closing : tie.After-stamp → tie.After-record-closing
+after-closing c = c .before .before .before .before .before .before .before .before
 
-abbrev after-zeros : tie.After-save-at → tie.After-zeros
-after-zeros c = c .before .before .before .before .before .before .before .before .before
-
-abbrev after-save : tie.After-slice-known11 → tie.After-save-at
+abbrev after-save : tie.After-slice-known8 → tie.After-save-at
 after-save c = c .before .before .before .before .before .before
 
-record-links-requires : tie.Need-record-links-requires
-record-links-requires c κs = search needs
+-- the disc, the ledger, and what is put before the save
+abbrev D : tie.Start → Disc
+D s = lent (s .args .image .now) (s .args .kinds .now)
 
-record-anchor-requires : tie.Need-record-anchor-requires
-record-anchor-requires c κs = search needs
+abbrev L : tie.Start → List ℕ
+L s = s .args .ledger .now
 
-add-zeros : tie.Need-add-zeros
-add-zeros c = search needs
+abbrev first : tie.Start → List Sector
+first s = closingFirst (D s) (unpack (L s)) (s .args .main) (s .args .reserve) (s .args .start)
 
-cast-zeros : tie.Need-cast-zeros
-cast-zeros c = search needs
+savable : (s : tie.Start) → Savable (D s) (L s)
+savable s = (s .pre .0, s .pre .1, s .pre .2, s .pre .3, s .pre .4, s .pre .5)
 
-zeros-requires : tie.Need-zeros-requires
-zeros-requires c κs = search needs
+prepared : (s : tie.Start) → Ready (D s) (L s) (first s) noStamp
+prepared s = closing-ready (D s) (L s) (s .args .main) (s .args .reserve) (s .args .start) (savable s) (s .pre .6)
 
-add-table : tie.Need-add-table
-add-table c = search needs
+few : (c : tie.After-own-recorded) → length (freshOf (D (start-of c)) (tableOf (D (start-of c)) (L (start-of c))) (unpack (L (start-of c)) .last)) ≤ mostOwn
+few c = let s = start-of c in own-few (D s) (unpack (L s)) (s .pre .4)
+
+-- the disc behind them, and its block
+behind : (c : tie.After-record-closing) → let s = start-of (after-count c) in
+    lent (c .record-closing .last .0) (c .record-closing .last .1 .0) ≡ puts (lent (D s .image) (linkedKinds (D s) (L s))) (target (unpack (L s))) (first s)
+behind c =
+    let o = after-count c in let s = start-of o in let a = s .args in
+    let v : Volume = unpack (L s) in
+    c .record-closing .ensures .1 ∙ linked-puts (D s) (L s) (closing (a .main) (a .reserve) (a .start) (target v) (o .own-recorded .result))
+    ∙ ap (λ (own : ℕ). puts (lent (D s .image) (linkedKinds (D s) (L s))) (target v) (closing (a .main) (a .reserve) (a .start) (target v) own)) (o .own-recorded .ensures)
+
+at-end : (c : tie.After-record-closing) → let s = start-of (after-count c) in c .record-closing .result ≡ target (unpack (L s)) + length (first s)
+at-end c =
+    let o = after-count c in let s = start-of o in let a = s .args in
+    let own : ℕ = length (freshOf (D s) (tableOf (D s) (L s)) (unpack (L s) .last)) in
+    omega (arith, c .record-closing .ensures .0, o .own-recorded .ensures, length-closing (a .main) (a .reserve) (a .start) (target (unpack (L s))) own (omega (arith, few o)))
+
+own-recorded-requires : tie.Need-own-recorded-requires
+own-recorded-requires c κs = search needs
+
+record-closing-requires : tie.Need-record-closing-requires
+record-closing-requires c κs =
+    let o = c .before .before .before in let s = start-of o in
+    let sized = sized-tells (D s) (s .pre .1) in
+    (s .pre .0, sized .whole, omega (arith, o .own-recorded .ensures, few o), s .pre .6, sized .few, s .pre .7)
 
 slice-aggregate-save-at : tie.Need-slice-aggregate-save-at
 slice-aggregate-save-at c = search needs
 
 save-at-requires : tie.Need-save-at-requires
-save-at-requires c κs = search needs
+save-at-requires c κs =
+    let r = after-closing c in let s = start-of (after-count r) in
+    let x : Disc = lent (r .record-closing .last .0) (r .record-closing .last .1 .0) in
+    let b : ℕ = r .record-closing .result in
+    let sound = behind-sound (D s) (L s) (first s) noStamp (prepared s) x b (behind r) (at-end r) in (
+      s .pre .0,
+      sound .0,
+      sound .1,
+      behind-at (D s) (L s) (first s) noStamp (prepared s) x b (behind r) (at-end r),
+      s .pre .4,
+      behind-known (D s) (L s) (first s) noStamp (prepared s) x b (behind r) (at-end r),
+      refl,
+      behind-room (D s) (L s) (first s) noStamp (prepared s) x b (behind r) (at-end r),
+    )
 
 same-length : tie.Need-same-length
 same-length c = search needs
@@ -67,36 +107,21 @@ same-length-3 c = search needs
 
 returns : tie.Need-returns
 returns c =
-    let w = after-save c in let z = after-zeros w in let p = after-anchor z in let r = after-links p in let a = start-of r .args in
-    let d : Disc = lent (a .image .now) (a .kinds .now) in
-    let l : List ℕ = a .ledger .now in
-    let v : Volume = unpack l in
-    let first : List Sector = closing (a .main) (a .reserve) (a .start) (target v) in
-    let b : ℕ = r .record-links .result in
-    let behind : b ≡ target v = r .record-links .ensures .0 in
-    let at : b + closingLength ≡ target v + length first =
-    ap₂ _+_ behind (sym (length-closing (a .main) (a .reserve) (a .start) (target v))) in
-    let x : Disc = lent (z .zeros .last .0) (z .zeros .last .1 .0) in
-    let pointed : x ≡ puts (lent (a .image .now) (linkedKinds d l)) (target v) first =
-    z .zeros .ensures
-    ∙ ap₂ (λ (i k : List ℕ). puts (lent i k) (b + 1) (replicate zeroSectors zeroSector)) (p .record-anchor .ensures .0) (p .record-anchor .ensures .1)
-    ∙ closing-puts (a .main) (a .reserve) (a .start) b (lent (a .image .now) (r .record-links .last .0))
-    ∙ ap₂ (λ (k : List ℕ) (n : ℕ). puts (lent (a .image .now) k) n (closing (a .main) (a .reserve) (a .start) n)) (r .record-links .ensures .1) behind in (
-      saved-at d l first noStamp (b + closingLength) at,
-      w .save-at .ensures .0 ∙ saved-disc d l first noStamp x (b + closingLength) pointed at,
-      w .save-at .ensures .1 ∙ ap (λ (n : ℕ). pack (committed n v)) (saved-at d l first noStamp (b + closingLength) at),
+    let w = after-save c in let r = after-closing (w .before) in let s = start-of (after-count r) in
+    let x : Disc = lent (r .record-closing .last .0) (r .record-closing .last .1 .0) in
+    let b : ℕ = r .record-closing .result in
+    let at = w .save-at .ensures .0 ∙ saved-at (D s) (L s) (first s) noStamp (prepared s) x b (behind r) (at-end r) in (
+      at,
+      w .save-at .ensures .1 ∙ saved-disc (D s) (L s) (first s) noStamp (prepared s) x b (behind r) (at-end r),
+      w .save-at .ensures .2 ∙ ap (λ (n : ℕ). pack (committed n (unpack (L s)))) at,
     )
 
 pub close-spec : {M : Type 1} → statement M
 close-spec =
     tie.close
     (tie.spec
-    record-links-requires
-    record-anchor-requires
-    add-zeros
-    cast-zeros
-    zeros-requires
-    add-table
+    own-recorded-requires
+    record-closing-requires
     slice-aggregate-save-at
     save-at-requires
     same-length

@@ -9,7 +9,7 @@ use lib.Dec.{eqb}
 use Rattle.extent.specs.declared.Extent.{Extent}
 use Rattle.extent.specs.Extents.{extentsFrom}
 use Rattle.extent.proofs.Extents.{extentAt, extentsLeft, all-left, none-left}
-use Rattle.vat.specs.Own.{lies, laid}
+use Rattle.vat.specs.Table.{lies, laid}
 use Rattle.disc.specs.Disc.{lent}
 use Rattle.disc.specs.Tables.{below}
 use Rattle.disc.proofs.Pieces.{descriptor-taken}

@@ -8,15 +8,15 @@ use lib.ListN.{length, take, drop, length-take}
 use Rattle.le.specs.Bytes.{holdsText}
 use Rattle.le.specs.Field.{words}
 use Rattle.le.proofs.Runs.{AllBytes, all-bytes}
-use Rattle.vat.specs.Table.{sectorLength}
+use Rattle.vat.specs.Table.{sectorLength, bytesOf}
 use Rattle.vat.specs.Sector.{tableBytes}
-use Rattle.vat.specs.Own.{bytesOf, ownSector}
+use Rattle.vat.specs.Own.{ownSector}
 use Rattle.vat.proofs.Joined.{length-filled}
 use Rattle.vat.proofs.Made.{entries-alone}
 use Rattle.disc.specs.Disc.{Disc, lent, content}
 use Rattle.disc.specs.Again.{same}
 use Rattle.disc.proofs.Recording.{sized-tells}
-use Rattle.disc.proofs.Again.{again-read, again-not}
+use Rattle.disc.proofs.Fresh.{again-read, again-not}
 use borrow.Author.Needs.{needs}
 use Rattle.disc.proofs.own.named_again.Statement.{statement}
 use Rattle.disc.proofs.own.named_again.Tie as tie

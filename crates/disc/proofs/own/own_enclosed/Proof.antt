@@ -1,14 +1,14 @@
 -- `disc::own::own_enclosed` meets its contract: the length decides first, then regid and previous table together.
 -- Assumes nothing.
-use Prim.Native.Nat.{ℕ, _-_, _/_}
+use Prim.Native.Nat.{ℕ, _+_, _-_, _*_, _/_}
 use mathlib.Core.Path.{_≡_, sym, ap, ap₂, _∙_}
 use mathlib.Core.Bool.{_&&_}
 use mathlib.Core.List.{List}
 use lib.ListN.{length}
+use Rattle.le.specs.Field.{readLe}
 use Rattle.extent.specs.Extents.{extentsFrom}
-use Rattle.vat.specs.Table.{unusedOrBelow, tableName}
-use Rattle.vat.specs.Own.{joined}
-use Rattle.vat.proofs.Frame.{wrong-length, right-length}
+use Rattle.vat.specs.Table.{unusedOrBelow, joined, tableName, previousOf}
+use Rattle.vat.proofs.Frame.{counted, wrong-length, right-length}
 use Rattle.disc.specs.Disc.{lent}
 use Rattle.disc.specs.Tables.{below}
 use Rattle.disc.proofs.Recording.{sized-tells}
@@ -47,11 +47,11 @@ add-if1 c = search needs
 returns : tie.Need-returns
 returns c = let n = c .before in sym (wrong-length (T n) (start-of n .args .b) (N n) (count n) (λ e. c .if1 .taken (sym (long n) ∙ e)))
 
-cast-regid : tie.Need-cast-regid
-cast-regid c = search needs
+cast-own-holds : tie.Need-cast-own-holds
+cast-own-holds c = search needs
 
-mul-regid : tie.Need-mul-regid
-mul-regid c = search needs
+mul-own-holds : tie.Need-mul-own-holds
+mul-own-holds c = search needs
 
 add-own-holds : tie.Need-add-own-holds
 add-own-holds c = search needs
@@ -62,21 +62,20 @@ slice-aggregate-own-holds c = search needs
 own-holds-requires : tie.Need-own-holds-requires
 own-holds-requires c κs = search needs
 
-add-own-field : tie.Need-add-own-field
-add-own-field c = search needs
-
-own-field-requires : tie.Need-own-field-requires
-own-field-requires c κs = search needs
+own-previous-requires : tie.Need-own-previous-requires
+own-previous-requires c κs = search needs
 
 may-name-requires : tie.Need-may-name-requires
 may-name-requires c κs = search needs
 
 returns-2 : tie.Need-returns-2
-unfolding tableName
+unfolding tableName previousOf
 returns-2 c =
-    let f = c .before in let o = f .before in let one = o .before .before in let n = one .before in
+    let p = c .before in let o = p .before in let one = o .before .before in let n = one .before in
     let b : ℕ = start-of n .args .b in
-    ap₂ _&&_ (o .own-holds .ensures) (c .may-name .ensures ∙ ap (unusedOrBelow b) (f .own-field .ensures))
+    let previous : p .own-previous .result ≡ readLe 4 (T n) (4 * N n + 32) =
+    p .own-previous .ensures ∙ ap (λ (k : ℕ). readLe 4 (T n) (4 * k + 32)) (counted (T n) b (N n) (count n)) in
+    ap₂ _&&_ (o .own-holds .ensures) (c .may-name .ensures ∙ ap (unusedOrBelow b) previous)
     ∙ sym (right-length (T n) b (N n) (count n) (long n ∙ one .if1 .left))
 
 pub own-enclosed-spec : {M : Type 1} → statement M
@@ -87,12 +86,11 @@ own-enclosed-spec =
     mul-if1
     add-if1
     returns
-    cast-regid
-    mul-regid
+    cast-own-holds
+    mul-own-holds
     add-own-holds
     slice-aggregate-own-holds
     own-holds-requires
-    add-own-field
-    own-field-requires
+    own-previous-requires
     may-name-requires
     returns-2)

@@ -5,16 +5,14 @@ use native.Mathlib.Omega.{arith}
 use mathlib.Core.Path.{_≡_, refl, sym, ap, _∙_}
 use mathlib.Core.Bool.{Bool, _&&_, and-true}
 use mathlib.Core.List.{List}
-use mathlib.Core.Logic.{_⊎_, inl, inr}
 use Rattle.le.specs.Bytes.{every}
 use Rattle.le.specs.Field.{readLe, leadingWords, words}
-use Rattle.vat.specs.Table.{unusedOrBelow}
-use Rattle.disc.specs.Disc.{Disc, lent}
-use Rattle.disc.proofs.Recording.{Sized, sized-tells}
 use Rattle.extent.specs.Extents.{extentsFrom, totalLength}
-use Rattle.vat.specs.Own.{joined}
+use Rattle.vat.specs.Table.{unusedOrBelow, joined}
+use Rattle.disc.specs.Disc.{Disc, lent}
 use Rattle.disc.specs.Tables.{below}
-use Rattle.disc.proofs.Pieces.{table-byte, piece-words, piece-taken}
+use Rattle.disc.proofs.Recording.{Sized, sized-tells}
+use Rattle.disc.proofs.Pieces.{table-byte, piece-words, some-taken, piece-taken}
 use Rattle.disc.proofs.own.own_entries.Statement.{statement}
 use Rattle.disc.proofs.own.own_entries.Tie as tie
 
@@ -58,11 +56,6 @@ lies c some =
     let s = start-of c in let a = s .args in
     let t = table-byte (D c) (ok c) (a .b) (s .pre .1) (a .m) (I c) (a .at) (c .loop .j) (s .pre .3) (omega (arith, inside c)) in
     (t .1, t .2)
-
--- a piece is not empty
-some-taken : (q left k : ℕ) → 0 < left → 0 < k → (q ≡ left) ⊎ (q ≡ k) → 0 < q
-some-taken q left k h g (inl e) = omega arith
-some-taken q left k h g (inr e) = omega arith
 
 loop-holds : tie.Need-loop-holds Inv-loop μ-loop
 loop-holds c = (refl, c .before .before .before .pre .6, refl)

@@ -11,7 +11,7 @@ use Rattle.le.specs.Field.{readLe}
 use Rattle.disc.specs.Disc.{Disc, lent}
 use Rattle.disc.proofs.Recording.{sized-tells}
 use Rattle.extent.specs.Extents.{extentsFrom}
-use Rattle.vat.specs.Own.{joined}
+use Rattle.vat.specs.Table.{joined}
 use Rattle.disc.specs.Tables.{below}
 use Rattle.disc.proofs.Pieces.{table-byte, byte-taken}
 use Rattle.disc.proofs.own.own_holds.Statement.{statement}

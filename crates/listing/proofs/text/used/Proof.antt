@@ -22,7 +22,7 @@ unfolding unpack
 long l = length-words limit l 0
 
 abbrev Inv-loop : tie.InvT-loop
-Inv-loop ledger count₀ i₀ count i = (i ≤ 458) × (count ≡ used (drop i (unpack ledger .entries)))
+Inv-loop ledger count₀ i₀ count i = (i ≤ limit) × (count ≡ used (drop i (unpack ledger .entries)))
 
 abbrev μ-loop : tie.MeasureT-loop
 μ-loop ledger count₀ i₀ count i = i
@@ -32,7 +32,7 @@ abbrev start-of : tie.At-loop Inv-loop μ-loop → tie.Start Inv-loop μ-loop
 start-of c = c .before .before
 
 loop-holds : tie.Need-loop-holds Inv-loop μ-loop
-loop-holds c = (omega arith, sym (none-used (entries (c .before .args .ledger .now)) 458 (omega (arith, long (c .before .args .ledger .now)))))
+loop-holds c = (omega arith, sym (none-used (entries (c .before .args .ledger .now)) limit (omega (arith, long (c .before .args .ledger .now)))))
 
 sub-i : tie.Need-sub-i Inv-loop μ-loop
 sub-i c = omega arith

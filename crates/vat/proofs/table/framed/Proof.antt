@@ -1,13 +1,12 @@
--- `vat::table::framed` meets its contract: the plain rows decide first, then the table's place, then the rest together.
+-- `vat::table::framed` meets its contract: the plain rows decide first, then the place, then the lengths.
 -- Assumes nothing.
-use Prim.Native.Nat.{ℕ, _<_}
+use Prim.Native.Nat.{ℕ}
 use mathlib.Core.Path.{_≡_, sym, _∙_}
-use mathlib.Core.Bool.{true, false, and-false}
+use mathlib.Core.Bool.{true, false}
 use mathlib.Core.List.{List}
-use lib.Bits.{and-mask}
 use borrow.Author.Tests.{not-true, not-false}
 use Rattle.le.specs.Field.{holds}
-use Rattle.vat.specs.Table.{sectorLength, plainRows, embedded, wholeLength, placed, framed}
+use Rattle.vat.specs.Table.{plainRows, placed, framed}
 use Rattle.vat.proofs.Frame.{placed-below}
 use borrow.Author.Needs.{needs}
 use Rattle.vat.proofs.table.framed.Statement.{statement}
@@ -18,7 +17,7 @@ abbrev start-of : tie.Else1 → tie.Start
 start-of c = c .before .before .before
 
 abbrev plain-of : tie.Else2 → tie.Else1
-plain-of c = c .before .before .before
+plain-of c = c .before .before
 
 abbrev S : tie.Else1 → List ℕ
 S c = start-of c .args .s .now
@@ -39,27 +38,22 @@ returns c =
     let wrong : holds s (plainRows (c .before .before .before .args .b)) ≡ false = sym (c .before .plain-held .ensures) ∙ not-true (c .before .plain-held .result) (c .if1 .taken) in
     rw wrong
 
-read16-requires : tie.Need-read16-requires
-read16-requires c κs = search needs
-
 placed-requires : tie.Need-placed-requires
 placed-requires c κs = search needs
 
 returns-2 : tie.Need-returns-2
 unfolding framed
 returns-2 c =
-    let at = c .before .before .before in
+    let at = c .before .before in
     let wrong : placed (S at) ≡ false = sym (c .before .placed .ensures) ∙ not-true (c .before .placed .result) (c .if2 .taken) in
-    rw (plain at, wrong) (sym (and-false (embedded (S at))))
+    rw (plain at, wrong)
 
-lengths-held-requires : tie.Need-lengths-held-requires
-lengths-held-requires c κs = (start-of (plain-of c) .pre, placed-below (S (plain-of c)) (put c))
+measured-requires : tie.Need-measured-requires
+measured-requires c κs = (start-of (plain-of c) .pre, placed-below (S (plain-of c)) (put c))
 
 returns-3 : tie.Need-returns-3
 unfolding framed
-returns-3 c =
-    let e = c .before in let at = plain-of e in
-    rw (plain at, put e) (cc (and-mask (e .before .before .read16 .result) 3))
+returns-3 c = let e = c .before in rw (plain (plain-of e), put e) (c .measured .ensures)
 
 pub framed-spec : {M : Type 1} → statement M
 framed-spec =
@@ -67,8 +61,7 @@ framed-spec =
     (tie.spec
     plain-held-requires
     returns
-    read16-requires
     placed-requires
     returns-2
-    lengths-held-requires
+    measured-requires
     returns-3)

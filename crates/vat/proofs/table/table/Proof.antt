@@ -5,7 +5,7 @@ use native.Mathlib.Omega.{arith}
 use mathlib.Core.Path.{_≡_, ap, ap₂, _∙_}
 use mathlib.Core.List.{List}
 use lib.ListN.{take, drop}
-use Rattle.vat.specs.Table.{tableStart, tableOf}
+use Rattle.vat.specs.Table.{inside}
 use borrow.Author.Needs.{needs}
 use Rattle.vat.proofs.table.table.Statement.{statement}
 use Rattle.vat.proofs.table.table.Tie as tie
@@ -14,14 +14,8 @@ use Rattle.vat.proofs.table.table.Tie as tie
 abbrev start-of : tie.After-described-length → tie.Start
 start-of c = c .before .before .before
 
-attribute-length-requires : tie.Need-attribute-length-requires
-attribute-length-requires c κs = search needs
-
-cast-at : tie.Need-cast-at
-cast-at c = search needs
-
-add-at : tie.Need-add-at
-add-at c = search needs
+start-requires : tie.Need-start-requires
+start-requires c κs = search needs
 
 described-length-requires : tie.Need-described-length-requires
 described-length-requires c κs = search needs
@@ -41,27 +35,23 @@ part-result-start c = search needs
 part-result-end : tie.Need-part-result-end
 part-result-end c =
     let s = start-of c in
-    omega (arith, s .pre .0, s .pre .1, c .before .attribute-length .ensures, c .described-length .ensures)
+    omega (arith, s .pre .0, s .pre .1, c .before .start .ensures, c .described-length .ensures)
 
 returns : tie.Need-returns
-unfolding tableOf
+unfolding inside
 returns c =
-    λ lower.
     let e = c .before in
     let s : List ℕ = start-of e .args .s .now in
-    let a : ℕ = e .before .attribute-length .result in
+    let a : ℕ = e .before .start .result in
     let n : ℕ = e .described-length .result in
-    let long : (tableStart a + n) - tableStart a ≡ n = omega arith in
-    ap (λ (k : ℕ). take k (drop (tableStart a) s)) long
-    ∙ ap₂ (λ (k x : ℕ). take k (drop (tableStart x) s)) (e .described-length .ensures) (e .before .attribute-length .ensures)
+    let long : (a + n) - a ≡ n = omega arith in
+    ap (λ (k : ℕ). take k (drop a s)) long ∙ ap₂ (λ (k x : ℕ). take k (drop x s)) (e .described-length .ensures) (e .before .start .ensures)
 
 pub table-spec : {M : Type 1} → statement M
 table-spec =
     tie.close
     (tie.spec
-    attribute-length-requires
-    cast-at
-    add-at
+    start-requires
     described-length-requires
     cast-end
     add-end

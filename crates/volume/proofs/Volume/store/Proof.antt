@@ -8,7 +8,7 @@ use lib.ListN.{length}
 use lib.Seq.{sets}
 use Rattle.le.specs.Field.{le}
 use Rattle.volume.specs.declared.Volume.{Volume}
-use Rattle.volume.specs.Volume.{entriesLength}
+use Rattle.volume.specs.Volume.{places, entriesLength}
 use Rattle.volume.proofs.State.{pack-put}
 use borrow.Author.Needs.{needs}
 use Rattle.volume.proofs.Volume.store.Statement.{statement}
@@ -27,7 +27,7 @@ slice-aggregate-put-words c = search needs
 put-words-requires : tie.Need-put-words-requires
 put-words-requires c κs =
     let s = start-of c in
-    let counted : 458 ≡ length (s .args .self .entries) = slice-aggregate-put-words c in
+    let counted : places ≡ length (s .args .self .entries) = slice-aggregate-put-words c in
     omega (arith, s .pre)
 
 put-fields-requires : tie.Need-put-fields-requires
@@ -40,7 +40,7 @@ returns : tie.Need-returns
 returns c =
     let p = c .before .before in let w = after-entries p in let e = w .before in let s = start-of e in let a = s .args in
     let v : Volume = a .self in
-    let counted : 458 ≡ length (v .entries) = slice-aggregate-put-words e in
+    let counted : places ≡ length (v .entries) = slice-aggregate-put-words e in
     let behind : List ℕ → List ℕ = λ t. sets (sets (sets (sets t entriesLength (le 4 (v .size))) (entriesLength + 4) (le 4 (v .recorded))) (entriesLength + 8) (le 4 (v .last))) (entriesLength + 12) (le 4 (v .mode)) in
     p .put-fields .ensures ∙ ap behind (w .put-words .ensures) ∙ pack-put v (a .l .now) (sym counted) (s .pre)
 

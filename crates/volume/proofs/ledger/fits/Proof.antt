@@ -14,7 +14,7 @@ use Rattle.disc.specs.Disc.{Disc, lent, recorded}
 use Rattle.disc.specs.Tables.{tableAt}
 use Rattle.disc.proofs.Recording.{leading-le}
 use Rattle.volume.specs.declared.Volume.{Volume}
-use Rattle.volume.specs.Volume.{isUnused, unpack, mapOf}
+use Rattle.volume.specs.Volume.{places, isUnused, unpack, mapOf}
 use Rattle.volume.proofs.Fit.{entries-below, entries-beyond, modeFits, all-below-zero, too-many, other-count, fits-parts}
 use borrow.Author.Needs.{needs}
 use Rattle.volume.proofs.ledger.fits.Statement.{statement}
@@ -50,6 +50,12 @@ cast-words-held c = search needs
 
 mul-words-held : tie.Need-mul-words-held
 mul-words-held c = search needs
+
+cast-words-held-2 : tie.Need-cast-words-held-2
+cast-words-held-2 c = search needs
+
+sub-words-held : tie.Need-sub-words-held
+sub-words-held c = search needs
 
 words-held-requires : tie.Need-words-held-requires
 words-held-requires c κs = search needs
@@ -90,7 +96,7 @@ returns-3 c =
     let own : r .recorded .result ≡ v .recorded = r .recorded .ensures in
     let counted : r .recorded .result ≡ s .args .counted = g .if2 .left in
     let beyond : h .words-held .result ≡ every isUnused (drop (v .size) (v .entries)) =
-    h .words-held .ensures ∙ ap (λ (n : ℕ). every (unusedOrBelow 0) (words (limit - n) l (4 * n))) size
+    h .words-held .ensures ∙ ap (λ (n : ℕ). every (unusedOrBelow 0) (words (places - n) l (4 * n))) size
     ∙ ap (every (unusedOrBelow 0)) (sym (entries-beyond l (v .size) few)) ∙ all-below-zero (drop (v .size) (v .entries)) in
     let below : w .words-held2 .result ≡ every (unusedOrBelow (v .recorded)) (mapOf v) =
     w .words-held2 .ensures ∙ ap₂ (λ (r n : ℕ). every (unusedOrBelow r) (words n l 0)) own size
@@ -109,6 +115,8 @@ fits-spec =
     returns
     cast-words-held
     mul-words-held
+    cast-words-held-2
+    sub-words-held
     words-held-requires
     recorded-requires
     words-held-requires-2

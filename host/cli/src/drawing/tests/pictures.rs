@@ -3,6 +3,7 @@
 use std::ops::Range;
 use std::path::Path;
 
+use super::super::Own;
 use super::{in_use, none, plan, saves, svg, times, BENCH, EACH, LARGE};
 
 /// It has no size of its own, and on paper that of the sheet; no script.
@@ -102,6 +103,41 @@ fn groups_under_the_pointer() {
     }
     // Without the picture's own, and that of the disc.
     assert_eq!(times(&picture, "<title>"), 1 + 6);
+}
+
+/// Of table sectors it tells which are saves and which own sectors, and whose.
+#[test]
+fn own_sectors_under_the_pointer() {
+    let roles = [0, 3, 3, 3, 3, 3, 3, 3, 6];
+    let (saves, in_use) = (saves([3, 6].into_iter()), none(roles.len()));
+    let own = |block, newest, oldest| Own {
+        block,
+        newest,
+        oldest,
+    };
+    let own = [own(1, 1, 1), own(2, 0, 1), own(4, 0, 0), own(5, 0, 0)];
+    let mut plan = plan(&roles, &in_use, &saves);
+    plan.own = &own;
+    let picture = svg(&plan);
+    for told in [
+        "block 1: table's own sector, the save 1 back",
+        "block 2: table's own sector, the newest save to 1 back",
+        "block 3: table, the save 1 back",
+        "blocks 4 to 5: table's own sector, the newest save",
+        "block 6: table, the newest save",
+        // Counting back does not reach it.
+        "block 7: table",
+    ] {
+        assert_eq!(times(&picture, &format!("<title>{told}</title>")), 1);
+    }
+    let mut roles = vec![6; LARGE];
+    roles[..200].fill(3);
+    let in_use = none(LARGE);
+    let mut plan = super::plan(&roles, &in_use, &saves);
+    plan.own = &own;
+    let told = "blocks 0 to 99: 96 tables (the newest save to 1 back), 4 own sectors of tables \
+                (the newest save to 1 back)";
+    assert!(svg(&plan).contains(&format!("<title>{told}</title>")));
 }
 
 #[test]

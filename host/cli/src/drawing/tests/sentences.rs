@@ -1,8 +1,8 @@
 //! What is said in words: the answer, and shares.
 
-use super::super::words::share;
-use super::super::{answer, Count};
-use super::{in_use, none, BENCH, LARGE};
+use super::super::words::{notes, share};
+use super::super::{answer, svg, Count, Own};
+use super::{in_use, none, plan, BENCH, LARGE};
 
 #[test]
 fn the_answer_in_words() {
@@ -16,7 +16,7 @@ fn the_answer_in_words() {
         (
             &[0, 3, 6],
             "2 of 3 sectors are recorded, 1 of them in use; the rest went above all into \
-             tables (1): one for each save.",
+             tables (1): one for each save, more above 458 numbers.",
         ),
         (
             &[1, 1, 3, 5],
@@ -47,7 +47,7 @@ fn the_answer_where_runs_are_in_use() {
         (
             &[1, 0, 3, 6],
             0..1,
-            format!("3 of 4 sectors are recorded, 1 of them in use and 1 as a part of a run in use {as_superseded}; the rest went above all into tables (1): one for each save."),
+            format!("3 of 4 sectors are recorded, 1 of them in use and 1 as a part of a run in use {as_superseded}; the rest went above all into tables (1): one for each save, more above 458 numbers."),
         ),
         (
             &[1, 1, 2, 2, 2, 0, 3],
@@ -58,6 +58,28 @@ fn the_answer_where_runs_are_in_use() {
         let in_use = in_use(roles.len(), &[], &[(0, parts)]);
         assert_eq!(answer(&Count::of(roles, &in_use.parts)), said);
     }
+}
+
+#[test]
+fn what_is_told_of_the_whole() {
+    let own = |block| Own {
+        block,
+        newest: 0,
+        oldest: 0,
+    };
+    let in_use = none(3);
+    let mut plan = plan(&[3, 3, 6], &in_use, &[]);
+    assert!(notes(&plan).is_empty());
+    plan.note = "Looking only.";
+    let (one, two) = ([own(0)], [own(0), own(1)]);
+    plan.own = &one;
+    let said = "1 of the table sectors is a table's own sector; list --long tells whose.";
+    assert_eq!(notes(&plan), [said, plan.note]);
+    plan.own = &two;
+    let said = "2 of the table sectors are tables' own sectors; list --long tells whose.";
+    assert_eq!(notes(&plan)[0], said);
+    // In the picture it stands in the foot, in lines of its own.
+    assert!(svg(&plan).contains(" list --long tells whose."));
 }
 
 #[test]
