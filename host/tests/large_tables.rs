@@ -11,7 +11,7 @@ use common::large::{map_over, Large};
 use common::pair::tell_compared;
 use common::recogniser::Recogniser;
 use common::station::{done, refused, Station};
-use common::tables::put_described;
+use common::tables::{is_tested_in_header, put_described};
 use station_model::calls::Call;
 use station_model::disc::{DATA, LINK, UNREADABLE};
 use station_model::extent::Extent;
@@ -196,19 +196,10 @@ fn each_condition_on_a_closed_disc() {
     tell_compared("each_condition_on_a_closed_disc");
 }
 
-/// Bytes of the ICB whose value matters beyond the sums.
+/// Bytes of the ICB whose value matters beyond the sums: its header, its lengths and its
+/// three descriptors.
 fn is_tested(at: usize) -> bool {
-    let fields = [
-        0..6,
-        10..16,
-        20..22,
-        27..28,
-        34..35,
-        48..50,
-        56..64,
-        168..200,
-    ];
-    fields.iter().any(|field| field.contains(&at))
+    is_tested_in_header(at) || (168..200).contains(&at)
 }
 
 #[test]

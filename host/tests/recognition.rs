@@ -9,7 +9,7 @@ use common::pair::tell_compared;
 use common::random::{cases, Random};
 use common::recogniser::Recogniser;
 use common::station::{done, Station};
-use common::tables::{most_attributes, vat_behind, MOST_EMBEDDED};
+use common::tables::{is_tested_in_header, most_attributes, vat_behind, MOST_EMBEDDED};
 use station_model::calls::Call;
 use station_model::disc::{DATA, UNREADABLE};
 use station_model::table::{seal, NONE, SECTOR};
@@ -40,19 +40,12 @@ fn is_tested(at: usize, attributes: usize) -> bool {
     let (entries, regid) = (176 + attributes, 184 + attributes);
     let previous = regid + 32;
     let fields = [
-        0..6,
-        10..16,
-        20..22,
-        27..28,
-        34..35,
-        48..50,
-        56..64,
         168..176,
         entries..regid,
         regid + 1..regid + 24,
         previous..previous + 4,
     ];
-    fields.iter().any(|field| field.contains(&at))
+    is_tested_in_header(at) || fields.iter().any(|field| field.contains(&at))
 }
 
 /// "A sector of kind 1 is a table sector exactly if all of this holds": a

@@ -7,10 +7,7 @@ use mathlib.Core.Bool.{Bool, true, false, _||_}
 use mathlib.Core.List.{List, [], _∷_, _++_, append-assoc}
 use mathlib.Core.Option.{Option, some}
 use lib.Dec.{eqb}
-use lib.ListN.{length, drop, set, replicate, length-append, length-replicate}
-use lib.Seq.{sets, sets-eq}
-use Rattle.le.specs.Field.{words, leWords}
-use Rattle.le.proofs.Runs.{Words, words-read, length-leWords}
+use lib.ListN.{length, set, replicate, length-append, length-replicate}
 use Rattle.timestamp.specs.Timestamp.{stampLength, told}
 use Rattle.vat.specs.Table.{sectorLength, limit, unused, tagVersion}
 use Rattle.vat.specs.Sector.{noStamp, tableBytes, icb}
@@ -50,11 +47,6 @@ pub closing-puts : (main reserved : Extent) (start b own : ℕ) (d : Disc)
     → puts (put d b (plain (anchor tagVersion main reserved (start + b)))) (b + 1) (replicate (zeroSectors - own) zeroSector) ≡ puts d b (closing main reserved start b own)
 unfolding closing
 closing-puts main reserved start b own d = puts-first d b (plain (anchor tagVersion main reserved (start + b))) (replicate (zeroSectors - own) zeroSector)
-
--- numbers that are put at the beginning stand there
-pub words-put : (l xs : List ℕ) → 4 * length xs ≤ length l → Words xs → words (length xs) (sets l 0 (leWords xs)) 0 ≡ xs
-words-put l xs room fit =
-    words-read xs (sets l 0 (leWords xs)) (drop (0 + length (leWords xs)) l) 0 (sets-eq (leWords xs) l 0 (omega (arith, length-leWords xs))) fit
 
 -- the table's own sectors, and the ICB behind them
 module _ (d : Disc) (t : List ℕ) (previous : ℕ) (stamp : List ℕ) (b : ℕ) where

@@ -19,11 +19,11 @@ use Rattle.volume.specs.Volume.{ledgerLength}
 use Rattle.recorder.specs.Calls.{Call, begin, write, release, closePacket, commit, closeSession}
 use Rattle.recorder.specs.Effects.{after}
 use Rattle.recorder.proofs.Answers.{done-small}
-use Rattle.roles.specs.Roles.{names, namedBelow, ofTable, roleAt, tabulate}
-use Rattle.roles.specs.Keeping.{scanned, letGo, marked, keptUp, outcomeRoles, afterRoles}
+use Rattle.roles.specs.Keeping.{outcomeRoles}
 use Rattle.run.specs.Entry.{totalSectors, fileRows, entry}
 use Rattle.space.specs.Space.{Lent, leavesAll}
 use Rattle.bench.proofs.Starred.{opened, blank, block, full, stamp}
+use Rattle.space.proofs.Worked.{roles-opened}
 use Rattle.client.specs.Day.{Day, day, AllDone, opening, CutBehind, StoppedStoring, StoppedMarking, storing}
 use Rattle.client.specs.Account.{RolesLeft}
 use Rattle.client.proofs.Days.{part-done, did, Fit, first-fit, next-fit}
@@ -54,8 +54,12 @@ stored = storing (fresh 20) true 0 (block 1) (block 2 ∷ []) 2051
 unfoldable pub all-done : Day → List Call → Bool
 all-done x cs = ltb (day x cs .answer) 4294967296
 
+unfoldable days-opened : Unit {0}
+unfolding roles-opened totalLength descriptors totalSectors fileRows entry day all-done
+days-opened = tt
+
 thrice : T (all-done (fresh 39) (save ++ (save-again ++ save-released)))
-unfolding opened names namedBelow ofTable roleAt tabulate scanned letGo marked keptUp outcomeRoles afterRoles totalLength descriptors totalSectors fileRows entry day all-done
+unfolding days-opened
 thrice = tt
 
 pub saved-thrice : AllDone (fresh 39) (save ++ (save-again ++ save-released))
@@ -63,7 +67,7 @@ unfolding all-done
 saved-thrice = ltb→lt (day (fresh 39) (save ++ (save-again ++ save-released)) .answer) 4294967296 thrice
 
 timed : T (all-done (fresh 18) save-at)
-unfolding opened names namedBelow ofTable roleAt tabulate scanned letGo marked keptUp outcomeRoles afterRoles totalLength descriptors totalSectors fileRows entry day all-done
+unfolding days-opened
 timed = tt
 
 pub saved-at : AllDone (fresh 18) save-at
@@ -71,7 +75,7 @@ unfolding all-done
 saved-at = ltb→lt (day (fresh 18) save-at .answer) 4294967296 timed
 
 storing-done : T (all-done (fresh 20) stored)
-unfolding opened names namedBelow ofTable roleAt tabulate scanned letGo marked keptUp outcomeRoles afterRoles totalLength descriptors totalSectors fileRows entry day all-done
+unfolding days-opened
 storing-done = tt
 
 pub run-stored : AllDone (fresh 20) stored
@@ -79,7 +83,6 @@ unfolding all-done
 run-stored = ltb→lt (day (fresh 20) stored .answer) 4294967296 storing-done
 
 -- the earlier parts of the first day
-
 pub saved-twice : AllDone (fresh 39) (save ++ save-again)
 saved-twice = part-done (save ++ save-again) save-released (fresh 39) saved-thrice
 

@@ -5,14 +5,12 @@
 --     icb-reads                the ICB is a table at its block, with the map, the previous table, the time and its own sectors
 --     save-same                what a save records is told by what the previous table's own sectors read
 -- Assumes nothing.
-use Prim.Native.Nat.{ℕ, zero, suc, _+_, _-_, _≤_, _<_}
-use native.Mathlib.Nat.{add-zero}
+use Prim.Native.Nat.{ℕ, suc, _+_, _-_, _≤_, _<_}
 use native.Mathlib.Omega.{arith}
 use mathlib.Core.Path.{_≡_, refl, sym, ap, ap₂, _∙_, subst}
 use mathlib.Core.Bool.{Bool, true, false, _||_, _&&_}
 use mathlib.Core.List.{List, [], _∷_, _++_}
 use mathlib.Core.Logic.{inl, inr}
-use mathlib.Core.Option.{Option}
 use lib.Dec.{eqb, ltb}
 use lib.ListN.{length, length-append}
 use borrow.Author.Tests.{eqb-true, eq-eqb, lt-ltb}
@@ -26,16 +24,15 @@ use Rattle.vat.specs.Sector.{tableBytes, icb}
 use Rattle.vat.proofs.Record.{length-table}
 use Rattle.vat.proofs.Joined.{Stand, AllSmall}
 use Rattle.vat.proofs.Theorems.{Named, named, icb-long, ReadsBack, reads-back}
-use Rattle.anchor.specs.Anchor.{anchorTagged}
-use Rattle.disc.specs.Disc.{Disc, recorded, content, Sector, link, plain, torn, puts}
+use Rattle.disc.specs.Disc.{Disc, recorded, Sector, link, plain, torn, puts}
 use Rattle.disc.specs.Tables.{below, tableAt, namedBy}
 use Rattle.disc.specs.Again.{ownBlocks, againOf, freshOf, fresh, plains}
-use Rattle.disc.specs.Save.{icbOf, saveSectors, lastBlock}
+use Rattle.disc.specs.Save.{icbOf, saveSectors}
 use Rattle.disc.proofs.Recording.{Sound, AllWhole, whole-append, puts-append}
 use Rattle.disc.proofs.Told.{SameBelow, SameAt, NamedData, named-data, names-same, names-none}
 use Rattle.disc.proofs.Found.{table-recorded, table-beyond}
 use Rattle.disc.proofs.Growing.{Grew, puts-grew}
-use Rattle.disc.proofs.Fresh.{length-plains, fresh-whole, few-fresh, NeitherFrom, fresh-neither, stands, blocks-small, again-same}
+use Rattle.disc.proofs.Fresh.{length-plains, fresh-whole, NeitherFrom, fresh-neither, stands, blocks-small, again-same}
 
 -- a sector that is no table where it is recorded, whatever lies below it, and a list of such from block b on
 abbrev pub NoTable : ℕ → Sector → Type 0

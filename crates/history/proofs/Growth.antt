@@ -12,14 +12,14 @@ use mathlib.Core.Option.{Option, none, some}
 use lib.Dec.{eqb, ltb}
 use lib.ListN.{length, take, replicate, getD}
 use lib.Seq.{take-append-le, length-take-le, take-length}
-use borrow.Author.Tests.{eq-eqb, ltb-true, lt-ltb, le-ltb, eqb-true}
+use borrow.Author.Tests.{eq-eqb, ltb-true, lt-ltb, le-ltb}
 use Rattle.le.specs.Bytes.{every}
 use Rattle.le.proofs.Rows.{and-left, and-right}
 use Rattle.vat.specs.Table.{sectorLength, unused, unusedOrBelow, Lower, modifiedOf, tableOf, entriesOf, previousOf, isTable, tagVersion}
 use Rattle.vat.proofs.Theorems.{Named, named}
 use Rattle.extent.specs.declared.Extent.{Extent}
 use Rattle.anchor.proofs.Theorems.{anchor-no-table, zeros-no-table}
-use Rattle.disc.specs.Disc.{Disc, recorded, kindAt, sectorAt, readable, content, Sector, link, plain, torn, put, puts}
+use Rattle.disc.specs.Disc.{Disc, recorded, readable, content, Sector, link, plain, torn, put, puts}
 use Rattle.disc.specs.Tables.{below, tableAt, mapAt, previousAt, timeAt}
 use Rattle.disc.specs.Session.{zeroSectors, zeroSector, closing}
 use Rattle.disc.proofs.Recording.{Sound, Whole, Recorded, put-recorded, plain-here, puts-append, AllWhole, whole-take, blank-kind, links-contents}
@@ -28,7 +28,7 @@ use Rattle.disc.proofs.Growing.{one-kept}
 use Rattle.disc.proofs.Save.{NoTable, NoTables}
 use Rattle.recorder.proofs.Sectors.{behind, length-behind}
 use Rattle.history.specs.Events.{Torn, tornAt, cutDisc}
-use Rattle.history.proofs.Log.{Format, AllBelow, NamesBelow, View, Extends, Plain, Saved, extends-on, plain-same, plain-on, none-some, some-same}
+use Rattle.history.proofs.Log.{Format, AllBelow, NamesBelow, View, Extends, Plain, Saved, extends-on, plain-same, plain-on}
 
 abbrev pub F : Format
 F = record { Disc = Disc; recorded = recorded; table = tableAt; mapAt = mapAt; previousAt = previousAt; timeAt = timeAt; content = content }

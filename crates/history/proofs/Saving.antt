@@ -36,8 +36,8 @@ use Rattle.recorder.proofs.Sectors.{links-whole, behind, beforeIcb, length-befo
 use Rattle.history.specs.History.{History, Told, done}
 use Rattle.history.specs.Events.{told}
 use Rattle.history.specs.Times.{savedStamp}
-use Rattle.history.proofs.Log.{AllBelow, all-below-more, Saved, working}
-use Rattle.history.proofs.Growth.{F, below-to, all-below-of, all-below-to, links-no-tables, no-tables-append, closing-no-tables, behind-time, behind-sound, lower, behind-saved}
+use Rattle.history.proofs.Log.{Saved, working}
+use Rattle.history.proofs.Growth.{F, below-to, links-no-tables, no-tables-append, closing-no-tables, behind-time, behind-sound, lower, behind-saved}
 
 -- ---- in the history
 

@@ -94,6 +94,11 @@ words-read (x ∷ xs) s rest at e f =
     ∙ ap₂ {C = List ℕ} (λ (a : ℕ) (b : List ℕ). a ∷ b) (read-le 4 x s (leWords xs ++ rest) at here (f .0))
     (words-read xs s rest (at + 4) (drop-on s (le 4 x) (leWords xs ++ rest) at 4 here (length-le 4 x)) (f .1))
 
+-- numbers that are put at the beginning stand there
+pub words-put : (l xs : List ℕ) → 4 * length xs ≤ length l → Words xs → words (length xs) (sets l 0 (leWords xs)) 0 ≡ xs
+words-put l xs room fit =
+    words-read xs (sets l 0 (leWords xs)) (drop (0 + length (leWords xs)) l) 0 (sets-eq (leWords xs) l 0 (omega (arith, length-leWords xs))) fit
+
 pub length-words : (n : ℕ) (s : List ℕ) (at : ℕ) → length (words n s at) ≡ n
 length-words zero s at = ap length (words-none s at)
 length-words (suc n) s at = ap length (words-step n s at) ∙ ap suc (length-words n s (at + 4))

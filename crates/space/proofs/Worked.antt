@@ -22,6 +22,11 @@ use Rattle.roles.specs.Keeping.{scanned, letGo, marked, keptUp, outcomeRoles, a
 use Rattle.space.specs.Space.{Lent, leavesAll, afresh}
 use Rattle.space.proofs.Theorem.{space}
 
+-- To open this is to open every definition that roles are worked out from.
+unfoldable pub roles-opened : Unit {0}
+unfolding opened same names namedBelow ofTable roleAt tabulate scanned letGo marked keptUp outcomeRoles afterRoles leavesAll
+roles-opened = tt
+
 -- Calls on a disc with these roles and this ledger, and the roles that they leave.
 pub record Row : Type 0 where
   pub lent : Lent
@@ -44,7 +49,7 @@ kept =
     ∷ []
 
 pub kept-rows : T (all-right kept)
-unfolding opened same names namedBelow ofTable roleAt tabulate scanned letGo marked keptUp outcomeRoles afterRoles leavesAll all-right kept
+unfolding roles-opened all-right kept
 kept-rows = tt
 
 -- Another, and a look back behind it: which block has no number is not known any more.
@@ -56,7 +61,7 @@ looked =
     ∷ []
 
 pub looked-rows : T (all-right looked)
-unfolding opened same names namedBelow ofTable roleAt tabulate scanned letGo marked keptUp outcomeRoles afterRoles leavesAll all-right looked
+unfolding roles-opened all-right looked
 looked-rows = tt
 
 -- The map of another deck: numbers 0 and 1 both name block 0.
@@ -72,7 +77,7 @@ shared =
     ∷ []
 
 pub shared-rows : T (all-right shared)
-unfolding opened same names namedBelow ofTable roleAt tabulate scanned letGo marked keptUp outcomeRoles afterRoles leavesAll all-right shared
+unfolding roles-opened all-right shared
 shared-rows = tt
 
 -- Two saves of 600 numbers, whose tables have two own sectors each: the second names the first of these again, and records the other anew.
@@ -86,7 +91,7 @@ owning =
     ∷ []
 
 pub owning-rows : T (all-right owning)
-unfolding opened same names namedBelow ofTable roleAt tabulate scanned letGo marked keptUp outcomeRoles afterRoles leavesAll all-right owning
+unfolding roles-opened all-right owning
 owning-rows = tt
 
 -- ---- and drawn from the claim
@@ -107,7 +112,7 @@ unfoldable pub after-evening : List ℕ
 after-evening = 5 ∷ 1 ∷ 3 ∷ replicate 7 4 ++ (0 ∷ 2 ∷ replicate 16 6)
 
 worked-evening : T (eqb (outcomeRoles (scratched .disc) (scratched .roles) (scratched .ledger) mount) 0 && same (leavesAll scratched (mount ∷ evening) .roles) after-evening)
-unfolding opened same names namedBelow ofTable roleAt tabulate scanned letGo marked keptUp outcomeRoles afterRoles leavesAll scratched evening after-evening
+unfolding roles-opened scratched evening after-evening
 worked-evening = tt
 
 -- worked out afresh from the history these roles are the same

@@ -5,7 +5,7 @@
 --     tells            what is recognised stands below one sector's end behind attributes of a multiple of 4 bytes, and holds at most 4,087 entries,
 --                      each and its previous FFFFFFFF or below b; at block 0 all are FFFFFFFF
 -- Assumes nothing.
-use Prim.Native.Nat.{ℕ, zero, suc, _+_, _*_, _/_, _%_, _≤_, _<_}
+use Prim.Native.Nat.{ℕ, zero, suc, _+_, _/_, _%_, _≤_, _<_}
 use native.Mathlib.Nat.{not-suc-le-zero}
 use native.Mathlib.Omega.{arith}
 use mathlib.Core.Path.{_≡_, refl, sym, ap, ap₂, _∙_, subst}
@@ -46,6 +46,12 @@ pub record Recognised (lower : Lower) (s : List ℕ) (b : ℕ) : Type 0 where
   pub entries : every (unusedOrBelow b) (entriesOf (tableOf lower s)) ≡ true
   pub sums : sealed s ≡ true
 
+pub framed-of : (lower : Lower) (s : List ℕ) (b : ℕ) → isTable lower s b ≡ true → framed s b ≡ true
+unfolding isTable
+framed-of lower s b e =
+    let rest : Bool = laid lower (ownOf s) && (listed (tableOf lower s) b && sealed s) in
+    and-left (framed s b) rest (and-right (eqb (length s) sectorLength) (framed s b && rest) e)
+
 pub recognised : (lower : Lower) (s : List ℕ) (b : ℕ) → isTable lower s b ≡ true → Recognised lower s b
 unfolding isTable listed
 recognised lower s b e =
@@ -61,7 +67,7 @@ recognised lower s b e =
     let e₃ : (n && named) ≡ true = and-left (n && named) (sealed s) e₂ in
     record {
       whole = eqb-true (length s) sectorLength (and-left long (f && (own && ((n && named) && sealed s))) e);
-      frame = framed-tells s b (and-left f (own && ((n && named) && sealed s)) e₀);
+      frame = framed-tells s b (framed-of lower s b e);
       on-data = and-left own ((n && named) && sealed s) e₁;
       around = enclosed-tells t b (and-left n named e₃);
       entries = and-right n named e₃;

@@ -11,6 +11,13 @@ pub const MOST_EMBEDDED: usize = 458;
 /// descriptors.
 pub const ATTRIBUTES: usize = 176;
 
+/// Bytes of an ICB, up to its attribute length, whose value matters beyond the sums: tag,
+/// strategy, file type, the low flags, links and information length.
+pub fn is_tested_in_header(at: usize) -> bool {
+    let fields = [0..6, 10..16, 20..22, 27..28, 34..35, 48..50, 56..64];
+    fields.iter().any(|field| field.contains(&at))
+}
+
 /// A table sector as commit records it, but behind these extended attributes:
 /// "The table [...] starts at 176 + attribute length" (document 02). What would
 /// reach beyond the sector is cut off.

@@ -1,6 +1,6 @@
 -- `log::look_back` meets its contract.
 -- Assumes nothing.
-use Prim.Native.Nat.{ℕ, _*_}
+use Prim.Native.Nat.{ℕ}
 use mathlib.Core.Path.{_≡_, sym, ap, _∙_}
 use mathlib.Core.List.{List, []}
 use Rattle.disc.specs.Disc.{Disc, lent, recorded}

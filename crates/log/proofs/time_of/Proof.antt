@@ -7,7 +7,7 @@ use mathlib.Core.List.{List}
 use lib.ListN.{length}
 use Rattle.timestamp.specs.Timestamp.{valid, told}
 use Rattle.vat.specs.Table.{sectorLength}
-use Rattle.disc.specs.Disc.{Disc, lent, sectorAt}
+use Rattle.disc.specs.Disc.{Disc, lent}
 use Rattle.disc.specs.declared.Walk.{Walk}
 use Rattle.disc.specs.declared.Walk.the-variants.{Reached}
 use Rattle.disc.specs.Tables.{timeAt}

@@ -7,9 +7,9 @@ use mathlib.Core.Bool.{true, false}
 use mathlib.Core.List.{List, _++_}
 use lib.ListN.{length}
 use borrow.Author.Tests.{not-true, not-false}
-use Rattle.timestamp.specs.Timestamp.{stampLength, valid}
+use Rattle.timestamp.specs.Timestamp.{valid}
 use Rattle.vat.specs.Table.{sectorLength}
-use Rattle.disc.specs.Disc.{Disc, lent, sectorAt}
+use Rattle.disc.specs.Disc.{Disc, lent}
 use Rattle.disc.specs.Tables.{tableAt, timeAt}
 use Rattle.disc.specs.declared.Walk.the-variants.{Reached}
 use Rattle.disc.proofs.Recording.{Sound}

@@ -4,13 +4,12 @@ use Prim.Native.Nat.{ℕ, _+_, _-_}
 use native.Mathlib.Omega.{arith}
 use mathlib.Core.Path.{_≡_, sym, ap₂, _∙_}
 use mathlib.Core.List.{List}
-use lib.ListN.{length, replicate}
+use lib.ListN.{replicate}
 use Rattle.disc.specs.Disc.{Disc, lent, puts}
 use Rattle.disc.specs.Session.{zeroSectors, zeroSector, closing}
-use Rattle.disc.proofs.Recording.{length-links}
 use Rattle.volume.specs.declared.Volume.{Volume}
 use Rattle.volume.specs.Volume.{unpack}
-use Rattle.recorder.specs.Refusals.{links, target}
+use Rattle.recorder.specs.Refusals.{target}
 use Rattle.calls.proofs.Left.{linked-puts, closing-puts}
 use borrow.Author.Needs.{needs}
 use Rattle.calls.proofs.effects.record_closing.Statement.{statement}

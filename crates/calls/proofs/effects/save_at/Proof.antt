@@ -8,7 +8,7 @@ use mathlib.Core.List.{List}
 use lib.Dec.{eqb}
 use lib.ListN.{length, take}
 use Rattle.le.specs.Field.{words}
-use Rattle.vat.specs.Table.{limit, unused, tableLength}
+use Rattle.vat.specs.Table.{unused, tableLength}
 use Rattle.vat.specs.Own.{ownCount}
 use Rattle.vat.specs.Sector.{tableBytes}
 use Rattle.vat.proofs.Theorems.{few-own, limit-held}

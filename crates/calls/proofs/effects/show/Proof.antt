@@ -5,22 +5,19 @@ use native.Mathlib.Omega.{arith}
 use mathlib.Core.Path.{_≡_, refl, sym, ap, _∙_, subst}
 use mathlib.Core.Bool.{true}
 use mathlib.Core.List.{List}
-use lib.Dec.{eqb}
 use lib.ListN.{length}
 use lib.Seq.{sets, length-sets}
 use Rattle.le.specs.Field.{words, leWords}
-use Rattle.le.proofs.Rows.{and-left, and-right}
-use Rattle.le.proofs.Runs.{Words, length-words}
-use Rattle.vat.specs.Table.{sectorLength, Lower, ownOf, framed, tableOf, entriesOf, entryCount, isTable}
-use Rattle.vat.proofs.Theorems.{Recognised, recognised, tells, all-fit}
+use Rattle.le.proofs.Runs.{Words, words-put, length-words}
+use Rattle.vat.specs.Table.{Lower, ownOf, tableOf, entriesOf, entryCount, isTable}
+use Rattle.vat.proofs.Theorems.{framed-of, Recognised, recognised, tells, all-fit}
 use Rattle.disc.specs.Disc.{Disc, lent, sectorAt}
-use Rattle.disc.specs.Tables.{below, tableAt, mapAt}
+use Rattle.disc.specs.Tables.{below, mapAt}
 use Rattle.disc.proofs.Recording.{sized-tells}
 use Rattle.disc.proofs.Told.{data-kind, table-of, map-of}
 use Rattle.disc.proofs.Found.{sector-end, table-within}
 use Rattle.disc.proofs.Forms.{laid-any}
 use Rattle.volume.specs.Volume.{pack, filled}
-use Rattle.calls.proofs.Left.{words-put}
 use borrow.Author.Needs.{needs}
 use Rattle.calls.proofs.effects.show.Statement.{statement}
 use Rattle.calls.proofs.effects.show.Tie as tie
@@ -61,13 +58,6 @@ is-table c =
 within : (s : tie.Start) → B s < length (D s .kinds)
 within s = table-within (D s) (B s) (s .pre .2)
 
-is-framed : (c : tie.After-sector-at) → framed (S c) (B (start-of c)) ≡ true
-unfolding isTable
-is-framed c =
-    let s = start-of c in
-    let t : List ℕ = S c in
-    and-left (framed t (B s)) _ (and-right (eqb (length t) sectorLength) _ (is-table c))
-
 told : (c : tie.After-sector-at) → let s = start-of c in Recognised (lower s) (S c) (B s)
 told c = let s = start-of c in recognised (lower s) (S c) (B s) (is-table c)
 
@@ -106,7 +96,7 @@ sector-at-requires c κs =
 entry-count-requires : tie.Need-entry-count-requires
 entry-count-requires c κs =
     let s = start-of c in
-    (omega (arith, within s), told c .whole, is-framed c, λ image. laid-any image (D s) (B s) (ownOf (S c)) ∙ told c .on-data)
+    (omega (arith, within s), told c .whole, framed-of (lower s) (S c) (B s) (is-table c), λ image. laid-any image (D s) (B s) (ownOf (S c)) ∙ told c .on-data)
 
 copied-requires : tie.Need-copied-requires
 copied-requires c κs =
