@@ -22,7 +22,7 @@ use Rattle.disc.specs.declared.Walk.the-variants.{Reached, Broken, Ended}
 use Rattle.disc.specs.Tables.{tableAt, mapAt, previousAt, namedBy, newestBelow, newest, stepped, walk}
 use Rattle.disc.specs.Session.{closingLength, sessionClosed}
 use Rattle.disc.proofs.Recording.{Sound, Whole, leading-le, kind-recorded, AllWhole}
-use Rattle.disc.proofs.Order.{and-false}
+use Rattle.le.proofs.Halves.{and-false}
 use Rattle.disc.proofs.Told.{table-same, same-everywhere, Same, told}
 use Rattle.disc.proofs.Found.{newest-table}
 use Rattle.volume.specs.declared.Volume.{Volume}

@@ -6,16 +6,16 @@ use mathlib.Core.Path.{_≡_, refl, sym, ap, _∙_}
 use mathlib.Core.Bool.{Bool, true, false, _&&_, not, and-true}
 use mathlib.Core.List.{List, [], _∷_, _++_}
 use mathlib.Core.Option.{Option, none, some}
-use lib.Dec.{eqb, leb}
+use lib.Dec.{eqb, ltb, leb}
 use lib.ListN.{length}
-use borrow.Author.Tests.{eq-eqb, ne-eqb, le-ltb, lt-ltb, le-leb, lt-leb}
+use borrow.Author.Tests.{eq-eqb, ne-eqb, ltb-true, le-ltb, lt-ltb, le-leb, lt-leb}
 use Rattle.timestamp.specs.Timestamp.{valid}
 use Rattle.vat.specs.Table.{limit, unused}
 use Rattle.extent.specs.declared.Extent.{Extent}
 use Rattle.vat.specs.Sector.{tableBytes}
 use Rattle.anchor.specs.Anchor.{farthestStart}
 use Rattle.disc.specs.declared.Walk.the-variants.{Reached, Broken, Ended}
-use Rattle.disc.specs.Disc.{Disc, mostSectors, kindAt}
+use Rattle.disc.specs.Disc.{Disc, mostSectors, kindAt, blanks}
 use Rattle.disc.specs.Tables.{timeAt, blockFound, newestBelow, newest}
 use Rattle.disc.specs.Session.{closingLength, sessionClosed}
 use Rattle.disc.proofs.Found.{newest-below}
@@ -25,7 +25,7 @@ use Rattle.disc.proofs.Save.{save-count}
 use Rattle.volume.specs.Volume.{readOnly, unpack, mapOf, fits}
 use Rattle.volume.specs.declared.Volume.{Volume}
 use Rattle.recorder.specs.Calls.{begin, mount, write, release, closePacket, commit, closeSession, read, lookBack, timeOf, stampOf}
-use Rattle.recorder.specs.Refusals.{Test, test, first, target, reserveIf, reserve, basic, ledgerLent, blockLent, stampLent, answerLent, unfit, blockTests, writeTests, stampWrong, noRoom, commitTests, closingTests, blockOf, notInUse, isSome, walked, isBroken, isEnded, walkTests, timeWrong, tests, outcome}
+use Rattle.recorder.specs.Refusals.{Test, test, first, links, target, reserveIf, reserve, basic, ledgerLent, blockLent, stampLent, answerLent, unfit, blockTests, writeTests, stampWrong, noRoom, commitTests, closingTests, blockOf, notInUse, isSome, walked, isBroken, isEnded, walkTests, timeWrong, tests, outcome}
 use Rattle.recorder.proofs.Done.{stopped, resumed, fittingTests, workingTests}
 
 -- ---- the newest table, as a block number
@@ -221,6 +221,18 @@ module _ (d : Disc) (l : List ℕ) where
   unfolding outcome tests
   release-tested n z = resumed (workingTests d l (ledgerLent l)) (test 10 (notInUse (unpack l) n) ∷ []) refl (sym alone ∙ z)
 
+-- room for more is room for less
+pub less-room : (d : Disc) (v : Volume) (few many : ℕ) → few ≤ many → first (noRoom d v many ∷ []) ≡ 0 → first (noRoom d v few ∷ []) ≡ 0
+unfolding first
+less-room d v few many h z = go (ltb (blanks d) (links v + few)) refl
+  where
+    short : blanks d < links v + few → first (noRoom d v many ∷ []) ≡ 14
+    short low = rw (lt-ltb (blanks d) (links v + many) (omega arith))
+
+    go : (t : Bool) → ltb (blanks d) (links v + few) ≡ t → first (noRoom d v few ∷ []) ≡ 0
+    go false e = rw e
+    go true e = let told = short (ltb-true (blanks d) (links v + few) e) in absurd (omega (arith, told, z))
+
 module _ (d : Disc) (l : List ℕ) (stamp : Option (List ℕ)) where
   pub commit-stopped : (first (workingTests d l (stampLent l stamp)) ≡ 0 → ⊥) → outcome d l (commit stamp) ≡ first (workingTests d l (stampLent l stamp))
   unfolding outcome tests
@@ -234,15 +246,12 @@ module _ (d : Disc) (l : List ℕ) (stamp : Option (List ℕ)) where
   unfolding first
   commit-16 z e = commit-rest z ∙ rw e
 
-  pub commit-tested : first (workingTests d l (stampLent l stamp)) ≡ 0 → stampWrong stamp ≡ false → (recording : ℕ)
-      → recording ≡ length (freshOf d (tableBytes (mapOf (unpack l)) (unpack l .last)) (unpack l .last)) + 1
-      → outcome d l (commit stamp) ≡ first (noRoom d (unpack l) recording ∷ [])
+  pub commit-tested : first (workingTests d l (stampLent l stamp)) ≡ 0 → stampWrong stamp ≡ false
+      → outcome d l (commit stamp) ≡ first (noRoom d (unpack l) (length (freshOf d (tableBytes (mapOf (unpack l)) (unpack l .last)) (unpack l .last)) + 1) ∷ [])
   unfolding first
-  commit-tested z e recording is =
+  commit-tested z e =
       let v : Volume = unpack l in
-      let all : length (saveSectors d (tableBytes (mapOf v) (v .last)) (v .last) (stampOf stamp) (target v)) ≡ recording =
-      save-count d (tableBytes (mapOf v) (v .last)) (v .last) (stampOf stamp) (target v) ∙ sym is in
-      commit-rest z ∙ rw (e, all)
+      commit-rest z ∙ rw (e, save-count d (tableBytes (mapOf v) (v .last)) (v .last) (stampOf stamp) (target v))
 
 module _ (d : Disc) (l : List ℕ) (main reserved : Extent) (start : ℕ) where
   pub closing-stopped : (first (workingTests d l (ledgerLent l && true)) ≡ 0 → ⊥) → outcome d l (closeSession main reserved start) ≡ first (workingTests d l (ledgerLent l && true))

@@ -144,8 +144,7 @@ pub fn commit(image: &[u8], kinds: &[u8], ledger: &[u8]) -> u32
     if outcome != 0 {
         return outcome;
     }
-    let own = crate::basic::own_recorded(image, kinds, ledger);
-    crate::basic::room(kinds, ledger, own + 1)
+    crate::basic::save_room(image, kinds, ledger)
 }
 
 pub fn commit_at(image: &[u8], kinds: &[u8], ledger: &[u8], stamp: &[u8]) -> u32
@@ -158,8 +157,7 @@ pub fn commit_at(image: &[u8], kinds: &[u8], ledger: &[u8], stamp: &[u8]) -> u32
     if !timestamp::valid(stamp) {
         return 16;
     }
-    let own = crate::basic::own_recorded(image, kinds, ledger);
-    crate::basic::room(kinds, ledger, own + 1)
+    crate::basic::save_room(image, kinds, ledger)
 }
 
 pub fn close_session(

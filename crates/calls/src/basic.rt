@@ -2,13 +2,14 @@
 use crate::Plan;
 use crate::refused;
 use disc::Walk;
+use vat::table::MOST_OWN;
 use vat::table::UNUSED;
 use volume::LEDGER;
 ghost use mathlib.Core.Path.{_≡_};
 ghost use mathlib.Core.Bool.{true, _&&_, _||_, not};
 ghost use mathlib.Core.List.{[], _∷_, _++_};
 ghost use mathlib.Core.Option.{some};
-ghost use Prim.Native.Nat.{_≤_};
+ghost use Prim.Native.Nat.{_+_, _≤_};
 ghost use lib.Dec.{eqb};
 ghost use lib.ListN.{length};
 ghost use Rattle.vat.specs.Table.{limit, unused};
@@ -164,6 +165,17 @@ pub fn room(kinds: &[u8], ledger: &[u8], recording: u32) -> u32
         return 14;
     }
     0
+}
+
+// 14 of a commit: room for its own sectors that are recorded, and for the ICB. Where there is room for as many as any table has, nobody asks how many these are.
+pub fn save_room(image: &[u8], kinds: &[u8], ledger: &[u8]) -> u32
+    requires { ⌜ (sized (lent (now image) (now kinds)) ≡ true) × (length (now ledger) ≡ ledgerLength) × (unpack (now ledger) .size ≤ limit) × ((eqb (unpack (now ledger) .last) unused || tableAt (lent (now image) (now kinds)) (unpack (now ledger) .last)) ≡ true) × (unpack (now ledger) .recorded ≡ leading (now kinds)) ⌝ }
+    ensures { λ r. ⌜ r ≡ first (noRoom (lent (now (image .entry)) (now (kinds .entry))) (unpack (now (ledger .entry))) (length (freshOf (lent (now (image .entry)) (now (kinds .entry))) (tableBytes (mapOf (unpack (now (ledger .entry)))) (unpack (now (ledger .entry)) .last)) (unpack (now (ledger .entry)) .last)) + 1) ∷ []) ⌝ }
+{
+    if room(kinds, ledger, MOST_OWN + 1) == 0 {
+        return 0;
+    }
+    room(kinds, ledger, own_recorded(image, kinds, ledger) + 1)
 }
 
 // "v not below size, or of an unused entry".

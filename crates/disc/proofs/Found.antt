@@ -24,7 +24,7 @@ use Rattle.disc.specs.declared.Walk.{Walk}
 use Rattle.disc.specs.declared.Walk.the-variants.{Reached, Broken, Ended}
 use Rattle.disc.specs.Disc.{Disc, recorded, kindAt, sectorAt}
 use Rattle.disc.specs.Tables.{tableAt, timeAt, found, newestBelow, newest, stepped, walk}
-use Rattle.disc.proofs.Order.{and-false}
+use Rattle.le.proofs.Halves.{and-false}
 use Rattle.disc.proofs.Told.{data-kind, other-kind}
 use Rattle.disc.proofs.Recording.{Sized, Sound, blank-kind, kind-recorded}
 

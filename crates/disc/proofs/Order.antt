@@ -13,25 +13,13 @@ use lib.Seq.{drop-cons, getD-take, length-take-le}
 use borrow.Author.Tests.{eq-eqb, ne-eqb, eqb-true, eqb-false, ltb-true, ltb-false, lt-ltb, le-ltb, le-leb, leb-true, leb-false}
 use Rattle.le.specs.Bytes.{every}
 use Rattle.le.proofs.Rows.{and-left, and-right}
+use Rattle.le.proofs.Halves.{and-false, both-true, same-bool}
 use Rattle.disc.specs.Disc.{counted, leading, inOrder}
 use Rattle.disc.proofs.Recording.{blankFrom, blank-kind}
 
 -- the kinds before r are recorded ones
 abbrev pub recordedTo : List ℕ → ℕ → Bool
 recordedTo ks r = every (λ k. ltb 0 k && leb k 3) (take r ks)
-
-pub and-false : (a b : Bool) → b ≡ false → (a && b) ≡ false
-and-false true b e = e
-and-false false b e = refl
-
-both-true : (a b : Bool) → a ≡ true → b ≡ true → (a && b) ≡ true
-both-true a b p q = rw (p, q)
-
-same-bool : (a b : Bool) → (a ≡ true → b ≡ true) → (b ≡ true → a ≡ true) → a ≡ b
-same-bool true true f g = refl
-same-bool true false f g = sym (f refl)
-same-bool false true f g = g refl
-same-bool false false f g = refl
 
 -- ---- one kind
 
@@ -73,74 +61,7 @@ unfolding every
 kind-taken f ks i found h =
     rw (drop-cons ks i 0 h, add-one i) (and-assoc found (f (getD ks i 0)) (every f (drop (suc i) ks)))
 
--- ---- both halves at once
-
--- what is left of both halves from turn i on
-abbrev pub leftOf : (ℕ → Bool) → List ℕ → ℕ → ℕ → ℕ → Bool → Bool
-leftOf f ks half turns i held = (held && every f (drop i (take turns ks))) && every f (drop (half + i) ks)
-
-turned : (h a b p q : Bool) → (((h && (a && b)) && p) && q) ≡ ((h && (a && p)) && (b && q))
-turned true true true p q = refl
-turned true true false p q = sym (and-false p false refl)
-turned true false b p q = refl
-turned false a b p q = refl
-
-every-drop : (f : ℕ → Bool) (ks : List ℕ) (i : ℕ) → i < length ks → every f (drop i ks) ≡ (f (getD ks i 0) && every f (drop (suc i) ks))
-unfolding every
-every-drop f ks i h = rw (drop-cons ks i 0 h)
-
-pub pair-taken : (f : ℕ → Bool) (ks : List ℕ) (half turns i : ℕ) (held : Bool) → i < turns → half + turns ≡ length ks
-    → leftOf f ks half turns (i + 1) (held && (f (getD ks i 0) && f (getD ks (half + i) 0))) ≡ leftOf f ks half turns i held
-pair-taken f ks half turns i held h all =
-    let long : length (take turns ks) ≡ turns = length-take-le turns ks (omega arith) in
-    let x : Bool = f (getD ks i 0) in
-    let y : Bool = f (getD ks (half + i) 0) in
-    let same : getD (take turns ks) i 0 ≡ getD ks i 0 = getD-take turns ks i 0 h in
-    let first : every f (drop i (take turns ks)) ≡ (x && every f (drop (suc i) (take turns ks))) =
-    every-drop f (take turns ks) i (omega (arith, long)) ∙ ap (λ (k : ℕ). f k && every f (drop (suc i) (take turns ks))) same in
-    let second : every f (drop (half + i) ks) ≡ (y && every f (drop (suc (half + i)) ks)) = every-drop f ks (half + i) (omega arith) in
-    let next : half + (i + 1) ≡ suc (half + i) = omega arith in
-    rw (first, second, next, add-one i) (turned held x y (every f (drop (suc i) (take turns ks))) (every f (drop (suc (half + i)) ks)))
-
-every-taken : (f : ℕ → Bool) (ks : List ℕ) (n : ℕ) → every f ks ≡ true → every f (take n ks) ≡ true
-unfolding every
-every-taken f [] zero e = refl
-every-taken f [] (suc n) e = refl
-every-taken f (k ∷ ks) zero e = refl
-every-taken f (k ∷ ks) (suc n) e =
-    both-true (f k) (every f (take n ks)) (and-left (f k) (every f ks) e) (every-taken f ks n (and-right (f k) (every f ks) e))
-
-every-dropped : (f : ℕ → Bool) (ks : List ℕ) (n : ℕ) → every f ks ≡ true → every f (drop n ks) ≡ true
-unfolding every
-every-dropped f ks zero e = e
-every-dropped f [] (suc n) e = refl
-every-dropped f (k ∷ ks) (suc n) e = every-dropped f ks n (and-right (f k) (every f ks) e)
-
-every-covered : (f : ℕ → Bool) (ks : List ℕ) (half turns : ℕ) → half ≤ turns → every f (take turns ks) ≡ true → every f (drop half ks) ≡ true → every f ks ≡ true
-unfolding every
-every-covered f [] half turns h p q = refl
-every-covered f (k ∷ ks) zero turns h p q = q
-every-covered f (k ∷ ks) (suc half) zero h p q = absurd (not-suc-le-zero h)
-every-covered f (k ∷ ks) (suc half) (suc turns) h p q =
-    both-true (f k) (every f ks) (and-left (f k) (every f (take turns ks)) p)
-    (every-covered f ks half turns (le-of-suc-le-suc h) (and-right (f k) (every f (take turns ks)) p) q)
-
--- at the start the halves are all of the kinds
-pub all-left : (f : ℕ → Bool) (ks : List ℕ) (half turns : ℕ) → half ≤ turns → leftOf f ks half turns 0 true ≡ every f ks
-all-left f ks half turns h =
-    let none : half + 0 ≡ half = add-zero half in
-    rw none
-    (same-bool (every f (take turns ks) && every f (drop half ks)) (every f ks)
-    (λ e. every-covered f ks half turns h (and-left (every f (take turns ks)) (every f (drop half ks)) e) (and-right (every f (take turns ks)) (every f (drop half ks)) e))
-    (λ e. both-true (every f (take turns ks)) (every f (drop half ks)) (every-taken f ks turns e) (every-dropped f ks half e)))
-
--- at the end nothing is left
-pub none-left : (f : ℕ → Bool) (ks : List ℕ) (half turns i : ℕ) (held : Bool) → i ≡ turns → half + turns ≡ length ks → leftOf f ks half turns i held ≡ held
-unfolding every
-none-left f ks half turns i held e all =
-    let long : length (take turns ks) ≤ i = omega (arith, length-take-le turns ks (omega arith)) in
-    let short : length ks ≤ half + i = omega arith in
-    rw (drop-of-length-le (take turns ks) long, drop-of-length-le ks short, and-true (held && true), and-true held)
+-- ---- of two
 
 -- of two kinds, one tells of both: g where it passes only if f does
 pub second-tells : (f g : Bool) → (g ≡ true → f ≡ true) → g ≡ (f && g)

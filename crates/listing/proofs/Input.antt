@@ -15,7 +15,7 @@ use Rattle.le.specs.Bytes.{every, holdsText}
 use Rattle.le.proofs.Rows.{and-left}
 use Rattle.vat.specs.Table.{sectorLength}
 use Rattle.disc.specs.Disc.{lent}
-use Rattle.disc.proofs.Order.{and-false}
+use Rattle.le.proofs.Halves.{and-false}
 use Rattle.listing.specs.Text.{column, newline, refusedLine}
 use Rattle.listing.specs.Listing.{firstLine, mostListed, thisOr, countUpTo, digitsOf, imageOf, isKindDigit, formed, kindsOf, listedIf, listed, listing}
 use Rattle.listing.proofs.Lines.{length-column, length-refused}

@@ -14,7 +14,7 @@ use borrow.Author.Tests.{eqb-true, eqb-false, ne-eqb}
 use Rattle.le.proofs.Runs.{length-words}
 use Rattle.vat.specs.Table.{limit, unused}
 use Rattle.disc.specs.Disc.{Disc, kindAt, stored}
-use Rattle.disc.proofs.Order.{and-false}
+use Rattle.le.proofs.Halves.{and-false}
 use Rattle.disc.proofs.Recording.{length-stored}
 use Rattle.volume.specs.Volume.{unpack, mapOf}
 use Rattle.roles.specs.Roles.{inUse, superseded, unnumbered, linkRole, blankRole, names, ofTable, roleOfKind, roleOfData, roleAt, rolesOf}

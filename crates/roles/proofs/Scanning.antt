@@ -15,7 +15,7 @@ use lib.Seq.{drop-cons, drop-length}
 use borrow.Author.Tests.{eqb-true, eqb-false, eq-eqb, ne-eqb, ltb-true, ltb-false, lt-ltb, le-ltb}
 use Rattle.disc.specs.Disc.{Disc, recorded, kindAt}
 use Rattle.disc.specs.Tables.{tableAt, namedBy}
-use Rattle.disc.proofs.Order.{and-false}
+use Rattle.le.proofs.Halves.{and-false}
 use Rattle.disc.proofs.Told.{data-kind, names-none}
 use Rattle.roles.specs.Roles.{superseded, tableRole, names, namedBelow, ofTable, roleOfKind, roleOfData, roleAt, tabulate, markedAt}
 use Rattle.roles.proofs.Roles.{tabulate-same, set-tabulate}

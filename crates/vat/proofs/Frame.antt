@@ -1,33 +1,22 @@
 -- What the recogniser's functions need of its definition, on plain values.
 -- Assumes nothing.
-use Prim.Native.Nat.{ℕ, zero, suc, _+_, _-_, _*_, _/_, _%_, _≤_, _<_}
-use native.Mathlib.Nat.{not-suc-le-zero}
+use Prim.Native.Nat.{ℕ, _+_, _-_, _*_, _/_, _%_, _≤_, _<_}
 use native.Mathlib.Numerals.{add-one}
 use native.Mathlib.Omega.{arith}
 use mathlib.Core.Path.{_≡_, refl, sym, ap, _∙_}
-use mathlib.Core.Bool.{Bool, true, false, not, _&&_, _||_, and-assoc, or-true, or-false, false≢true}
+use mathlib.Core.Bool.{Bool, true, false, not, _&&_, _||_, or-true, or-false, false≢true}
 use mathlib.Core.List.{List, [], _∷_}
 use lib.Dec.{eqb, ltb, leb}
 use lib.ListN.{length, take, drop, length-take, length-drop, length-append}
 use lib.Seq.{length-take-le}
-use borrow.Author.Tests.{eq-eqb, ne-eqb, eqb-true, ltb-true, lt-ltb, le-ltb, le-leb, leb-true, leb-false}
-use Rattle.le.specs.Bytes.{every, holdsText}
-use Rattle.le.specs.Field.{readLe, words, holds}
+use borrow.Author.Tests.{eq-eqb, ne-eqb, eqb-true, ltb-true, le-leb, leb-true}
+use Rattle.le.specs.Bytes.{holdsText}
+use Rattle.le.specs.Field.{readLe, holds}
 use Rattle.le.proofs.Rows.{and-left, and-right}
-use Rattle.le.proofs.Runs.{words-step}
 use Rattle.extent.specs.declared.Extent.{Extent}
 use Rattle.extent.specs.Extents.{descriptorsLength, extentsFrom, totalLength}
 use Rattle.tag.specs.Tag.{crcLength}
 use Rattle.vat.specs.Table.{sectorLength, mostOwn, mostBytes, limit, unused, unusedOrBelow, Lower, tableStart, entryRows, plainRows, lengthRows, embedded, outside, attributeLength, describedLength, wholeLength, placed, ownIf, ownOf, measured, framed, isThere, bytesOf, lies, fullBefore, laid, joined, inside, bytesIf, tableOf, tableLength, regidAt, tableName, entryCount, previousOf, enclosed}
-
--- one of the fields that are left is taken
-pub word-taken : (held : Bool) (f : ℕ → Bool) (left : ℕ) (s : List ℕ) (at : ℕ) → 0 < left
-    → ((held && f (readLe 4 s at)) && every f (words (left - 1) s (at + 4))) ≡ (held && every f (words left s at))
-unfolding every
-word-taken held f zero s at h = absurd (not-suc-le-zero h)
-word-taken held f (suc left) s at h =
-    let e : suc left - 1 ≡ left = omega arith in
-    rw (e, words-step left s at) (and-assoc held (f (readLe 4 s at)) (every f (words left s (at + 4))))
 
 -- the count up to a block tells whether a sector at block b may name it
 pub none-named : (b x : ℕ) → x ≡ unused → leb 0 b ≡ unusedOrBelow b x
@@ -35,15 +24,6 @@ none-named b x e = le-leb 0 b (omega arith) ∙ sym (ap (λ (t : Bool). ltb x b 
 
 pub block-named : (b x : ℕ) → (x ≡ unused → ⊥) → leb (x + 1) b ≡ unusedOrBelow b x
 block-named b x n = rw (ne-eqb x unused n, or-false (ltb x b)) (ap (λ (y : ℕ). leb y b) (add-one x))
-
--- one entry more, none so far beyond
-pub none-beyond : (broken : Bool) (b y : ℕ) → not (broken || ltb b y) ≡ (not broken && leb y b)
-none-beyond true b y = refl
-none-beyond false b y = go (leb y b) refl
-  where
-    go : (t : Bool) → leb y b ≡ t → not (ltb b y) ≡ leb y b
-    go true e = ap not (le-ltb b y (leb-true y b e)) ∙ sym e
-    go false e = ap not (lt-ltb b y (leb-false y b e)) ∙ sym e
 
 -- without its tag identifier a sector is framed as no table
 pub untagged-frame : (s : List ℕ) (b : ℕ) → eqb (readLe 2 s 0) 261 ≡ false → framed s b ≡ false

@@ -30,8 +30,8 @@ pub fn own_count(n: u32) -> u32
     (4 * n + 36 + 2047) / 2048
 }
 
-// Own sector i of the table of the first n numbers that the bytes of a map hold: entries, then what of the tail stands in it, over zeros.
-pub fn own_sector(s: &mut [u8], map: &[u8], n: usize, previous: u32, i: usize)
+// An own sector where the entries end, or behind them: entries, then what of the tail stands in it, and zeros.
+fn last_sector(s: &mut [u8], map: &[u8], n: usize, previous: u32, i: usize)
     requires { ⌜ (length (now s) ≡ sectorLength) × (4 * n ≤ length (now map)) × (i < mostOwn) × (sectorLength * i < tableLength n) ⌝ }
     ensures { λ _. ⌜ now (s .exit) ≡ ownSector (tableBytes (words n (now (map .entry)) 0) previous) i ⌝ }
 {
@@ -46,4 +46,18 @@ pub fn own_sector(s: &mut [u8], map: &[u8], n: usize, previous: u32, i: usize)
     let place = 4 * count;
     let end = from + smaller(36 - from, SECTOR - place);
     le::run::put_text(s, place, &tail[from..end]);
+}
+
+// Own sector i of the table of the first n numbers that the bytes of a map hold. One of entries alone is the map's bytes as they stand.
+pub fn own_sector(s: &mut [u8], map: &[u8], n: usize, previous: u32, i: usize)
+    requires { ⌜ (length (now s) ≡ sectorLength) × (4 * n ≤ length (now map)) × (i < mostOwn) × (sectorLength * i < tableLength n) ⌝ }
+    ensures { λ _. ⌜ now (s .exit) ≡ ownSector (tableBytes (words n (now (map .entry)) 0) previous) i ⌝ }
+{
+    let first = SECTOR * i;
+    let end = first + SECTOR;
+    if 4 * n < end {
+        last_sector(s, map, n, previous, i);
+        return;
+    }
+    le::run::put_block(s, 0, &map[first..end]);
 }

@@ -16,7 +16,7 @@ use Rattle.le.proofs.Runs.{words-none, words-step, length-words}
 use Rattle.vat.specs.Table.{limit, unused, unusedOrBelow}
 use Rattle.disc.specs.Disc.{Disc, recorded}
 use Rattle.disc.specs.Tables.{tableAt}
-use Rattle.disc.proofs.Order.{and-false}
+use Rattle.le.proofs.Halves.{and-false}
 use Rattle.volume.specs.declared.Volume.{Volume}
 use Rattle.volume.specs.Volume.{places, packetOpen, readOnly, unpack, isUnused, mapOf, fits}
 

@@ -1,18 +1,14 @@
 -- `calls::admit::commit` meets its contract: 1 to 5 and 17 stop it first, and then the want of room.
 -- Assumes nothing.
-use Prim.Native.Nat.{ℕ, _+_, _≤_}
-use native.Mathlib.Omega.{arith}
-use mathlib.Core.Path.{_≡_, refl, sym, ap, _∙_}
+use Prim.Native.Nat.{ℕ}
+use mathlib.Core.Path.{_≡_, refl, sym, _∙_}
 use mathlib.Core.Bool.{true, _&&_}
 use mathlib.Core.List.{List}
 use mathlib.Core.Option.{none}
-use Rattle.vat.specs.Table.{mostOwn}
 use Rattle.disc.specs.Disc.{Disc, lent}
 use Rattle.disc.proofs.Recording.{sound-sized}
-use Rattle.volume.specs.Volume.{unpack}
 use Rattle.recorder.specs.Refusals.{first, ledgerLent}
 use Rattle.recorder.proofs.Done.{workingTests, Admitted, working-admits}
-use Rattle.recorder.proofs.Sectors.{own-few}
 use Rattle.calls.proofs.Outcomes.{commit-stopped, commit-tested}
 use borrow.Author.Needs.{needs}
 use Rattle.calls.proofs.admit.commit.Statement.{statement}
@@ -47,25 +43,13 @@ returns c =
     let e = a .working .ensures in
     e ∙ sym (commit-stopped (D s) (L s) none (λ z. c .if1 .taken (e ∙ z)))
 
-own-recorded-requires : tie.Need-own-recorded-requires
-own-recorded-requires c κs = let a = admits c in (sound-sized (D (start-of c)) (a .sound-disc), a .ledger-long, a .fit .few, a .fit .last-known)
-
--- there are eight at most
-few : (c : tie.After-own-recorded) → c .own-recorded .result ≤ mostOwn
-few c =
-    let e = c .before in let s = start-of e in
-    omega (arith, c .own-recorded .ensures, own-few (D s) (unpack (L s)) (admits e .fit .few))
-
-add-room : tie.Need-add-room
-add-room c = omega (arith, few c)
-
-room-requires : tie.Need-room-requires
-room-requires c κs = let a = admits (c .before) in (a .ledger-long, a .fit .same-recorded, a .sound-disc .few, omega (arith, few c))
+save-room-requires : tie.Need-save-room-requires
+save-room-requires c κs = let a = admits c in (sound-sized (D (start-of c)) (a .sound-disc), a .ledger-long, a .fit .few, a .fit .last-known, a .fit .same-recorded)
 
 returns-2 : tie.Need-returns-2
 returns-2 c =
-    let o = c .before in let e = o .before in let s = start-of e in
-    c .room .ensures ∙ sym (commit-tested (D s) (L s) none (passed e) refl (o .own-recorded .result + 1) (ap (λ (n : ℕ). n + 1) (o .own-recorded .ensures)))
+    let e = c .before in let s = start-of e in
+    c .save-room .ensures ∙ sym (commit-tested (D s) (L s) none (passed e) refl)
 
 pub commit-spec : {M : Type 1} → statement M
-commit-spec = tie.close (tie.spec working-requires returns own-recorded-requires add-room room-requires returns-2)
+commit-spec = tie.close (tie.spec working-requires returns save-room-requires returns-2)

@@ -1,7 +1,6 @@
 -- `calls::admit::commit_at` meets its contract: 1 to 5 and 17 stop it first, then a timestamp beyond its limits, and then the want of room.
 -- Assumes nothing.
-use Prim.Native.Nat.{ℕ, _+_, _≤_}
-use native.Mathlib.Omega.{arith}
+use Prim.Native.Nat.{ℕ}
 use mathlib.Core.Path.{_≡_, sym, ap, _∙_}
 use mathlib.Core.Bool.{true, false, _&&_, not}
 use mathlib.Core.List.{List}
@@ -11,13 +10,10 @@ use lib.ListN.{length}
 use borrow.Author.Tests.{eqb-true, not-true, not-false}
 use Rattle.le.proofs.Rows.{and-right}
 use Rattle.timestamp.specs.Timestamp.{stampLength, valid}
-use Rattle.vat.specs.Table.{mostOwn}
 use Rattle.disc.specs.Disc.{Disc, lent}
 use Rattle.disc.proofs.Recording.{sound-sized}
-use Rattle.volume.specs.Volume.{unpack}
 use Rattle.recorder.specs.Refusals.{first, ledgerLent, gate}
 use Rattle.recorder.proofs.Done.{workingTests, Admitted, working-admits, basic-passed}
-use Rattle.recorder.proofs.Sectors.{own-few}
 use Rattle.calls.proofs.Outcomes.{commit-stopped, commit-16, commit-tested}
 use borrow.Author.Needs.{needs}
 use Rattle.calls.proofs.admit.commit_at.Statement.{statement}
@@ -71,29 +67,16 @@ returns-2 c =
     let wrong : valid (S s) ≡ false = sym (v .valid .ensures) ∙ not-true (v .valid .result) (c .if2 .taken) in
     sym (commit-16 (D s) (L s) (some (S s)) (passed e) (ap not wrong))
 
-own-recorded-requires : tie.Need-own-recorded-requires
-own-recorded-requires c κs =
+save-room-requires : tie.Need-save-room-requires
+save-room-requires c κs =
     let e = c .before .before in let a = admits e in
-    (sound-sized (D (start-of e)) (a .sound-disc), a .ledger-long, a .fit .few, a .fit .last-known)
-
--- there are eight at most
-few : (c : tie.After-own-recorded) → c .own-recorded .result ≤ mostOwn
-few c =
-    let e = c .before .before .before in let s = start-of e in
-    omega (arith, c .own-recorded .ensures, own-few (D s) (unpack (L s)) (admits e .fit .few))
-
-add-room : tie.Need-add-room
-add-room c = omega (arith, few c)
-
-room-requires : tie.Need-room-requires
-room-requires c κs = let a = admits (c .before .before .before) in (a .ledger-long, a .fit .same-recorded, a .sound-disc .few, omega (arith, few c))
+    (sound-sized (D (start-of e)) (a .sound-disc), a .ledger-long, a .fit .few, a .fit .last-known, a .fit .same-recorded)
 
 returns-3 : tie.Need-returns-3
 returns-3 c =
-    let o = c .before in let v = o .before .before in let e = v .before in let s = start-of e in
-    let right : valid (S s) ≡ true = sym (v .valid .ensures) ∙ not-false (v .valid .result) (o .before .if2 .left) in
-    c .room .ensures ∙ sym (commit-tested (D s) (L s) (some (S s)) (passed e) (ap not right) (o .own-recorded .result + 1) (ap (λ (n : ℕ). n + 1) (o .own-recorded .ensures)))
+    let v = c .before .before in let e = v .before in let s = start-of e in
+    let right : valid (S s) ≡ true = sym (v .valid .ensures) ∙ not-false (v .valid .result) (c .before .if2 .left) in
+    c .save-room .ensures ∙ sym (commit-tested (D s) (L s) (some (S s)) (passed e) (ap not right))
 
 pub commit-at-spec : {M : Type 1} → statement M
-commit-at-spec =
-    tie.close (tie.spec working-requires returns valid-requires returns-2 own-recorded-requires add-room room-requires returns-3)
+commit-at-spec = tie.close (tie.spec working-requires returns valid-requires returns-2 save-room-requires returns-3)

@@ -8,7 +8,7 @@ use mathlib.Core.List.{List}
 use lib.Dec.{eqb}
 use lib.ListN.{length, getD}
 use Rattle.le.specs.Bytes.{every}
-use Rattle.disc.proofs.Order.{leftOf, pair-taken, all-left, none-left}
+use Rattle.le.proofs.Halves.{leftOf, pair-taken, all-left, none-left}
 use Rattle.disc.proofs.kinds.every_blank.Statement.{statement}
 use Rattle.disc.proofs.kinds.every_blank.Tie as tie
 

@@ -8,7 +8,7 @@ use mathlib.Core.List.{List}
 use lib.Dec.{ltb, leb}
 use lib.ListN.{length, getD}
 use Rattle.le.specs.Bytes.{every}
-use Rattle.disc.proofs.Order.{leftOf, pair-taken, all-left, none-left}
+use Rattle.le.proofs.Halves.{leftOf, pair-taken, all-left, none-left}
 use Rattle.disc.proofs.kinds.every_recorded.Statement.{statement}
 use Rattle.disc.proofs.kinds.every_recorded.Tie as tie
 

@@ -1,146 +1,78 @@
--- `vat::own::own_sector` meets its contract: entries, then what of the tail stands in the sector, over zeros.
+-- `vat::own::own_sector` meets its contract: a sector of entries alone is the map's bytes as they stand, and any other is made.
 -- Assumes nothing.
-use Prim.Native.Nat.{ℕ, _+_, _-_, _*_, _≤_, _<_}
+use Prim.Native.Nat.{ℕ, _+_, _-_, _*_}
 use native.Mathlib.Omega.{arith}
-use mathlib.Core.Path.{_≡_, refl, ap, ap₂, _∙_}
+use mathlib.Core.Path.{_≡_, sym, ap, _∙_}
 use mathlib.Core.List.{List}
-use mathlib.Core.Logic.{_⊎_, inl, inr}
-use lib.ListN.{take, drop, replicate}
-use lib.Seq.{sets}
-use Rattle.le.specs.Field.{words, leWords}
-use Rattle.vat.proofs.Made.{Split, tail-alone, sector-made}
+use lib.ListN.{length, take, drop, length-drop}
+use lib.Seq.{sets, length-take-le}
+use Rattle.le.proofs.Runs.{AllBytes, all-bytes, sets-all}
+use Rattle.vat.specs.Table.{sectorLength}
+use Rattle.vat.proofs.Made.{entries-alone}
 use borrow.Author.Needs.{needs}
 use Rattle.vat.proofs.own.own_sector.Statement.{statement}
 use Rattle.vat.proofs.own.own_sector.Tie as tie
 
--- the places of the function, each found from a later one
-abbrev start-of : tie.After-smaller → tie.Start
-start-of c = c .before .before .before
-
-abbrev counted : tie.After-tail2 → tie.After-smaller2
-counted c = c .before .before .before .before .before .before .before .before .before .before .before
-
--- how the entries are split
-split : (c : tie.After-smaller2) → let a = start-of (c .before) .args in Split (a .n) (a .i) (c .before .smaller .result) (c .smaller2 .result)
-split c =
-    let b = c .before .smaller .ensures in let n = c .smaller2 .ensures in
-    record { before-few = (b .0, b .1); before-is = b .2; count-few = (n .0, n .1); count-is = n .2 }
-
--- the tail begins in this sector, or at most 36 bytes before it
-short : (n i before : ℕ) → (before ≡ 512 * i) ⊎ (before ≡ n) → 2048 * i < 4 * n + 36 → 2048 * i - 4 * before ≤ 36
-short n i before (inl e) h = omega arith
-short n i before (inr e) h = omega arith
-
-begins : (c : tie.After-smaller2) → let s = start-of (c .before) in 2048 * s .args .i - 4 * c .before .smaller .result ≤ 36
-begins c = let s = start-of (c .before) in short (s .args .n) (s .args .i) (c .before .smaller .result) (c .before .smaller .ensures .2) (s .pre .3)
-
 mul-first : tie.Need-mul-first
 mul-first c = search needs
-
-mul-smaller : tie.Need-mul-smaller
-mul-smaller c = search needs
-
-smaller-requires : tie.Need-smaller-requires
-smaller-requires c κs = search needs
-
-sub-smaller : tie.Need-sub-smaller
-sub-smaller c = search needs
-
-smaller-requires-2 : tie.Need-smaller-requires-2
-smaller-requires-2 c κs = search needs
-
-clear-requires : tie.Need-clear-requires
-clear-requires c κs = search needs
-
-mul-copy-words : tie.Need-mul-copy-words
-mul-copy-words c = search needs
-
-copy-words-requires : tie.Need-copy-words-requires
-copy-words-requires c κs = search needs
-
-slice-aggregate-put-tail : tie.Need-slice-aggregate-put-tail
-slice-aggregate-put-tail c = search needs
-
-put-tail-requires : tie.Need-put-tail-requires
-put-tail-requires c κs = search needs
-
-mul-from : tie.Need-mul-from
-mul-from c = search needs
-
-sub-from : tie.Need-sub-from
-sub-from c = search needs
-
-mul-place : tie.Need-mul-place
-mul-place c = search needs
-
-sub-smaller-2 : tie.Need-sub-smaller-2
-sub-smaller-2 c = begins (counted c)
-
-sub-smaller-3 : tie.Need-sub-smaller-3
-sub-smaller-3 c = search needs
-
-smaller-requires-3 : tie.Need-smaller-requires-3
-smaller-requires-3 c κs = search needs
 
 add-end : tie.Need-add-end
 add-end c = search needs
 
-sub-put-text : tie.Need-sub-put-text
-sub-put-text c = search needs
+mul-if1 : tie.Need-mul-if1
+mul-if1 c = search needs
 
-part-put-text-start : tie.Need-part-put-text-start
-part-put-text-start c = search needs
-
-part-put-text-end : tie.Need-part-put-text-end
-part-put-text-end c = let m = c .before .before in omega (arith, begins (counted (m .before)), m .smaller3 .ensures .0, m .before .before .put-tail .kept .0)
-
-put-text-requires : tie.Need-put-text-requires
-put-text-requires c κs = search needs
+last-sector-requires : tie.Need-last-sector-requires
+last-sector-requires c κs = search needs
 
 same-length : tie.Need-same-length
 same-length c = search needs
 
 returns : tie.Need-returns
-returns c =
-    let p = c .before .before in let m = p .before .before .before .before in let e = m .before in let k = counted e in let s = start-of (k .before) in let a = s .args in
-    let w = e .before .before .before .before .before in
-    let z = w .before .before .before .before in
-    let before : ℕ = k .before .smaller .result in
-    let count : ℕ = k .smaller2 .result in
-    let from : ℕ = 2048 * a .i - 4 * before in
-    let long : ℕ = m .smaller3 .result in
-    let zeros = z .clear .ensures ∙ ap (λ (n : ℕ). replicate {A = ℕ} n 0) (s .pre .0) in
-    let entries = w .copy-words .ensures ∙ ap (λ (t : List ℕ). sets t 0 (leWords (words count (a .map .now) (4 * before)))) zeros in
-    let rest : (from + long) - from ≡ long = omega arith in
-    let tail = ap₂ (λ (n : ℕ) (t : List ℕ). take n (drop from t)) rest (e .before .put-tail .ensures ∙ tail-alone (replicate 36 0) (a .previous) refl) in
-    p .put-text .ensures
-    ∙ ap₂ (λ (t x : List ℕ). sets t (4 * count) x) entries tail
-    ∙ sector-made (a .n) (a .i) before count (split k) (a .map .now) (a .previous) from long refl (m .smaller3 .ensures .0, m .smaller3 .ensures .1) (m .smaller3 .ensures .2)
+returns c = search needs
+
+sub-put-block : tie.Need-sub-put-block
+sub-put-block c = search needs
+
+part-put-block-start : tie.Need-part-put-block-start
+part-put-block-start c = search needs
+
+part-put-block-end : tie.Need-part-put-block-end
+part-put-block-end c = search needs
+
+put-block-requires : tie.Need-put-block-requires
+put-block-requires c κs = search needs
+
+same-length-2 : tie.Need-same-length-2
+same-length-2 c = search needs
+
+returns-2 : tie.Need-returns-2
+returns-2 c =
+    let p = c .before .before in let e = p .before .before .before in let k = e .before in let s = k .before .before in let a = s .args in
+    let first : ℕ = sectorLength * a .i in
+    let l : List ℕ = a .map .now in
+    let bytes : AllBytes l = all-bytes l (λ i. omega (arith, k .shared-slice-known .given i)) in
+    let count : (first + sectorLength) - first ≡ sectorLength = omega arith in
+    let part = ap (λ (n : ℕ). take n (drop first l)) count in
+    let long : length (take sectorLength (drop first l)) ≡ sectorLength = length-take-le sectorLength (drop first l) (rw (length-drop first l) (omega (arith, s .pre .1, e .if1 .left))) in
+    p .put-block .ensures
+    ∙ ap (sets (a .s .now) 0) part
+    ∙ sets-all (take sectorLength (drop first l)) (a .s .now) (long ∙ sym (s .pre .0))
+    ∙ sym (entries-alone (a .n) (a .i) l (a .previous) bytes (s .pre .1) (omega (arith, e .if1 .left)))
 
 pub own-sector-spec : {M : Type 1} → statement M
 own-sector-spec =
     tie.close
     (tie.spec
     mul-first
-    mul-smaller
-    smaller-requires
-    sub-smaller
-    smaller-requires-2
-    clear-requires
-    mul-copy-words
-    copy-words-requires
-    slice-aggregate-put-tail
-    put-tail-requires
-    mul-from
-    sub-from
-    mul-place
-    sub-smaller-2
-    sub-smaller-3
-    smaller-requires-3
     add-end
-    sub-put-text
-    part-put-text-start
-    part-put-text-end
-    put-text-requires
+    mul-if1
+    last-sector-requires
     same-length
-    returns)
+    returns
+    sub-put-block
+    part-put-block-start
+    part-put-block-end
+    put-block-requires
+    same-length-2
+    returns-2)

@@ -1,64 +1,95 @@
--- `vat::table::words_held` meets its contract: what was found so far, and the entries that are left, make the answer.
+-- `vat::table::words_held` meets its contract: what was found so far, and what is left of both halves, make the answer.
 -- Assumes nothing.
-use Prim.Native.Nat.{ℕ, _+_, _-_, _*_, _≤_}
+use Prim.Native.Nat.{ℕ, _+_, _-_, _*_, _/_, _≤_}
 use native.Mathlib.Omega.{arith}
-use mathlib.Core.Path.{_≡_, refl, sym, ap, _∙_}
-use mathlib.Core.Bool.{Bool, not, _&&_, _||_, and-true}
+use mathlib.Core.Path.{_≡_, refl, sym, ap, ap₂, _∙_}
+use mathlib.Core.Bool.{Bool, _&&_}
 use mathlib.Core.List.{List}
-use lib.Dec.{ltb, leb}
-use lib.ListN.{length}
+use lib.ListN.{length, getD}
 use Rattle.le.specs.Bytes.{every}
-use Rattle.le.specs.Field.{readLe, leadingWords, words}
+use Rattle.le.specs.Field.{readLe, words}
+use Rattle.le.proofs.Runs.{length-words, getD-words}
+use Rattle.le.proofs.Halves.{leftOf, pair-taken, all-left, none-left}
 use Rattle.vat.specs.Table.{unusedOrBelow}
-use Rattle.vat.proofs.Frame.{word-taken, none-beyond}
+use borrow.Author.Needs.{needs}
 use Rattle.vat.proofs.table.words_held.Statement.{statement}
 use Rattle.vat.proofs.table.words_held.Tie as tie
 
 abbrev Inv-loop : tie.InvT-loop
-Inv-loop s at n b broken₀ place₀ left₀ broken place left = (place + 4 * left ≤ length s) × ((not broken && every (unusedOrBelow b) (words left s place)) ≡ every (unusedOrBelow b) (words n s at))
+Inv-loop s at n b half turns held₀ i₀ held i = (i ≤ turns) × (leftOf (unusedOrBelow b) (words n s at) half turns i held ≡ every (unusedOrBelow b) (words n s at))
 
 abbrev μ-loop : tie.MeasureT-loop
-μ-loop s at n b broken₀ place₀ left₀ broken place left = left
+μ-loop s at n b half turns held₀ i₀ held i = turns - i
+
+abbrev start-of : tie.At-loop Inv-loop μ-loop → tie.Start Inv-loop μ-loop
+start-of c = c .before .before
+
+cast-half : tie.Need-cast-half Inv-loop μ-loop
+cast-half c = search needs
+
+sub-turns : tie.Need-sub-turns Inv-loop μ-loop
+sub-turns c = omega arith
 
 loop-holds : tie.Need-loop-holds Inv-loop μ-loop
-loop-holds c = (omega arith, refl)
+loop-holds c =
+    let a = c .before .args in
+    (omega arith, all-left (unusedOrBelow (a .b)) (words (a .n) (a .s .now) (a .at)) (a .n / 2) (a .n - a .n / 2) (omega arith))
+
+mul-read32 : tie.Need-mul-read32 Inv-loop μ-loop
+mul-read32 c = omega arith
+
+add-read32 : tie.Need-add-read32 Inv-loop μ-loop
+add-read32 c = omega arith
 
 read32-requires : tie.Need-read32-requires Inv-loop μ-loop
 read32-requires c κs = omega arith
 
-up-to-requires : tie.Need-up-to-requires Inv-loop μ-loop
-up-to-requires c κs = tt
+may-name-requires : tie.Need-may-name-requires Inv-loop μ-loop
+may-name-requires c κs = tt
 
-add-place : tie.Need-add-place Inv-loop μ-loop
-add-place c = omega arith
+add-read32-2 : tie.Need-add-read32-2 Inv-loop μ-loop
+add-read32-2 c = omega arith
 
-sub-left : tie.Need-sub-left Inv-loop μ-loop
-sub-left c = omega arith
+mul-read32-2 : tie.Need-mul-read32-2 Inv-loop μ-loop
+mul-read32-2 c = omega arith
+
+add-read32-3 : tie.Need-add-read32-3 Inv-loop μ-loop
+add-read32-3 c = omega arith
+
+read32-requires-2 : tie.Need-read32-requires-2 Inv-loop μ-loop
+read32-requires-2 c κs = omega arith
+
+may-name-requires-2 : tie.Need-may-name-requires-2 Inv-loop μ-loop
+may-name-requires-2 c κs = tt
+
+add-i : tie.Need-add-i Inv-loop μ-loop
+add-i c = omega arith
 
 loop-less : tie.Need-loop-less Inv-loop μ-loop
 loop-less c = omega arith
 
 loop-again : tie.Need-loop-again Inv-loop μ-loop
 loop-again c =
-    let at = c .before .before .before in
-    let a = at .before .before .args in
-    let s : List ℕ = a .s .now in
-    let x : ℕ = readLe 4 s (at .loop .place) in
-    let fits : leb (c .up-to .result) (a .b) ≡ unusedOrBelow (a .b) x = c .up-to .ensures (a .b) ∙ ap (unusedOrBelow (a .b)) (c .before .read32 .ensures) in
-    let found : not (at .loop .broken || ltb (a .b) (c .up-to .result)) ≡ (not (at .loop .broken) && unusedOrBelow (a .b) x) =
-    none-beyond (at .loop .broken) (a .b) (c .up-to .result) ∙ ap (λ (t : Bool). not (at .loop .broken) && t) fits in (
+    let q = c .before in let m = q .before in let r = m .before in let p = r .before .before in let a = start-of p .args in let l = p .loop in
+    let f : ℕ → Bool = unusedOrBelow (a .b) in
+    let xs : List ℕ = words (a .n) (a .s .now) (a .at) in
+    let half : ℕ = a .n / 2 in
+    let one : m .may-name .result ≡ f (getD xs (l .i) 0) =
+    m .may-name .ensures ∙ ap f (r .read32 .ensures ∙ sym (getD-words (a .n) (a .s .now) (a .at) (l .i) 0 (omega arith))) in
+    let other : c .may-name2 .result ≡ f (getD xs (half + l .i) 0) =
+    c .may-name2 .ensures ∙ ap f (q .read322 .ensures ∙ sym (getD-words (a .n) (a .s .now) (a .at) (half + l .i) 0 (omega arith))) in (
       omega arith,
-      ap (λ (t : Bool). t && every (unusedOrBelow (a .b)) (words (at .loop .left - 1) s (at .loop .place + 4))) found
-          ∙ word-taken (not (at .loop .broken)) (unusedOrBelow (a .b)) (at .loop .left) s (at .loop .place) (omega arith)
-          ∙ at .loop .inv .1,
+      ap₂ (λ (s t : Bool). leftOf f xs half (a .n - half) (l .i + 1) (l .held && (s && t))) one other
+          ∙ pair-taken f xs half (a .n - half) (l .i) (l .held) (omega arith) (omega (arith, length-words (a .n) (a .s .now) (a .at)))
+          ∙ l .inv .1,
     )
 
 returns : tie.Need-returns Inv-loop μ-loop
-unfolding every words leadingWords
 returns c =
-    let at = c .before in
-    let none : at .loop .left ≡ 0 = omega arith in
-    sym (and-true (not (at .loop .broken))) ∙ rw none at (at .loop .inv .1)
+    let p = c .before in let a = start-of p .args in let l = p .loop in
+    let xs : List ℕ = words (a .n) (a .s .now) (a .at) in
+    let half : ℕ = a .n / 2 in
+    sym (none-left (unusedOrBelow (a .b)) xs half (a .n - half) (l .i) (l .held) (omega arith) (omega (arith, length-words (a .n) (a .s .now) (a .at)))) ∙ l .inv .1
 
 pub words-held-spec : {M : Type 1} → statement M
 words-held-spec =
@@ -66,11 +97,19 @@ words-held-spec =
     (tie.spec
     Inv-loop
     μ-loop
+    cast-half
+    sub-turns
     loop-holds
+    mul-read32
+    add-read32
     read32-requires
-    up-to-requires
-    add-place
-    sub-left
+    may-name-requires
+    add-read32-2
+    mul-read32-2
+    add-read32-3
+    read32-requires-2
+    may-name-requires-2
+    add-i
     loop-less
     loop-again
     returns)
