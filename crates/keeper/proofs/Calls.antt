@@ -2,9 +2,11 @@
 -- roles kept up.
 -- Assumes nothing.
 use Prim.Native.Nat.{ℕ, _+_, _-_, _≤_, _<_}
+use native.Mathlib.Nat.{le-refl}
+use native.Mathlib.Numerals.{add-one}
 use native.Mathlib.Omega.{arith}
 use mathlib.Core.Path.{_≡_, refl, sym, ap, ap₂, _∙_, subst}
-use mathlib.Core.Bool.{true, false, _&&_, _||_, not}
+use mathlib.Core.Bool.{Bool, true, false, _&&_, _||_, not}
 use mathlib.Core.List.{List, []}
 use mathlib.Core.Option.{Option, none, some}
 use lib.Dec.{eqb, lit≤}
@@ -94,16 +96,20 @@ module _ (d : Disc) (l : List ℕ) (c : Call) (z : outcome d l c ≡ 0) {a : ℕ
       → (sized d ≡ true) × (length roles ≡ length (d .kinds)) × (length m ≡ ledgerLength) × (unpack m .size ≤ limit)
   ready roles h r few = let t = lengths-told d roles h in let u = known r few in (t .0, t .1, u .0, u .1)
 
--- a scan asks where the tables end, too
-abbrev pub Ends : Disc → ℕ → Type 0
-Ends d end = (end ≤ recorded d) × ((b : ℕ) → end ≤ b → tableAt d b ≡ false)
+-- a scan asks where the tables end, too, and whether one stands there
+abbrev pub Ends : Disc → ℕ → Bool → Type 0
+Ends d end there = (end ≤ recorded d) × (tableAt d end ≡ there) × ((b : ℕ) → end < b → tableAt d b ≡ false)
+
+-- none stands there
+free-from : (d : Disc) (end : ℕ) → end ≤ recorded d → ((b : ℕ) → end ≤ b → tableAt d b ≡ false) → Ends d end false
+free-from d end inside free = (inside, free end (le-refl end), λ b h. free b (omega arith))
 
 module _ (d : Disc) (l : List ℕ) where
-  pub begin-ends : outcome d l begin ≡ 0 → Ends d 0
-  begin-ends z = let f = begin-done d l z in (omega arith, λ b h. none-newer d (f .0) b (rw (f .1) h))
+  pub begin-ends : outcome d l begin ≡ 0 → Ends d 0 false
+  begin-ends z = let f = begin-done d l z in free-from d 0 (omega arith) (λ b h. none-newer d (f .0) b (rw (f .1) h))
 
   module _ {a : ℕ} {i k m b : List ℕ} where
-    pub mount-ends : outcome d l mount ≡ 0 → left a i k m b ≡ after d l mount → Ends d (unpack m .last + 1)
+    pub mount-ends : outcome d l mount ≡ 0 → left a i k m b ≡ after d l mount → Ends d (unpack m .last) true
     unfolding effect filled
     mount-ends z e =
         let f = mount-done d l z in
@@ -111,14 +117,15 @@ module _ (d : Disc) (l : List ℕ) where
         let found : newest d ≡ some t = f .1 .1 in
         let below : t < recorded d = newest-below (tableAt d) (recorded d) t found in
         let small : t < length (d .kinds) = omega (arith, leading-le (d .kinds)) in
-        let few : length (mapAt d t) ≤ limit = few-at d t (newest-table (tableAt d) (recorded d) t found) in
+        let here : tableAt d t ≡ true = newest-table (tableAt d) (recorded d) t found in
+        let few : length (mapAt d t) ≤ limit = few-at d t here in
         let last-is : unpack m .last ≡ t =
         ap (λ (x : List ℕ). unpack x .last) (ledger-left d l mount z e)
         ∙ ap (λ (o : Option ℕ). unpack (pack (shownAt d (blockFound o) idle)) .last) found
         ∙ last-kept (shownAt d t idle) (long-filled (mapAt d t) t (recorded d) idle few) (omega (arith, f .0 .few)) in
-        subst (λ (n : ℕ). Ends d (n + 1)) (sym last-is) (omega arith, λ b h. none-newer d (f .0) b (rw found h))
+        subst (λ (n : ℕ). Ends d n true) (sym last-is) (omega arith, here, λ b h. none-newer d (f .0) b (rw (found, add-one t) h))
 
-    pub look-back-ends : (j : ℕ) → outcome d l (lookBack j) ≡ 0 → left a i k m b ≡ after d l (lookBack j) → Ends d (unpack m .recorded)
+    pub look-back-ends : (j : ℕ) → outcome d l (lookBack j) ≡ 0 → left a i k m b ≡ after d l (lookBack j) → Ends d (unpack m .recorded) false
     unfolding effect filled
     look-back-ends j z e =
         let f = look-back-done d l j z in
@@ -128,7 +135,7 @@ module _ (d : Disc) (l : List ℕ) where
         ap (λ (x : List ℕ). unpack x .recorded) (ledger-left d l (lookBack j) z e)
         ∙ ap (λ (w : Walk). unpack (pack (shownAt d (blockReached w) readOnly)) .recorded) (f .1 .1)
         ∙ recorded-kept (shownAt d t readOnly) (long-filled (mapAt d t) t (recorded d) readOnly few) (omega (arith, f .0 .few, leading-le (d .kinds))) in
-        subst (Ends d) (sym recorded-is) (omega arith, none-recorded d (f .0))
+        subst (λ (n : ℕ). Ends d n false) (sym recorded-is) (free-from d (recorded d) (omega arith) (none-recorded d (f .0)))
 
 -- a call that records starts at the count of what was recorded, and its answer is its last block
 pub record Placed (d : Disc) (l : List ℕ) (between count a : ℕ) : Type 0 where

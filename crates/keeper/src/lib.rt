@@ -104,7 +104,7 @@ pub fn begin(image: &[u8], kinds: &[u8], roles: &mut [u8], ledger: &mut [u8]) ->
         return answer;
     }
     // There is no table.
-    roles::scan(image, kinds, roles, ledger, 0);
+    roles::scan(image, kinds, roles, ledger, 0, false);
     answer
 }
 
@@ -120,8 +120,8 @@ pub fn mount(image: &[u8], kinds: &[u8], roles: &mut [u8], ledger: &mut [u8]) ->
         return answer;
     }
     // The table mounted is the newest: none stands behind it.
-    let end = volume::ledger::last(ledger) + 1;
-    roles::scan(image, kinds, roles, ledger, end);
+    let end = volume::ledger::last(ledger);
+    roles::scan(image, kinds, roles, ledger, end, true);
     answer
 }
 
@@ -281,6 +281,6 @@ pub fn look_back(image: &[u8], kinds: &[u8], roles: &mut [u8], ledger: &mut [u8]
     }
     // Behind what is recorded all is blank.
     let end = volume::ledger::recorded(ledger);
-    roles::scan(image, kinds, roles, ledger, end);
+    roles::scan(image, kinds, roles, ledger, end, false);
     answer
 }

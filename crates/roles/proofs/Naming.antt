@@ -9,7 +9,7 @@ use mathlib.Core.Bool.{Bool, true, false, not}
 use mathlib.Core.List.{List, [], _∷_, _++_}
 use lib.Dec.{eqb}
 use lib.ListN.{length, getD, take, set, replicate, length-replicate, List·getD-eq-default}
-use lib.Seq.{take-suc}
+use lib.Seq.{take-suc, getD-take}
 use borrow.Author.Tests.{eqb-true, eqb-false, ne-eqb}
 use Rattle.le.proofs.Runs.{length-words}
 use Rattle.vat.specs.Table.{limit, unused}
@@ -17,9 +17,21 @@ use Rattle.disc.specs.Disc.{Disc, kindAt, stored}
 use Rattle.le.proofs.Halves.{and-false}
 use Rattle.disc.proofs.Recording.{length-stored}
 use Rattle.volume.specs.Volume.{unpack, mapOf}
+use Rattle.volume.proofs.State.{long-unpack}
 use Rattle.roles.specs.Roles.{inUse, superseded, unnumbered, linkRole, blankRole, names, ofTable, roleOfKind, roleOfData, roleAt, rolesOf}
 use Rattle.roles.specs.Keeping.{supersedeIf, letGo, marked}
 use Rattle.roles.proofs.Roles.{length-tabulate, getD-tabulate, tabulate-same, set-tabulate, names-last, names-other, role-names, stored-append}
+
+-- within a list the default is not told
+inside-same : (xs : List ℕ) (i x y : ℕ) → i < length xs → getD xs i x ≡ getD xs i y
+inside-same [] i x y h = absurd (not-suc-le-zero h)
+inside-same (z ∷ zs) zero x y h = refl
+inside-same (z ∷ zs) (suc i) x y h = inside-same zs i x y (omega arith)
+
+-- an entry of the map, as the ledger has it
+pub map-entry : (l : List ℕ) (n : ℕ) → n < unpack l .size → unpack l .size ≤ limit → getD (unpack l .entries) n unused ≡ getD (mapOf (unpack l)) n 0
+map-entry l n h few =
+    inside-same (unpack l .entries) n unused 0 (omega (arith, long-unpack l)) ∙ sym (getD-take (unpack l .size) (unpack l .entries) n 0 h)
 
 -- the map, one entry further
 pub map-suc : (l : List ℕ) (n : ℕ) → n < limit → take (n + 1) (unpack l .entries) ≡ take n (unpack l .entries) ++ (getD (unpack l .entries) n unused ∷ [])
@@ -81,12 +93,6 @@ module _ (d : Disc) (map : List ℕ) (b : ℕ) (roles : List ℕ) (e : roles ≡
       go i low false other = elsewhere i (eqb-false i b other)
 
 -- ---- a number lets go of a block
-
--- within a list the default is not told
-inside-same : (xs : List ℕ) (i x y : ℕ) → i < length xs → getD xs i x ≡ getD xs i y
-inside-same [] i x y h = absurd (not-suc-le-zero h)
-inside-same (z ∷ zs) zero x y h = refl
-inside-same (z ∷ zs) (suc i) x y h = inside-same zs i x y (omega arith)
 
 module _ (l : List ℕ) (b : ℕ) (roles : List ℕ) where
   pub let-go-beyond : length roles ≤ b → letGo l b roles ≡ roles

@@ -6,12 +6,13 @@ use native.Mathlib.Nat.{not-suc-le-zero, add-zero}
 use native.Mathlib.Numerals.{add-one}
 use native.Mathlib.Omega.{arith}
 use mathlib.Core.Path.{_≡_, refl, sym, ap, ap₂, _∙_}
-use mathlib.Core.Bool.{Bool, true, false, _||_, or-assoc, or-false, or-true}
+use mathlib.Core.Bool.{Bool, true, false, _&&_, _||_, not, or-assoc, or-false, or-true}
 use mathlib.Core.List.{List, [], _∷_, _++_, append-assoc}
 use lib.Dec.{eqb}
 use lib.ListN.{length, getD, take, drop, set, length-set, length-append, take-append-drop, List·getD-append}
 use lib.Seq.{getD-at, getD-set-same, getD-set-other, ext-getD, take-suc-set, drop-set-lt}
 use borrow.Author.Tests.{eqb-true, eqb-false, eq-eqb, ne-eqb}
+use Rattle.le.specs.Bytes.{every}
 use Rattle.disc.specs.Disc.{Disc, kindAt, stored}
 use Rattle.roles.specs.Roles.{unreadable, blankRole, names, ofTable, roleOfKind, roleOfData, roleAt, tabulate}
 
@@ -86,6 +87,25 @@ names-last xs b = names-snoc xs b b ∙ ap (λ (t : Bool). names xs b || t) (eq-
 pub names-other : (xs : List ℕ) (x b : ℕ) → (b ≡ x → ⊥) → names (xs ++ (x ∷ [])) b ≡ names xs b
 names-other xs x b h =
     names-snoc xs x b ∙ ap (λ (t : Bool). names xs b || t) (ne-eqb x b (λ e. h (sym e))) ∙ or-false (names xs b)
+
+-- a list names a block unless every one of it differs
+abbrev pub differs : ℕ → ℕ → Bool
+differs b x = not (eqb x b)
+
+pub names-every : (xs : List ℕ) (b : ℕ) → names xs b ≡ not (every (differs b) xs)
+unfolding names every
+names-every [] b = refl
+names-every (x ∷ xs) b = go (eqb x b) (names-every xs b)
+  where
+    go : (t : Bool) → names xs b ≡ not (every (differs b) xs) → (t || names xs b) ≡ not (not t && every (differs b) xs)
+    go true ih = refl
+    go false ih = ih
+
+-- two more that may be the block
+pub neither : (found one other : Bool) → not (found || (one || other)) ≡ (not found && (not one && not other))
+neither true one other = refl
+neither false true other = refl
+neither false false other = refl
 
 -- ---- the role of one block
 

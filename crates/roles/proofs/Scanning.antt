@@ -13,10 +13,10 @@ use lib.Dec.{eqb, ltb}
 use lib.ListN.{length, getD, drop, set}
 use lib.Seq.{drop-cons, drop-length}
 use borrow.Author.Tests.{eqb-true, eqb-false, eq-eqb, ne-eqb, ltb-true, ltb-false, lt-ltb, le-ltb}
-use Rattle.disc.specs.Disc.{Disc, recorded, kindAt}
+use Rattle.disc.specs.Disc.{Disc, counted, leading, recorded, kindAt}
 use Rattle.disc.specs.Tables.{tableAt, namedBy}
 use Rattle.le.proofs.Halves.{and-false}
-use Rattle.disc.proofs.Told.{data-kind, names-none}
+use Rattle.disc.proofs.Told.{data-kind, other-kind, names-none}
 use Rattle.roles.specs.Roles.{superseded, tableRole, names, namedBelow, ofTable, roleOfKind, roleOfData, roleAt, tabulate, markedAt}
 use Rattle.roles.proofs.Roles.{tabulate-same, set-tabulate}
 use Rattle.roles.proofs.Tables.{names-data, named-suc, named-no-more}
@@ -53,6 +53,16 @@ mark-tabulate m (b ∷ bs) f g listed others =
 
 -- ---- block by block
 
+-- the kind right behind the leading ones is blank
+leading-ends : (ks : List ℕ) → getD ks (leading ks) 0 ≡ 0
+unfolding leading
+leading-ends [] = refl
+leading-ends (k ∷ ks) = go (leading-ends ks) (eqb k 0) refl
+  where
+    go : getD ks (leading ks) 0 ≡ 0 → (t : Bool) → eqb k 0 ≡ t → getD (k ∷ ks) (counted t (leading ks)) 0 ≡ 0
+    go ih true z = eqb-true k 0 z
+    go ih false z = ih
+
 -- block b is one of the tables below block n, or such a table names it
 abbrev markedTo : Disc → ℕ → ℕ → Bool
 markedTo d n b = (tableAt d b && ltb b n) || namedBelow d n b
@@ -72,19 +82,24 @@ module _ (d : Disc) where
       tabulate-same (λ b. roleOfKind (kindAt d b) superseded) (passedTo d 0) m
       (λ b h. ap (λ (t : Bool). role-of b (t || false)) (sym (and-false (tableAt d b) (ltb b 0) (le-ltb b 0 (omega arith)))))
 
-  -- no table stands behind
-  pub all-passed : (m end : ℕ) → end ≤ recorded d → ((b : ℕ) → end ≤ b → tableAt d b ≡ false) → tabulate (passedTo d end) m ≡ tabulate (roleAt d [] []) m
-  unfolding roleAt names ofTable role-of
-  all-passed m end inside behind = tabulate-same (passedTo d end) (roleAt d [] []) m (λ b h. ap (role-of b) (ap₂ (λ (t u : Bool). t || u) (go b (ltb b end) refl) (named b)))
-    where
-      go : (b : ℕ) (t : Bool) → ltb b end ≡ t → (tableAt d b && ltb b end) ≡ tableAt d b
-      go b true e = ap (λ (t : Bool). tableAt d b && t) e ∙ and-true (tableAt d b)
-      go b false e = and-false (tableAt d b) (ltb b end) e ∙ sym (behind b (ltb-false b end e))
+  -- no table stands right behind what is recorded
+  recorded-ends : (b : ℕ) → b ≡ recorded d → tableAt d b ≡ false
+  recorded-ends b e = other-kind d b (λ one. let blank : kindAt d b ≡ 0 = ap (kindAt d) e ∙ leading-ends (d .kinds) in omega arith)
 
-      named : (b : ℕ) → namedBelow d end b ≡ namedBelow d (recorded d) b
+  -- and none stands from block n on
+  pub all-passed : (m n : ℕ) → n ≤ recorded d + 1 → ((b : ℕ) → n ≤ b → tableAt d b ≡ false) → tabulate (passedTo d n) m ≡ tabulate (roleAt d [] []) m
+  unfolding roleAt names ofTable role-of
+  all-passed m n inside behind = tabulate-same (passedTo d n) (roleAt d [] []) m (λ b h. ap (role-of b) (ap₂ (λ (t u : Bool). t || u) (go b (ltb b n) refl) (named b)))
+    where
+      go : (b : ℕ) (t : Bool) → ltb b n ≡ t → (tableAt d b && ltb b n) ≡ tableAt d b
+      go b true e = ap (λ (t : Bool). tableAt d b && t) e ∙ and-true (tableAt d b)
+      go b false e = and-false (tableAt d b) (ltb b n) e ∙ sym (behind b (ltb-false b n e))
+
+      named : (b : ℕ) → namedBelow d n b ≡ namedBelow d (recorded d) b
       named b =
-          let rest : end + (recorded d - end) ≡ recorded d = omega arith in
-          sym (named-no-more d end (recorded d - end) b (λ c low high. behind c low)) ∙ ap (λ (k : ℕ). namedBelow d k b) rest
+          let rest : n + (recorded d + 1 - n) ≡ recorded d + 1 = omega arith in
+          sym (named-no-more d n (recorded d + 1 - n) b (λ c low high. behind c low)) ∙ ap (λ (k : ℕ). namedBelow d k b) rest
+          ∙ named-no-more d (recorded d) 1 b (λ c low high. recorded-ends c (omega arith))
 
   -- one block further
   marked-suc : (n b : ℕ) → markedTo d (n + 1) b ≡ ((tableAt d b && ltb b (n + 1)) || (names (namedBy d n) b || namedBelow d n b))
@@ -115,8 +130,8 @@ module _ (d : Disc) where
           let named : markedTo d (n + 1) b ≡ true = marked-suc n b ∙ rw l (or-true (tableAt d b && ltb b (n + 1))) in
           ap₂ (λ (k : ℕ) (t : Bool). roleOfKind k (roleOfData t false false)) (names-data d n b l .1) named
 
-  pub table-passed : (m n : ℕ) → n < m → tableAt d n ≡ true → markedAt (namedBy d n) (set (tabulate (passedTo d n) m) n tableRole) ≡ tabulate (passedTo d (n + 1)) m
-  unfolding markedAt names
+  pub table-passed : (m n : ℕ) → n < m → tableAt d n ≡ true → markedAt (n ∷ namedBy d n) (tabulate (passedTo d n) m) ≡ tabulate (passedTo d (n + 1)) m
+  unfolding names
   table-passed m n h e = mark-tabulate m (n ∷ namedBy d n) (passedTo d n) (passedTo d (n + 1)) (λ b l. (within b (eqb n b) refl l, here n b e l)) (λ b l. outside b (eqb n b) refl l)
     where
       within : (b : ℕ) (t : Bool) → eqb n b ≡ t → (t || names (namedBy d n) b) ≡ true → b < m

@@ -69,19 +69,30 @@ fn mark_named(image: &[u8], kinds: &[u8], roles: &mut [u8], b: u32)
     }
 }
 
-// The tables, all of which stand below `end`, and their own sectors: the roles where the map is empty.
-fn mark_tables(image: &[u8], kinds: &[u8], roles: &mut [u8], end: u32)
-    requires { ⌜ (sized (lent (now image) (now kinds)) ≡ true) × (now roles ≡ tabulate (λ b. roleOfKind (getD (now kinds) b 0) superseded) (length (now kinds))) × (end ≤ leading (now kinds)) × ((b : ℕ) → end ≤ b → tableAt (lent (now image) (now kinds)) b ≡ false) ⌝ }
+// The table at block b, and the sectors that it names as its own.
+fn mark_table(image: &[u8], kinds: &[u8], roles: &mut [u8], b: u32)
+    requires { ⌜ (sized (lent (now image) (now kinds)) ≡ true) × (length (now roles) ≡ length (now kinds)) × (tableAt (lent (now image) (now kinds)) b ≡ true) ⌝ }
+    ensures { λ _. ⌜ now (roles .exit) ≡ markedAt (b ∷ namedBy (lent (now (image .entry)) (now (kinds .entry))) b) (now (roles .entry)) ⌝ }
+{
+    let place = b as usize;
+    roles[place] = TABLE;
+    mark_named(image, kinds, roles, b);
+}
+
+// The tables and their own sectors: the roles where the map is empty. No table stands behind `end`, and whether one stands there is known.
+fn mark_tables(image: &[u8], kinds: &[u8], roles: &mut [u8], end: u32, known: bool)
+    requires { ⌜ (sized (lent (now image) (now kinds)) ≡ true) × (now roles ≡ tabulate (λ b. roleOfKind (getD (now kinds) b 0) superseded) (length (now kinds))) × (end ≤ leading (now kinds)) × (tableAt (lent (now image) (now kinds)) end ≡ known) × ((b : ℕ) → end < b → tableAt (lent (now image) (now kinds)) b ≡ false) ⌝ }
     ensures { λ _. ⌜ now (roles .exit) ≡ rolesOf (lent (now (image .entry)) (now (kinds .entry))) [] [] ⌝ }
 {
     let mut b = 0;
     while b < end {
         if disc::tables::table_at(image, kinds, b) {
-            let place = b as usize;
-            roles[place] = TABLE;
-            mark_named(image, kinds, roles, b);
+            mark_table(image, kinds, roles, b);
         }
         b += 1;
+    }
+    if known {
+        mark_table(image, kinds, roles, end);
     }
 }
 
@@ -110,26 +121,32 @@ fn name_blocks(roles: &mut [u8], ledger: &[u8])
     }
 }
 
-// Begin, mount and look back make all bytes anew. The caller's own search tells where the tables end: no sector from there on is read.
-pub fn scan(image: &[u8], kinds: &[u8], roles: &mut [u8], ledger: &[u8], end: u32)
-    requires { ⌜ (sized (lent (now image) (now kinds)) ≡ true) × (length (now roles) ≡ length (now kinds)) × (length (now ledger) ≡ ledgerLength) × (unpack (now ledger) .size ≤ limit) × (end ≤ leading (now kinds)) × ((b : ℕ) → end ≤ b → tableAt (lent (now image) (now kinds)) b ≡ false) ⌝ }
+// Begin, mount and look back make all bytes anew. The caller's own search tells where the tables end, and whether a table stands there: it is not asked
+// for again, and no sector behind it is read.
+pub fn scan(image: &[u8], kinds: &[u8], roles: &mut [u8], ledger: &[u8], end: u32, known: bool)
+    requires { ⌜ (sized (lent (now image) (now kinds)) ≡ true) × (length (now roles) ≡ length (now kinds)) × (length (now ledger) ≡ ledgerLength) × (unpack (now ledger) .size ≤ limit) × (end ≤ leading (now kinds)) × (tableAt (lent (now image) (now kinds)) end ≡ known) × ((b : ℕ) → end < b → tableAt (lent (now image) (now kinds)) b ≡ false) ⌝ }
     ensures { λ _. ⌜ now (roles .exit) ≡ scanned (lent (now (image .entry)) (now (kinds .entry))) (now (ledger .entry)) ⌝ }
 {
     scan_kinds(kinds, roles);
-    mark_tables(image, kinds, roles, end);
+    mark_tables(image, kinds, roles, end, known);
     name_blocks(roles, ledger);
 }
 
-// A number names block b. With no early exit: nearly always none does.
+// A number names block b. With no early exit, since nearly always none does; two entries in a turn, one of each half, which halves the turns. Where the
+// size is odd the one in the middle is looked at twice.
 fn named(ledger: &[u8], b: u32) -> bool
     requires { ⌜ (length (now ledger) ≡ ledgerLength) × (unpack (now ledger) .size ≤ limit) ⌝ }
     ensures { λ r. ⌜ r ≡ names (mapOf (unpack (now (ledger .entry)))) b ⌝ }
 {
     let size = volume::ledger::size(ledger);
+    let half = size / 2;
+    let turns = size - half;
     let mut found = false;
     let mut n = 0;
-    while n < size {
-        found = found | (volume::ledger::entry(ledger, n) == b);
+    while n < turns {
+        let one = volume::ledger::entry(ledger, n) == b;
+        let other = volume::ledger::entry(ledger, half + n) == b;
+        found = found | (one | other);
         n += 1;
     }
     found

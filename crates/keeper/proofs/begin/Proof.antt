@@ -77,7 +77,7 @@ scan-requires c κs =
     let e = c .before .before in let j = called e in let s = start-of j in
     let r = ready (D s) (L s) begin (done e) (j .begin .ensures) (R s) (lengths-right j) (e .before .before .ledger .given) (begin-few (D s) (L s) (done e)) in
     let t = begin-ends (D s) (L s) (done e) in
-    (r .0, r .1, r .2, r .3, t .0, t .1)
+    (r .0, r .1, r .2, r .3, t .0, t .1, t .2)
 
 same-length-4 : tie.Need-same-length-4
 same-length-4 c = c .before .roles .given

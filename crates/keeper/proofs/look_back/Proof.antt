@@ -2,7 +2,7 @@
 -- Assumes nothing.
 use Prim.Native.Nat.{ℕ}
 use mathlib.Core.Path.{_≡_, refl, sym, ap, _∙_, subst}
-use mathlib.Core.Bool.{true}
+use mathlib.Core.Bool.{true, false}
 use mathlib.Core.List.{List, []}
 use Rattle.disc.specs.Disc.{Disc, lent}
 use Rattle.recorder.specs.Calls.{Call, lookBack}
@@ -83,17 +83,17 @@ recorded-requires : tie.Need-recorded-requires
 recorded-requires c κs = let e = c .before in let s = start-of (called e) in e .before .before .ledger .given ∙ ledger-accepted (D s) (L s) (call s) (done e)
 
 -- where the tables end
-ends : (c : tie.After-recorded) → Ends (D (start-of (called (accepted c)))) (c .recorded .result)
+ends : (c : tie.After-recorded) → Ends (D (start-of (called (accepted c)))) (c .recorded .result) false
 ends c =
     let e = accepted c in let j = called e in let s = start-of j in
-    subst (Ends (D s)) (sym (c .recorded .ensures)) (look-back-ends (D s) (L s) (s .args .k) (done e) (j .look-back .ensures))
+    subst (λ (n : ℕ). Ends (D s) n false) (sym (c .recorded .ensures)) (look-back-ends (D s) (L s) (s .args .k) (done e) (j .look-back .ensures))
 
 scan-requires : tie.Need-scan-requires
 scan-requires c κs =
     let q = c .before .before in let e = accepted q in let j = called e in let s = start-of j in
     let r = ready (D s) (L s) (call s) (done e) (j .look-back .ensures) (R s) (lengths-right j) (e .before .before .ledger .given) (look-back-few (D s) (L s) (s .args .k) (done e)) in
     let t = ends q in
-    (r .0, r .1, r .2, r .3, t .0, t .1)
+    (r .0, r .1, r .2, r .3, t .0, t .1, t .2)
 
 same-length-4 : tie.Need-same-length-4
 same-length-4 c = c .before .roles .given

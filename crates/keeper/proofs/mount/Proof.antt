@@ -1,15 +1,13 @@
 -- `keeper::mount` meets its contract.
 -- Assumes nothing.
-use Prim.Native.Nat.{ℕ, _+_}
-use native.Mathlib.Omega.{arith}
+use Prim.Native.Nat.{ℕ}
 use mathlib.Core.Path.{_≡_, refl, sym, ap, _∙_, subst}
 use mathlib.Core.Bool.{true}
 use mathlib.Core.List.{List, []}
 use Rattle.disc.specs.Disc.{Disc, lent}
-use Rattle.disc.proofs.Recording.{leading-le}
 use Rattle.recorder.specs.Calls.{mount}
 use Rattle.recorder.specs.Refusals.{first, outcome}
-use Rattle.recorder.proofs.Done.{ledger-accepted, mount-done}
+use Rattle.recorder.proofs.Done.{ledger-accepted}
 use Rattle.roles.specs.Keeping.{rolesTests, leftRoles}
 use Rattle.keeper.proofs.Kept.{is-done, turned-away, refused, kept}
 use Rattle.keeper.proofs.Calls.{mount-few, Ends, ready, mount-ends, mount-kept}
@@ -82,20 +80,17 @@ last-requires : tie.Need-last-requires
 last-requires c κs = let e = c .before in let s = start-of (called e) in e .before .before .ledger .given ∙ ledger-accepted (D s) (L s) mount (done e)
 
 -- where the tables end
-ends : (c : tie.After-last) → Ends (D (start-of (called (accepted c)))) (c .last .result + 1)
+ends : (c : tie.After-last) → Ends (D (start-of (called (accepted c)))) (c .last .result) true
 ends c =
     let e = accepted c in let j = called e in let s = start-of j in
-    subst (λ (n : ℕ). Ends (D s) (n + 1)) (sym (c .last .ensures)) (mount-ends (D s) (L s) (done e) (j .mount .ensures))
-
-add-end : tie.Need-add-end
-add-end c = let s = start-of (called (accepted c)) in omega (arith, ends c .0, mount-done (D s) (L s) (done (accepted c)) .0 .few, leading-le (D s .kinds))
+    subst (λ (n : ℕ). Ends (D s) n true) (sym (c .last .ensures)) (mount-ends (D s) (L s) (done e) (j .mount .ensures))
 
 scan-requires : tie.Need-scan-requires
 scan-requires c κs =
     let q = c .before .before in let e = accepted q in let j = called e in let s = start-of j in
     let r = ready (D s) (L s) mount (done e) (j .mount .ensures) (R s) (lengths-right j) (e .before .before .ledger .given) (mount-few (D s) (L s) (done e)) in
     let t = ends q in
-    (r .0, r .1, r .2, r .3, t .0, t .1)
+    (r .0, r .1, r .2, r .3, t .0, t .1, t .2)
 
 same-length-4 : tie.Need-same-length-4
 same-length-4 c = c .before .roles .given
@@ -121,7 +116,6 @@ mount-spec =
     same-length-3
     returns-2
     last-requires
-    add-end
     scan-requires
     same-length-4
     same-length-5

@@ -12,7 +12,7 @@ scan-kinds-requires c κs = search needs
 mark-tables-requires : tie.Need-mark-tables-requires
 mark-tables-requires c κs =
     let p = c .before .before .before in let s = p .before .before .before .before .before .before in
-    (s .pre .0, p .scan-kinds .ensures, s .pre .4, s .pre .5)
+    (s .pre .0, p .scan-kinds .ensures, s .pre .4, s .pre .5, s .pre .6)
 
 name-blocks-requires : tie.Need-name-blocks-requires
 name-blocks-requires c κs = search needs
