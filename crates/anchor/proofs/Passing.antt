@@ -11,18 +11,19 @@ use mathlib.Core.Bool.{Bool, true, false, _&&_}
 use mathlib.Core.List.{List, [], _∷_, _++_, append-assoc, append-nil}
 use mathlib.Core.Logic.{_⊎_, inl, inr}
 use lib.Dec.{eqb, ltb, leb, lit≤}
-use lib.ListN.{length, take, drop, getD, replicate, length-replicate, List·getD-append, List·getD-eq-default, getD-replicate}
-use lib.Seq.{drop-at, getD-take, getD-append-add}
+use lib.ListN.{length, getD, List·getD-append, List·getD-eq-default}
+use lib.Seq.{drop-at, getD-append-add}
 use borrow.Author.Tests.{eqb-true, ltb-true, ltb-false, leb-true}
 use Rattle.le.specs.Bytes.{every}
 use Rattle.le.specs.Field.{le, readLe, leWords}
-use Rattle.le.proofs.Fields.{length-le, read-le, read-agrees, read-drop, read-add}
+use Rattle.le.proofs.Fields.{length-le, read-le, read-drop, read-add}
 use Rattle.le.proofs.Rows.{and-left, and-right}
 use Rattle.le.proofs.Runs.{Words}
 use Rattle.tag.specs.Tag.{summed}
 use Rattle.vat.specs.Table.{sectorLength, unusedOrBelow, Lower, tableName, isTable}
 use Rattle.vat.specs.Sector.{tableRegid, tableBytes}
-use Rattle.vat.specs.Own.{filledUp, ownSector}
+use Rattle.vat.specs.Own.{ownSector}
+use Rattle.vat.proofs.Joined.{own-field}
 use Rattle.vat.proofs.Theorems.{recognised, location, Named, named, each-named, fits, all-fit}
 use Rattle.anchor.specs.Anchor.{anchorIdentifier, farthestStart, anchorTagged}
 use Rattle.anchor.proofs.Theorems.{table-identifier}
@@ -110,44 +111,12 @@ word-at (x ∷ xs) (suc q) f =
 
 -- ---- an own sector as words
 
--- it holds the table's bytes from its place on, and zeros where they end
-filled-byte : (t : List ℕ) (j : ℕ) → j < sectorLength → getD (filledUp (take sectorLength t)) j 0 ≡ getD t j 0
-filled-byte t j h = go (ltb j (length part)) refl
-  where
-    part : List ℕ
-    part = take sectorLength t
-
-    zeros : List ℕ
-    zeros = replicate (sectorLength - length part) 0
-
-    behind : (k : ℕ) → getD zeros k 0 ≡ 0
-    behind k = past (ltb k (sectorLength - length part)) refl
-      where
-        past : (u : Bool) → ltb k (sectorLength - length part) ≡ u → getD zeros k 0 ≡ 0
-        past true e = getD-replicate (sectorLength - length part) k 0 0 (ltb-true k (sectorLength - length part) e)
-        past false e = List·getD-eq-default zeros 0 (rw (length-replicate {A = ℕ} (sectorLength - length part) 0) (ltb-false k (sectorLength - length part) e))
-
-    go : (u : Bool) → ltb j (length part) ≡ u → getD (part ++ zeros) j 0 ≡ getD t j 0
-    go true e = List·getD-append part zeros 0 j (ltb-true j (length part) e) ∙ getD-take sectorLength t j 0 h
-    go false e =
-        let low : length part ≤ j = ltb-false j (length part) e in
-        let at : length part + (j - length part) ≡ j = omega arith in
-        ap (λ (k : ℕ). getD (part ++ zeros) k 0) (sym at)
-        ∙ getD-append-add part zeros (j - length part) 0
-        ∙ behind (j - length part)
-        ∙ sym (List·getD-eq-default part 0 low)
-        ∙ getD-take sectorLength t j 0 h
-
-filled-read : (n : ℕ) (t : List ℕ) (at : ℕ) → at + n ≤ sectorLength → readLe n (filledUp (take sectorLength t)) at ≡ readLe n t at
-filled-read n t at h = read-agrees n (filledUp (take sectorLength t)) t at (λ k low high. filled-byte t k (omega arith))
-
 -- word q of it
 own-word : (xs : List ℕ) (i q : ℕ) → Words xs → 4 * q + 4 ≤ sectorLength → readLe 4 (ownSector (leWords xs) i) (4 * q) ≡ getD xs (512 * i + q) 0
 own-word xs i q f h =
     let t : List ℕ = leWords xs in
     let at : sectorLength * i + 4 * q ≡ 4 * (512 * i + q) = omega arith in
-    filled-read 4 (drop (sectorLength * i) t) (4 * q) h
-    ∙ read-drop 4 t (sectorLength * i) (4 * q)
+    own-field 4 t i (4 * q) h
     ∙ ap (readLe 4 t) at
     ∙ word-at xs (512 * i + q) f
 

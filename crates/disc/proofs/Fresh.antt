@@ -3,6 +3,7 @@
 --     fresh-neither  none that is recorded is a table or a pointer
 --     again-same     which are named again is told by what the previous table's own sectors read
 --     again-read     whether one stands at a block, told by the image
+--     other-named    where another previous table is named it does not
 -- Assumes nothing.
 use Prim.Native.Nat.{ℕ, zero, suc, _+_, _*_, _≤_, _<_}
 use native.Mathlib.Numerals.{add-one}
@@ -13,17 +14,19 @@ use mathlib.Core.List.{List, [], _∷_}
 use mathlib.Core.Logic.{_⊎_, inl, inr}
 use mathlib.Core.Option.{Option, none, some}
 use lib.Dec.{eqb}
-use lib.ListN.{length, take, drop, getD}
-use lib.Seq.{drop-cons}
+use lib.ListN.{length, take, drop, getD, length-drop}
+use lib.Seq.{drop-cons, drop-at, drop-drop, take-take, take-add, length-take-le}
 use borrow.Author.Tests.{eqb-true, ne-eqb}
 use Rattle.le.specs.Bytes.{every, holdsText}
+use Rattle.le.specs.Field.{readLe}
 use Rattle.le.proofs.Rows.{and-left, and-right}
-use Rattle.vat.specs.Table.{sectorLength, mostBytes, unusedOrBelow, Lower, bytesOf, tableLength}
+use Rattle.le.proofs.Runs.{text-split, field-other}
+use Rattle.vat.specs.Table.{sectorLength, mostBytes, unusedOrBelow, Lower, bytesOf, tableLength, regidAt}
 use Rattle.vat.specs.Sector.{tableBytes}
-use Rattle.vat.specs.Own.{sectorsOf, ownCount, ownSectors}
+use Rattle.vat.specs.Own.{ownSector, sectorsOf, ownCount, ownSectors}
 use Rattle.vat.proofs.Record.{length-table}
-use Rattle.vat.proofs.Joined.{Stand, AllLong, sectors-long, sectors-on, AllSmall, length-sectors}
-use Rattle.vat.proofs.Theorems.{some-own, few-own}
+use Rattle.vat.proofs.Joined.{Stand, AllLong, length-filled, sectors-long, sectors-on, own-field, AllSmall, length-sectors}
+use Rattle.vat.proofs.Theorems.{previous-stands, some-own, few-own}
 use Rattle.anchor.proofs.Passing.{Neither, NeitherOf, neither-of}
 use Rattle.disc.specs.Disc.{Disc, recorded, kindAt, sectorAt, readable, content, plain, put, puts}
 use Rattle.disc.specs.Tables.{below, namedBy}
@@ -51,6 +54,25 @@ text-same (x ∷ xs) image at h =
     let next : at + 1 ≡ suc at = add-one at in
     ap (λ (t : Bool). eqb (getD image at 0) x && t) (text-same xs image (at + 1) (omega arith) ∙ ap (λ (k : ℕ). same (take (length xs) (drop k image)) xs) next)
     ∙ ap (λ (l : List ℕ). same (take (suc (length xs)) l) (x ∷ xs)) (sym here)
+
+-- an own sector does not stand where another previous table is named
+pub other-named : (image map : List ℕ) (at previous i k : ℕ) → k + 4 ≤ sectorLength → sectorLength * i + k ≡ regidAt (length map) + 32 → previous < 4294967296
+    → (readLe 4 image (at + k) ≡ previous → ⊥) → holdsText image at (ownSector (tableBytes map previous) i) ≡ false
+other-named image map at previous i k inside here small other =
+    let t : List ℕ = tableBytes map previous in
+    field-other 4 (ownSector t i) image at k (rw (length-filled (drop (sectorLength * i) t)) inside)
+    (λ e. other (e ∙ own-field 4 t i k inside ∙ ap (readLe 4 t) here ∙ previous-stands map previous small))
+
+-- bytes in two parts, as they stand in a map
+pub text-parts : (k m : ℕ) (s map : List ℕ) (at from : ℕ) → from + (k + m) ≤ length map
+    → holdsText s at (take (k + m) (drop from map)) ≡ (holdsText s at (take k (drop from map)) && holdsText s (at + k) (take m (drop (from + k) map)))
+text-parts k m s map at from inside =
+    let l : List ℕ = drop from map in
+    let all : length (take (k + m) l) ≡ k + m = length-take-le (k + m) l (rw (length-drop from map) (omega arith)) in
+    let long : length (take k l) ≡ k = length-take-le k l (rw (length-drop from map) (omega arith)) in
+    text-split k (take (k + m) l) s at (omega arith)
+    ∙ ap₂ (λ (x y : List ℕ). holdsText s at x && holdsText s (at + k) y) (take-take k (k + m) l (omega arith))
+    (ap (drop k) (take-add k m l) ∙ drop-at (take k l) (take m (drop k l)) k long ∙ ap (take m) (drop-drop k from map))
 
 module _ (d : Disc) (o : ℕ) (s : List ℕ) (long : length s ≡ sectorLength) where
   pub again-read : kindAt d o ≡ 1 → sectorLength * o + sectorLength ≤ length (d .image) → holdsText (d .image) (sectorLength * o) s ≡ same (bytesOf (content d o)) s

@@ -1,7 +1,7 @@
 -- A table in sectors of its own on a disc, byte by byte: each stands in the image where its sector lies.
 --     table-byte               byte j of the table
 --     length-table             how many there are
---     piece-words, field-read  fields that end with their sector or before it
+--     piece-words, field-read, piece-text  fields and texts that end with their sector or before it
 -- Assumes nothing.
 use Prim.Native.Nat.{ℕ, zero, suc, _+_, _-_, _*_, _/_, _%_, _≤_, _<_}
 use native.Mathlib.Nat.{not-suc-le-zero, add-zero, zero-add, suc-add}
@@ -11,15 +11,15 @@ use mathlib.Core.Bool.{Bool, true, false, _&&_, _||_, and-assoc, false≢true}
 use mathlib.Core.List.{List, [], _∷_, _++_}
 use mathlib.Core.Logic.{_⊎_, inl, inr}
 use lib.Dec.{eqb, ltb, leb}
-use lib.ListN.{length, take, drop, getD, length-append, List·getD-append}
-use lib.Seq.{sets, length-take-le, getD-take, getD-drop, getD-append-add}
+use lib.ListN.{length, take, drop, getD, length-append, length-take, length-drop, List·getD-append}
+use lib.Seq.{sets, length-take-le, drop-drop, getD-take, getD-drop, getD-append-add}
 use borrow.Author.Tests.{eqb-true, eqb-false, eq-eqb, ne-eqb, ltb-true, ltb-false, lt-ltb, le-ltb, leb-true}
 use Rattle.le.specs.Bytes.{every, holdsText}
 use Rattle.le.specs.Field.{le, readLe, putLe, words, leWords}
 use Rattle.le.proofs.Bytes.{sets-append}
 use Rattle.le.proofs.Fields.{length-le, read-shift}
 use Rattle.le.proofs.Rows.{and-left, and-right}
-use Rattle.le.proofs.Runs.{words-none, words-step, words-shift, text-taken}
+use Rattle.le.proofs.Runs.{text-split, text-shift, words-none, words-step, words-shift}
 use Rattle.extent.specs.declared.Extent.{Extent}
 use Rattle.extent.specs.Extents.{extent, extentsFrom, totalLength}
 use Rattle.extent.proofs.Extents.{extentAt, extentsLeft, extent-taken}
@@ -158,42 +158,53 @@ module _ (d : Disc) (ok : Sized d) (b : ℕ) (high : b ≤ length (d .kinds)) wh
           full k [] f h = absurd (omega (arith, l .first .short, ltb-false j sectorLength z))
           full k (g ∷ gs) f h = let whole : e .length ≡ sectorLength = eqb-true (e .length) sectorLength f in (whole, omega (arith, ltb-false j sectorLength z))
 
-  -- the words of a piece, which ends with its sector, where it lies
+  -- each byte of a piece, which ends with its sector or before, where it lies
+  piece-byte : (m : ℕ) (s : List ℕ) (at j n : ℕ) → laid (below d b) (extentsFrom m s at) ≡ true → j % sectorLength + n ≤ sectorLength
+      → j + n ≤ totalLength (extentsFrom m s at) → (k : ℕ) → k < n → getD (d .image) (placeOf s at j + k) 0 ≡ getD (joined (below d b) (extentsFrom m s at)) (j + k) 0
+  piece-byte m s at j n t within inside k h =
+      let slot : at + 8 * ((j + k) / sectorLength) + 4 ≡ at + 8 * (j / sectorLength) + 4 = omega arith in
+      let same : (j + k) % sectorLength ≡ j % sectorLength + k = omega arith in
+      let place : sectorLength * readLe 4 s (at + 8 * (j / sectorLength) + 4) + (j % sectorLength + k) ≡ placeOf s at j + k = omega arith in
+      sym
+      (table-byte m s at (j + k) t (omega arith) .0
+      ∙ ap₂ (λ (p q : ℕ). getD (d .image) (sectorLength * readLe 4 s p + q) 0) slot same
+      ∙ ap (λ (p : ℕ). getD (d .image) p 0) place)
+
+  -- its words, a field of it, and a text that is looked for there
   pub piece-words : (m : ℕ) (s : List ℕ) (at j n : ℕ) → laid (below d b) (extentsFrom m s at) ≡ true → j % sectorLength + 4 * n ≤ sectorLength
       → j + 4 * n ≤ totalLength (extentsFrom m s at) → words n (d .image) (placeOf s at j) ≡ words n (joined (below d b) (extentsFrom m s at)) j
   piece-words m s at j n t within inside =
-      words-shift n (d .image) (joined (below d b) (extentsFrom m s at)) (placeOf s at j) j
-      (λ k h.
-      let slot : at + 8 * ((j + k) / sectorLength) + 4 ≡ at + 8 * (j / sectorLength) + 4 = omega arith in
-      let same : (j + k) % sectorLength ≡ j % sectorLength + k = omega arith in
-      let place : sectorLength * readLe 4 s (at + 8 * (j / sectorLength) + 4) + (j % sectorLength + k) ≡ placeOf s at j + k = omega arith in
-      sym
-      (table-byte m s at (j + k) t (omega arith) .0
-      ∙ ap₂ (λ (p q : ℕ). getD (d .image) (sectorLength * readLe 4 s p + q) 0) slot same
-      ∙ ap (λ (p : ℕ). getD (d .image) p 0) place))
+      words-shift n (d .image) (joined (below d b) (extentsFrom m s at)) (placeOf s at j) j (piece-byte m s at j (4 * n) t within inside)
 
-  -- a field that ends with its sector or before, where it lies
   pub field-read : (m : ℕ) (s : List ℕ) (at j n : ℕ) → laid (below d b) (extentsFrom m s at) ≡ true → j % sectorLength + n ≤ sectorLength
       → j + n ≤ totalLength (extentsFrom m s at) → readLe n (d .image) (placeOf s at j) ≡ readLe n (joined (below d b) (extentsFrom m s at)) j
   field-read m s at j n t within inside =
-      read-shift n (d .image) (joined (below d b) (extentsFrom m s at)) (placeOf s at j) j
-      (λ k h.
-      let slot : at + 8 * ((j + k) / sectorLength) + 4 ≡ at + 8 * (j / sectorLength) + 4 = omega arith in
-      let same : (j + k) % sectorLength ≡ j % sectorLength + k = omega arith in
-      let place : sectorLength * readLe 4 s (at + 8 * (j / sectorLength) + 4) + (j % sectorLength + k) ≡ placeOf s at j + k = omega arith in
-      sym
-      (table-byte m s at (j + k) t (omega arith) .0
-      ∙ ap₂ (λ (p q : ℕ). getD (d .image) (sectorLength * readLe 4 s p + q) 0) slot same
-      ∙ ap (λ (p : ℕ). getD (d .image) p 0) place))
+      read-shift n (d .image) (joined (below d b) (extentsFrom m s at)) (placeOf s at j) j (piece-byte m s at j n t within inside)
+
+  pub piece-text : (m : ℕ) (s : List ℕ) (at j : ℕ) (text : List ℕ) → laid (below d b) (extentsFrom m s at) ≡ true → j % sectorLength + length text ≤ sectorLength
+      → j + length text ≤ totalLength (extentsFrom m s at) → holdsText (d .image) (placeOf s at j) text ≡ holdsText (joined (below d b) (extentsFrom m s at)) j text
+  piece-text m s at j text t within inside =
+      text-shift text (d .image) (joined (below d b) (extentsFrom m s at)) (placeOf s at j) j (piece-byte m s at j (length text) t within inside)
 
 -- ---- one turn of each loop
 
-pub byte-taken : (same : Bool) (t image text : List ℕ) (j place i : ℕ) → i < length text → getD t j 0 ≡ getD image place 0
-    → ((same && eqb (getD image place 0) (getD text i 0)) && holdsText t (j + 1) (drop (i + 1) text)) ≡ (same && holdsText t j (drop i text))
-byte-taken same t image text j place i h e =
-    ap (λ (x : ℕ). (same && eqb x (getD text i 0)) && holdsText t (j + 1) (drop (i + 1) text)) (sym e) ∙ text-taken same t text j i h
+pub text-piece-taken : (same : Bool) (t text : List ℕ) (from i end : ℕ) → i ≤ end → end ≤ length text
+    → ((same && holdsText t (from + i) (take (end - i) (drop i text))) && holdsText t (from + end) (drop end text)) ≡ (same && holdsText t (from + i) (drop i text))
+text-piece-taken same t text from i end low high =
+    let count : ℕ = end - i in
+    let piece : List ℕ = take count (drop i text) in
+    let behind : from + i + count ≡ from + end = omega arith in
+    let to : i + count ≡ end = omega arith in
+    and-assoc same (holdsText t (from + i) piece) (holdsText t (from + end) (drop end text))
+    ∙ ap (λ (u : Bool). same && u)
+    (sym
+    (text-split count (drop i text) t (from + i) (rw (length-drop i text) (omega arith))
+    ∙ ap₂ (λ (p : ℕ) (rest : List ℕ). holdsText t (from + i) piece && holdsText t p rest) behind (drop-drop count i text ∙ ap (λ (k : ℕ). drop k text) to)))
 
--- a piece is not empty
+-- a piece is no longer than was asked for, and not empty
+pub piece-short : (n : ℕ) (l : List ℕ) → length (take n l) ≤ n
+piece-short n l = rw (length-take n l) (omega arith)
+
 pub some-taken : (q left k : ℕ) → 0 < left → 0 < k → (q ≡ left) ⊎ (q ≡ k) → 0 < q
 some-taken q left k h g (inl e) = omega arith
 some-taken q left k h g (inr e) = omega arith

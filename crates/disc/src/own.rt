@@ -3,7 +3,7 @@ use vat::own::smaller;
 use vat::table::SECTOR;
 use vat::table::TABLE_NAME;
 ghost use mathlib.Core.Path.{_≡_};
-ghost use mathlib.Core.Bool.{true};
+ghost use mathlib.Core.Bool.{true, false};
 ghost use mathlib.Core.List.{List};
 ghost use Prim.Native.Nat.{ℕ, _+_, _*_, _/_, _%_, _≤_, _<_};
 ghost use lib.ListN.{length};
@@ -63,7 +63,7 @@ fn place_of(s: &[u8], at: usize, j: usize) -> usize
     SECTOR * (own_block(s, at, j / 2048) as usize) + j % 2048
 }
 
-// The table holds the text from byte `from` on, which may stand across two sectors.
+// The table holds the text from byte `from` on, which may stand across two sectors, piece by piece: a piece ends with its sector.
 fn own_holds(
     image: &[u8],
     kinds: &[u8],
@@ -78,13 +78,12 @@ fn own_holds(
     ensures { λ r. ⌜ r ≡ holdsText (joined (below (lent (now (image .entry)) (now (kinds .entry))) b) (extentsFrom m (now (s .entry)) at)) from (now (text .entry)) ⌝ }
 {
     let mut same = true;
-    let mut j = from;
     let mut i: usize = 0;
     while i < text.len() {
-        let place = place_of(s, at, j);
-        same = same & (image[place] == text[i]);
-        j += 1;
-        i += 1;
+        let j = from + i;
+        let end = i + smaller(text.len() - i, SECTOR - j % SECTOR);
+        same = same & le::run::holds_text(image, place_of(s, at, j), &text[i..end]);
+        i = end;
     }
     same
 }
@@ -194,8 +193,21 @@ pub fn own_copied(
     }
 }
 
+// Own sector i of a table of n numbers names this previous table, and at place `at` another is named: so the sector does not stand there. The field is the
+// table's last and never stands across two sectors. A save names the table before it, so that of the sector with this field it is nearly always another.
+fn names_other(image: &[u8], at: usize, n: usize, previous: u32, i: usize) -> bool
+    requires { ⌜ (at + sectorLength ≤ length (now image)) × (i < mostOwn) × (sectorLength * i < tableLength n) × (4 * n < sectorLength * i + sectorLength) ⌝ }
+    ensures { λ r. ⌜ ((map : List ℕ) → r ≡ true → holdsText (now (image .entry)) at (ownSector (tableBytes (words n map 0) previous) i) ≡ false) ⌝ }
+{
+    let place = 4 * n + 32 - SECTOR * i;
+    if SECTOR <= place {
+        return false;
+    }
+    le::read32(image, at + place) != previous
+}
+
 // Own sector i of the table of the first n numbers that the bytes of a map hold stands at block o already. One of entries alone is the map's bytes as they
-// stand; another is made first.
+// stand, and if it changed its first quarter mostly tells. Another is made first, unless the previous table that is named at block o tells already.
 pub fn named_again(
     image: &[u8],
     kinds: &[u8],
@@ -216,7 +228,14 @@ pub fn named_again(
     let first = SECTOR * i;
     let end = first + SECTOR;
     if end <= 4 * n {
-        return le::run::holds_text(image, at, &map[first..end]);
+        let quarter = first + 512;
+        if !le::run::holds_text(image, at, &map[first..quarter]) {
+            return false;
+        }
+        return le::run::holds_text(image, at + 512, &map[quarter..end]);
+    }
+    if names_other(image, at, n, previous, i) {
+        return false;
     }
     let mut s = [0u8; 2048];
     vat::own::own_sector(&mut s, map, n, previous, i);

@@ -42,15 +42,15 @@ pub fn table_at(image: &[u8], kinds: &[u8], b: u32) -> bool
     crate::bytes::is_table(image, kinds, s, b)
 }
 
-// How many of the entries that are left are looked at together: within a group no test waits for another.
+// How many of the entries that are left are looked at together, a whole own sector or a whole embedded table: within a group no test waits for another.
 fn group(left: u32) -> u32
     requires { ⌜ 0 < left ⌝ }
     ensures { λ r. ⌜ (0 < r) × (r ≤ left) ⌝ }
 {
-    if left < 64 {
+    if left < 512 {
         return left;
     }
-    64
+    512
 }
 
 // "starts at the last recorded sector and goes towards block 0. The first table sector met ends the search." The costly CRC comes last.

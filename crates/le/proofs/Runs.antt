@@ -5,16 +5,17 @@ use native.Mathlib.Nat.{add-zero, not-suc-le-zero, le-of-suc-le-suc}
 use native.Mathlib.Numerals.{add-one}
 use native.Mathlib.Omega.{arith}
 use mathlib.Core.Path.{_≡_, refl, sym, ap, ap₂, _∙_}
-use mathlib.Core.Bool.{Bool, true, _&&_, and-assoc}
+use mathlib.Core.Bool.{Bool, true, false, _&&_, and-assoc}
 use mathlib.Core.List.{List, [], _∷_, _++_, append-assoc, append-nil}
 use lib.Dec.{eqb}
 use lib.ListN.{length, take, drop, set, getD, replicate, length-append, drop-of-length-le}
 use lib.Seq.{sets, sets-eq, drop-cons, drop-at, drop-drop, getD-drop, take-add}
-use borrow.Author.Tests.{eq-eqb}
+use borrow.Author.Tests.{eqb-true, eq-eqb}
 use Rattle.le.specs.Bytes.{total, holdsText}
 use Rattle.le.specs.Field.{le, readLe, putLe, leadingWords, words, leWords}
 use Rattle.le.proofs.Bytes.{sets-append}
 use Rattle.le.proofs.Fields.{length-le, read-le, read-shift, read-drop}
+use Rattle.le.proofs.Rows.{and-left, and-right}
 
 -- a whole buffer that is overwritten
 pub sets-all : (vs l : List ℕ) → length vs ≡ length l → sets l 0 vs ≡ vs
@@ -69,6 +70,56 @@ text-held [] s rest at e = refl
 text-held (x ∷ xs) s rest at e =
     ap₂ (λ (a b : Bool). a && b) (eq-eqb (getD s at 0) x (first-byte s x (xs ++ rest) at e))
     (text-held xs s rest (at + 1) (drop-on s (x ∷ []) (xs ++ rest) at 1 e refl))
+
+-- ---- a text that is looked for
+
+-- by two parts, the second where the first ends
+pub text-split : (k : ℕ) (text s : List ℕ) (at : ℕ) → k ≤ length text → holdsText s at text ≡ (holdsText s at (take k text) && holdsText s (at + k) (drop k text))
+unfolding holdsText
+text-split zero text s at h = ap (λ (p : ℕ). holdsText s p text) (sym (add-zero at))
+text-split (suc k) [] s at h = absurd (not-suc-le-zero h)
+text-split (suc k) (x ∷ xs) s at h =
+    let next : at + 1 + k ≡ at + suc k = omega arith in
+    ap (λ (t : Bool). eqb (getD s at 0) x && t)
+    (text-split k xs s (at + 1) (le-of-suc-le-suc h) ∙ ap (λ (p : ℕ). holdsText s (at + 1) (take k xs) && holdsText s p (drop k xs)) next)
+    ∙ sym (and-assoc (eqb (getD s at 0) x) (holdsText s (at + 1) (take k xs)) (holdsText s (at + suc k) (drop k xs)))
+
+-- it is told by its own bytes alone, wherever they stand
+pub text-shift : (text s t : List ℕ) (a b : ℕ) → ((k : ℕ) → k < length text → getD s (a + k) 0 ≡ getD t (b + k) 0) → holdsText s a text ≡ holdsText t b text
+unfolding holdsText
+text-shift [] s t a b same = refl
+text-shift (x ∷ xs) s t a b same =
+    let first : getD s a 0 ≡ getD t b 0 =
+    ap (λ (k : ℕ). getD s k 0) (sym (add-zero a)) ∙ same 0 (omega arith) ∙ ap (λ (k : ℕ). getD t k 0) (add-zero b) in
+    ap₂ (λ (y : ℕ) (u : Bool). eqb y x && u) first
+    (text-shift xs s t (a + 1) (b + 1)
+    (λ k h.
+    let p : a + 1 + k ≡ a + suc k = omega arith in
+    let q : b + 1 + k ≡ b + suc k = omega arith in
+    ap (λ (i : ℕ). getD s i 0) p ∙ same (suc k) (omega arith) ∙ ap (λ (i : ℕ). getD t i 0) (sym q)))
+
+text-byte : (text s : List ℕ) (at k : ℕ) → holdsText s at text ≡ true → k < length text → getD s (at + k) 0 ≡ getD text k 0
+unfolding holdsText
+text-byte [] s at k e h = absurd (not-suc-le-zero h)
+text-byte (x ∷ xs) s at zero e h =
+    ap (λ (j : ℕ). getD s j 0) (add-zero at) ∙ eqb-true (getD s at 0) x (and-left (eqb (getD s at 0) x) (holdsText s (at + 1) xs) e)
+text-byte (x ∷ xs) s at (suc k) e h =
+    let next : at + suc k ≡ at + 1 + k = omega arith in
+    ap (λ (j : ℕ). getD s j 0) next ∙ text-byte xs s (at + 1) k (and-right (eqb (getD s at 0) x) (holdsText s (at + 1) xs) e) (le-of-suc-le-suc h)
+
+-- it does not stand where one of its fields is another
+pub field-other : (n : ℕ) (text s : List ℕ) (at k : ℕ) → k + n ≤ length text → (readLe n s (at + k) ≡ readLe n text k → ⊥) → holdsText s at text ≡ false
+field-other n text s at k h other = go (holdsText s at text) refl
+  where
+    go : (t : Bool) → holdsText s at text ≡ t → t ≡ false
+    go false e = refl
+    go true e =
+        absurd
+        (other
+        (read-shift n s text (at + k) k
+        (λ j low.
+        let there : at + k + j ≡ at + (k + j) = omega arith in
+        ap (λ (i : ℕ). getD s i 0) there ∙ text-byte text s at (k + j) e (omega arith))))
 
 -- every number of the list fits 32 bits
 abbrev pub Words : List ℕ → Type 0

@@ -1,17 +1,21 @@
 -- A table in sectors of its own: where these stand below the ICB, its extents are laid, and the sectors joined up to their lengths are the table.
 --     sectors-long, sectors-on   each is a whole sector, and which it is
+--     own-field                  a field of one is read from the table
 --     own-laid, own-joined       where the sectors stand, they are laid, and joined they are the table
 --     total-extents, extents-at  their extents are as long as the table, and lie at these blocks
 -- Assumes nothing.
 use Prim.Native.Nat.{ℕ, zero, suc, _+_, _-_, _*_, _≤_, _<_}
 use native.Mathlib.Omega.{arith}
 use mathlib.Core.Path.{_≡_, refl, sym, ap, ap₂, _∙_}
-use mathlib.Core.Bool.{true}
+use mathlib.Core.Bool.{Bool, true, false}
 use mathlib.Core.List.{List, [], _∷_, _++_, append-nil}
 use mathlib.Core.Option.{Option, some}
-use lib.ListN.{length, take, drop, replicate, length-append, length-replicate, length-take, length-drop, take-append-drop}
-use lib.Seq.{take-all, take-at, length-take-le, drop-drop}
-use borrow.Author.Tests.{lt-ltb, le-leb}
+use lib.Dec.{ltb}
+use lib.ListN.{length, take, drop, getD, replicate, length-append, length-replicate, length-take, length-drop, take-append-drop, List·getD-append, List·getD-eq-default, getD-replicate}
+use lib.Seq.{take-all, take-at, length-take-le, drop-drop, getD-take, getD-append-add}
+use borrow.Author.Tests.{ltb-true, ltb-false, lt-ltb, le-leb}
+use Rattle.le.specs.Field.{readLe}
+use Rattle.le.proofs.Fields.{read-agrees, read-drop}
 use Rattle.extent.specs.Extents.{extent, totalLength, locations}
 use Rattle.extent.proofs.Extents.{AllFit}
 use Rattle.vat.specs.Table.{sectorLength, Lower, bytesOf, lies, laid, joined}
@@ -53,6 +57,40 @@ unfolding sectorsOf
 sectors-on m i t =
     let next : sectorLength * i + sectorLength ≡ sectorLength * suc i = omega arith in
     ap (λ (rest : List ℕ). ownSector t i ∷ sectorsOf m rest) (drop-drop sectorLength (sectorLength * i) t ∙ ap (λ (k : ℕ). drop k t) next)
+
+-- it holds the table's bytes from its place on, and zeros where they end
+filled-byte : (t : List ℕ) (j : ℕ) → j < sectorLength → getD (filledUp (take sectorLength t)) j 0 ≡ getD t j 0
+filled-byte t j h = go (ltb j (length part)) refl
+  where
+    part : List ℕ
+    part = take sectorLength t
+
+    zeros : List ℕ
+    zeros = replicate (sectorLength - length part) 0
+
+    behind : (k : ℕ) → getD zeros k 0 ≡ 0
+    behind k = past (ltb k (sectorLength - length part)) refl
+      where
+        past : (u : Bool) → ltb k (sectorLength - length part) ≡ u → getD zeros k 0 ≡ 0
+        past true e = getD-replicate (sectorLength - length part) k 0 0 (ltb-true k (sectorLength - length part) e)
+        past false e = List·getD-eq-default zeros 0 (rw (length-replicate {A = ℕ} (sectorLength - length part) 0) (ltb-false k (sectorLength - length part) e))
+
+    go : (u : Bool) → ltb j (length part) ≡ u → getD (part ++ zeros) j 0 ≡ getD t j 0
+    go true e = List·getD-append part zeros 0 j (ltb-true j (length part) e) ∙ getD-take sectorLength t j 0 h
+    go false e =
+        let low : length part ≤ j = ltb-false j (length part) e in
+        let at : length part + (j - length part) ≡ j = omega arith in
+        ap (λ (k : ℕ). getD (part ++ zeros) k 0) (sym at)
+        ∙ getD-append-add part zeros (j - length part) 0
+        ∙ behind (j - length part)
+        ∙ sym (List·getD-eq-default part 0 low)
+        ∙ getD-take sectorLength t j 0 h
+
+filled-read : (n : ℕ) (t : List ℕ) (at : ℕ) → at + n ≤ sectorLength → readLe n (filledUp (take sectorLength t)) at ≡ readLe n t at
+filled-read n t at h = read-agrees n (filledUp (take sectorLength t)) t at (λ k low high. filled-byte t k (omega arith))
+
+pub own-field : (n : ℕ) (t : List ℕ) (i at : ℕ) → at + n ≤ sectorLength → readLe n (ownSector t i) at ≡ readLe n t (sectorLength * i + at)
+own-field n t i at h = filled-read n (drop (sectorLength * i) t) at h ∙ read-drop n t (sectorLength * i) at
 
 -- ---- laid and joined
 

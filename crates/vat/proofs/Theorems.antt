@@ -311,6 +311,12 @@ module _ (map : List ℕ) (previous : ℕ) where
       (drop-on (tableBytes map previous) (0 ∷ []) (tableName ++ behind) (regidAt (length map)) 1
       (regid-stands ∙ ap (λ (l : List ℕ). 0 ∷ l) (append-assoc tableName suffix (le 4 previous ++ []))) refl)
 
+  pub previous-stands : previous < 4294967296 → readLe 4 (tableBytes map previous) (regidAt (length map) + 32) ≡ previous
+  unfolding tableRegid tableName
+  previous-stands =
+      read-le 4 previous (tableBytes map previous) [] (regidAt (length map) + 32)
+      (drop-on (tableBytes map previous) tableRegid (le 4 previous ++ []) (regidAt (length map)) 32 regid-stands refl)
+
   module _ (fits : Words map) (small : previous < 4294967296) where
     entries-back : entriesOf (tableBytes map previous) ≡ map
     unfolding entriesOf tableBytes
@@ -318,11 +324,8 @@ module _ (map : List ℕ) (previous : ℕ) where
         ap (λ (k : ℕ). words k (tableBytes map previous) 0) counted ∙ words-read map (tableBytes map previous) (tableRegid ++ le 4 previous) 0 refl fits
 
     previous-back : previousOf (tableBytes map previous) ≡ previous
-    unfolding previousOf tableRegid tableName
-    previous-back =
-        ap (λ (k : ℕ). readLe 4 (tableBytes map previous) (regidAt k + 32)) counted
-        ∙ read-le 4 previous (tableBytes map previous) [] (regidAt (length map) + 32)
-        (drop-on (tableBytes map previous) tableRegid (le 4 previous ++ []) (regidAt (length map)) 32 regid-stands refl) small
+    unfolding previousOf
+    previous-back = ap (λ (k : ℕ). readLe 4 (tableBytes map previous) (regidAt k + 32)) counted ∙ previous-stands small
 
   listed-back : (b : ℕ) → b < 4294967296 → every (unusedOrBelow b) map ≡ true → unusedOrBelow b previous ≡ true → listed (tableBytes map previous) b ≡ true
   unfolding listed enclosed

@@ -1,10 +1,13 @@
--- `disc::own::named_again` meets its contract: the kind decides first, then the bytes, which the map has or which are made.
+-- `disc::own::named_again` meets its contract: the kind decides first, then the bytes, which the map has or which are made; of the map's a first quarter, and of
+-- those that are made the previous table, before the others.
 -- Assumes nothing.
 use Prim.Native.Nat.{ℕ, _+_, _-_, _*_, _≤_}
 use native.Mathlib.Omega.{arith}
-use mathlib.Core.Path.{_≡_, sym, ap, _∙_}
+use mathlib.Core.Path.{_≡_, refl, sym, ap, _∙_}
+use mathlib.Core.Bool.{Bool, true, false, _&&_}
 use mathlib.Core.List.{List}
-use lib.ListN.{length, take, drop, length-take}
+use lib.ListN.{length, take, drop}
+use borrow.Author.Tests.{not-true, not-false}
 use Rattle.le.specs.Bytes.{holdsText}
 use Rattle.le.specs.Field.{words}
 use Rattle.le.proofs.Runs.{AllBytes, all-bytes}
@@ -16,7 +19,8 @@ use Rattle.vat.proofs.Made.{entries-alone}
 use Rattle.disc.specs.Disc.{Disc, lent, content}
 use Rattle.disc.specs.Again.{same}
 use Rattle.disc.proofs.Recording.{sized-tells}
-use Rattle.disc.proofs.Fresh.{again-read, again-not}
+use Rattle.disc.proofs.Pieces.{piece-short}
+use Rattle.disc.proofs.Fresh.{text-parts, again-read, again-not}
 use borrow.Author.Needs.{needs}
 use Rattle.disc.proofs.own.named_again.Statement.{statement}
 use Rattle.disc.proofs.own.named_again.Tie as tie
@@ -52,6 +56,27 @@ compared c x e =
     let s = start-of c in
     ap (holdsText (s .args .image .now) (sectorLength * s .args .o)) e ∙ again-read (D s) (s .args .o) (S s) (long s) (c .if1 .left) (inside s)
 
+-- the first quarter of a sector of entries alone, and the others
+abbrev first-quarter : tie.Start → Bool
+first-quarter s = let a = s .args in holdsText (a .image .now) (sectorLength * a .o) (take 512 (drop (sectorLength * a .i) (a .map .now)))
+
+abbrev others : tie.Start → Bool
+others s = let a = s .args in holdsText (a .image .now) (sectorLength * a .o + 512) (take 1536 (drop (sectorLength * a .i + 512) (a .map .now)))
+
+both : (t : tie.Then2) → let s = start-of (t .before) in (first-quarter s && others s) ≡ same (bytesOf (content (D s) (s .args .o))) (S s)
+both t =
+    let e = t .before in let s = start-of e in let a = s .args in
+    sym (text-parts 512 1536 (a .image .now) (a .map .now) (sectorLength * a .o) (sectorLength * a .i) (omega (arith, t .if2 .taken, s .pre .2)))
+    ∙ compared e (take sectorLength (drop (sectorLength * a .i) (a .map .now)))
+    (sym (entries-alone (a .n) (a .i) (a .map .now) (a .previous) (bytes e) (s .pre .2) (omega (arith, t .if2 .taken))))
+
+first-told : (c : tie.After-holds-text) → c .holds-text .result ≡ first-quarter (start-of (c .before .before .before))
+first-told c =
+    let a = start-of (c .before .before .before) .args in
+    let first : ℕ = sectorLength * a .i in
+    let count : (first + 512) - first ≡ 512 = omega arith in
+    c .holds-text .ensures ∙ ap (λ (k : ℕ). holdsText (a .image .now) (sectorLength * a .o) (take k (drop first (a .map .now)))) count
+
 shared-slice-read-if1 : tie.Need-shared-slice-read-if1
 shared-slice-read-if1 c = search needs
 
@@ -70,6 +95,9 @@ add-end c = search needs
 mul-if2 : tie.Need-mul-if2
 mul-if2 c = search needs
 
+add-quarter : tie.Need-add-quarter
+add-quarter c = search needs
+
 sub-holds-text : tie.Need-sub-holds-text
 sub-holds-text c = search needs
 
@@ -81,20 +109,52 @@ part-holds-text-end c = search needs
 
 holds-text-requires : tie.Need-holds-text-requires
 holds-text-requires c κs =
-    let s = start-of (c .before .before) in let a = s .args in
-    let first : ℕ = sectorLength * a .i in
-    let short : length (take ((first + sectorLength) - first) (drop first (a .map .now))) ≤ sectorLength = rw (length-take ((first + sectorLength) - first) (drop first (a .map .now))) (omega arith) in
-    omega (arith, inside s, short)
+    let s = start-of (c .before .before) in
+    let first : ℕ = sectorLength * s .args .i in
+    omega (arith, inside s, piece-short ((first + 512) - first) (drop first (s .args .map .now)))
 
 returns-2 : tie.Need-returns-2
 returns-2 c =
-    let t = c .before .before in let e = t .before in let a = start-of e .args in
+    let h = c .before in let t = h .before .before in let s = start-of (t .before) in
+    let other : first-quarter s ≡ false = sym (first-told h) ∙ not-true (h .holds-text .result) (c .if3 .taken) in
+    sym (sym (both t) ∙ ap (λ (u : Bool). u && others s) other)
+
+add-holds-text : tie.Need-add-holds-text
+add-holds-text c = search needs
+
+sub-holds-text-2 : tie.Need-sub-holds-text-2
+sub-holds-text-2 c = search needs
+
+part-holds-text-start-2 : tie.Need-part-holds-text-start-2
+part-holds-text-start-2 c = search needs
+
+part-holds-text-end-2 : tie.Need-part-holds-text-end-2
+part-holds-text-end-2 c = search needs
+
+holds-text-requires-2 : tie.Need-holds-text-requires-2
+holds-text-requires-2 c κs =
+    let s = start-of (c .before .before .before .before .before) in
+    let first : ℕ = sectorLength * s .args .i in
+    omega (arith, inside s, piece-short ((first + sectorLength) - (first + 512)) (drop (first + 512) (s .args .map .now)))
+
+returns-3 : tie.Need-returns-3
+returns-3 c =
+    let q = c .before .before in let h = q .before in let t = h .before .before in let s = start-of (t .before) in let a = s .args in
     let first : ℕ = sectorLength * a .i in
-    let count : (first + sectorLength) - first ≡ sectorLength = omega arith in
-    c .holds-text .ensures
-    ∙ compared e (take ((first + sectorLength) - first) (drop first (a .map .now)))
-    (ap (λ (k : ℕ). take k (drop first (a .map .now))) count
-    ∙ sym (entries-alone (a .n) (a .i) (a .map .now) (a .previous) (bytes e) (start-of e .pre .2) (omega (arith, t .if2 .taken))))
+    let count : (first + sectorLength) - (first + 512) ≡ 1536 = omega arith in
+    let same-first : first-quarter s ≡ true = sym (first-told h) ∙ not-false (h .holds-text .result) (q .if3 .left) in
+    c .holds-text2 .ensures
+    ∙ ap (λ (k : ℕ). holdsText (a .image .now) (sectorLength * a .o + 512) (take k (drop (first + 512) (a .map .now)))) count
+    ∙ sym (ap (λ (u : Bool). u && others s) same-first)
+    ∙ both t
+
+names-other-requires : tie.Need-names-other-requires
+names-other-requires c κs = let s = start-of (c .before) in (inside s, s .pre .3, s .pre .4, omega (arith, c .if2 .left))
+
+returns-4 : tie.Need-returns-4
+returns-4 c =
+    let p = c .before in let e = p .before .before in let s = start-of e in
+    sym (sym (compared e (S s) refl) ∙ p .names-other .ensures (s .args .map .now) (c .if4 .taken))
 
 slice-aggregate-own-sector : tie.Need-slice-aggregate-own-sector
 slice-aggregate-own-sector c = search needs
@@ -105,16 +165,20 @@ own-sector-requires c κs = search needs
 slice-aggregate-holds-text : tie.Need-slice-aggregate-holds-text
 slice-aggregate-holds-text c = search needs
 
-holds-text-requires-2 : tie.Need-holds-text-requires-2
-holds-text-requires-2 c κs =
-    let o = c .before .before in let s = start-of (o .before .before .before) in
+-- where the sector is made, its kind is known
+abbrev kind-of : tie.After-own-sector → tie.Else1
+kind-of c = c .before .before .before .before .before
+
+holds-text-requires-3 : tie.Need-holds-text-requires-3
+holds-text-requires-3 c κs =
+    let o = c .before .before in let s = start-of (kind-of o) in
     let whole : length (o .own-sector .last .0) ≡ sectorLength = ap length (o .own-sector .ensures) ∙ long s in
     omega (arith, inside s, whole)
 
-returns-3 : tie.Need-returns-3
-returns-3 c =
+returns-5 : tie.Need-returns-5
+returns-5 c =
     let o = c .before .before .before in
-    c .holds-text2 .ensures ∙ compared (o .before .before .before) (o .own-sector .last .0) (o .own-sector .ensures)
+    c .holds-text3 .ensures ∙ compared (kind-of o) (o .own-sector .last .0) (o .own-sector .ensures)
 
 pub named-again-spec : {M : Type 1} → statement M
 named-again-spec =
@@ -126,13 +190,22 @@ named-again-spec =
     mul-first
     add-end
     mul-if2
+    add-quarter
     sub-holds-text
     part-holds-text-start
     part-holds-text-end
     holds-text-requires
     returns-2
+    add-holds-text
+    sub-holds-text-2
+    part-holds-text-start-2
+    part-holds-text-end-2
+    holds-text-requires-2
+    returns-3
+    names-other-requires
+    returns-4
     slice-aggregate-own-sector
     own-sector-requires
     slice-aggregate-holds-text
-    holds-text-requires-2
-    returns-3)
+    holds-text-requires-3
+    returns-5)
