@@ -100,8 +100,8 @@ pub fn repeat_word(s: &mut [u8], at: usize, x: u32, n: usize)
     }
 }
 
-// The n fields that stand in l from place `from` on, put at place `at`: a map goes from the ledger's bytes to a table's.
-pub fn copy_words(s: &mut [u8], at: usize, l: &[u8], from: usize, n: usize)
+// The n fields that stand in l from place `from` on, put at place `at`, one by one.
+fn copy_each(s: &mut [u8], at: usize, l: &[u8], from: usize, n: usize)
     requires { ⌜ (at + 4 * n ≤ length (now s)) × (from + 4 * n ≤ length (now l)) ⌝ }
     ensures { λ _. ⌜ now (s .exit) ≡ sets (now (s .entry)) at (leWords (words n (now (l .entry)) from)) ⌝ }
 {
@@ -112,4 +112,17 @@ pub fn copy_words(s: &mut [u8], at: usize, l: &[u8], from: usize, n: usize)
         i += 1;
         place += 4;
     }
+}
+
+// The same: a map goes from the ledger's bytes to a table's, and back. As many as fill a sector go in one go.
+pub fn copy_words(s: &mut [u8], at: usize, l: &[u8], from: usize, n: usize)
+    requires { ⌜ (at + 4 * n ≤ length (now s)) × (from + 4 * n ≤ length (now l)) ⌝ }
+    ensures { λ _. ⌜ now (s .exit) ≡ sets (now (s .entry)) at (leWords (words n (now (l .entry)) from)) ⌝ }
+{
+    if n != 512 {
+        copy_each(s, at, l, from, n);
+        return;
+    }
+    let end = from + 2048;
+    put_block(s, at, &l[from..end]);
 }

@@ -1,88 +1,67 @@
--- `le::run::copy_words` meets its contract: what is left, put from here, gives the whole.
+-- `le::run::copy_words` meets its contract: the fields that fill a sector are its bytes as they stand.
 -- Assumes nothing.
-use Prim.Native.Nat.{ℕ, _+_, _-_, _*_, _≤_}
+use Prim.Native.Nat.{ℕ, _+_, _-_}
 use native.Mathlib.Omega.{arith}
-use mathlib.Core.Path.{_≡_, refl, sym, ap, ap₂, _∙_}
+use mathlib.Core.Path.{_≡_, sym, ap, _∙_}
 use mathlib.Core.List.{List}
-use lib.ListN.{length, drop, getD, drop-of-length-le}
+use lib.ListN.{length, take, drop}
 use lib.Seq.{sets}
-use Rattle.le.specs.Field.{putLe, words, leWords}
-use Rattle.le.proofs.Runs.{word-put, length-words, getD-words}
+use Rattle.le.specs.Field.{words, leWords}
+use Rattle.le.proofs.Runs.{AllBytes, all-bytes, leWords-words}
+use borrow.Author.Needs.{needs}
 use Rattle.le.proofs.run.copy_words.Statement.{statement}
 use Rattle.le.proofs.run.copy_words.Tie as tie
 
-abbrev Inv-loop : tie.InvT-loop
-Inv-loop s₀ at l from n i₀ place₀ s i place =
-    (i ≤ n) × (place ≡ at + 4 * i) × (length s ≡ length s₀) × (sets s place (leWords (drop i (words n l from))) ≡ sets s₀ at (leWords (words n l from)))
+copy-each-requires : tie.Need-copy-each-requires
+copy-each-requires c κs = search needs
 
-abbrev μ-loop : tie.MeasureT-loop
-μ-loop s₀ at l from n i₀ place₀ s i place = n - i
+same-length : tie.Need-same-length
+same-length c = search needs
 
-loop-holds : tie.Need-loop-holds Inv-loop μ-loop
-loop-holds c = (omega arith, omega arith, refl, refl)
+returns : tie.Need-returns
+returns c = search needs
 
-mul-read32 : tie.Need-mul-read32 Inv-loop μ-loop
-mul-read32 c = omega arith
+add-end : tie.Need-add-end
+add-end c = search needs
 
-add-read32 : tie.Need-add-read32 Inv-loop μ-loop
-add-read32 c = omega arith
+sub-put-block : tie.Need-sub-put-block
+sub-put-block c = search needs
 
-read32-requires : tie.Need-read32-requires Inv-loop μ-loop
-read32-requires c κs = omega arith
+part-put-block-start : tie.Need-part-put-block-start
+part-put-block-start c = search needs
 
-put32-requires : tie.Need-put32-requires Inv-loop μ-loop
-put32-requires c κs = omega arith
+part-put-block-end : tie.Need-part-put-block-end
+part-put-block-end c = search needs
 
-add-i : tie.Need-add-i Inv-loop μ-loop
-add-i c = omega arith
+put-block-requires : tie.Need-put-block-requires
+put-block-requires c κs = search needs
 
-add-place : tie.Need-add-place Inv-loop μ-loop
-add-place c = omega arith
+same-length-2 : tie.Need-same-length-2
+same-length-2 c = search needs
 
-loop-less : tie.Need-loop-less Inv-loop μ-loop
-loop-less c = omega arith
-
-loop-again : tie.Need-loop-again Inv-loop μ-loop
-loop-again c =
-    let p = c .before .before in let r = p .before in let at = r .before .before .before in
-    let a = at .before .before .before .args in
-    let i : ℕ = at .loop .i in
-    let place : ℕ = at .loop .place in
-    let xs : List ℕ = words (a .n) (a .l .now) (a .from) in
-    let word : r .read32 .result ≡ getD xs i 0 = r .read32 .ensures ∙ sym (getD-words (a .n) (a .l .now) (a .from) i 0 (omega arith)) in (
-      omega arith,
-      omega arith,
-      p .put32 .kept .0 ∙ at .loop .inv .2,
-      ap (λ (t : List ℕ). sets t (place + 4) (leWords (drop (i + 1) xs))) (p .put32 .ensures ∙ ap (putLe 4 (at .loop .s) place) word)
-          ∙ word-put (at .loop .s) xs place i (omega (arith, length-words (a .n) (a .l .now) (a .from)))
-          ∙ at .loop .inv .3,
-    )
-
-same-length : tie.Need-same-length Inv-loop μ-loop
-same-length c = omega arith
-
-returns : tie.Need-returns Inv-loop μ-loop
-unfolding leWords
-returns c =
-    let at = c .before in let a = at .before .before .before .args in
-    let xs : List ℕ = words (a .n) (a .l .now) (a .from) in
-    let through : length xs ≤ at .loop .i = omega (arith, length-words (a .n) (a .l .now) (a .from)) in
-    rw (drop-of-length-le xs through) at (at .loop .inv .3)
+returns-2 : tie.Need-returns-2
+returns-2 c =
+    let p = c .before .before in let e = p .before .before .before in let k = e .before in let s = k .before .before in let a = s .args in
+    let l : List ℕ = a .l .now in
+    let from : ℕ = a .from in
+    let bytes : AllBytes l = all-bytes l (λ i. omega (arith, k .shared-slice-known .given i)) in
+    let count : (from + 2048) - from ≡ 2048 = omega arith in
+    p .put-block .ensures
+    ∙ ap (λ (n : ℕ). sets (a .s .now) (a .at) (take n (drop from l))) count
+    ∙ ap (sets (a .s .now) (a .at)) (sym (leWords-words 512 l from bytes (omega (arith, s .pre .1, e .if1 .left))))
+    ∙ ap (λ (n : ℕ). sets (a .s .now) (a .at) (leWords (words n l from))) (sym (e .if1 .left))
 
 pub copy-words-spec : {M : Type 1} → statement M
 copy-words-spec =
     tie.close
     (tie.spec
-    Inv-loop
-    μ-loop
-    loop-holds
-    mul-read32
-    add-read32
-    read32-requires
-    put32-requires
-    add-i
-    add-place
-    loop-less
-    loop-again
+    copy-each-requires
     same-length
-    returns)
+    returns
+    add-end
+    sub-put-block
+    part-put-block-start
+    part-put-block-end
+    put-block-requires
+    same-length-2
+    returns-2)
