@@ -65,8 +65,8 @@ WRONG = {
     # a theorem
     "a_theorem_deleted": (THEOREM, "pub save-then-mount : ", "save-and-mount : ", "history proofs/Theorem.save-then-mount went"),
     "a_theorem_that_is_named_and_gone": (THEOREM, "pub save-then-mount : ", "save-and-mount : ", "proofs/Theorem.antt: has no theorem save-then-mount, which tests/lock.py names"),
-    "a_theorem_of_commits_alone": (THEOREM, "pub save-then-mount : (d : Disc) (l : List ℕ) (c : Call) → saves c ≡ true",
-        "pub save-then-mount : (d : Disc) (l : List ℕ) (c : Call) → c ≡ commit none → saves c ≡ true", "history proofs/Theorem.save-then-mount moved"),
+    "a_theorem_of_commits_alone": (THEOREM, "pub save-then-mount : (d : Disc) (l : List ℕ) → AllBytes l → (c : Call) → saves c ≡ true",
+        "pub save-then-mount : (d : Disc) (l : List ℕ) → AllBytes l → (c : Call) → c ≡ commit none → saves c ≡ true", "history proofs/Theorem.save-then-mount moved"),
     "what_a_theorem_cites": (THEOREM, line_of(THEOREM, "  pub clean : "), "", "history proofs/Theorem.Remounted.clean went"),
     "a_claim_gone_from_the_page": (PAGE, "  pub power-cuts : PowerCuts\n", "", "delivery specs/Delivery.Delivery.power-cuts went"),
     "a_claim_of_another_type_on_the_page": (PAGE, "  pub never-twice : WriteOnce\n", "  pub never-twice : RecordedSame\n", "delivery specs/Delivery.Delivery.never-twice moved"),

@@ -152,7 +152,7 @@ SOURCES = {
         "station.h: station_commit_roles is declared as"),
     "header_leaves_out_a_length": (HEADER, "station_write_roles(uint8_t *image, size_t image_length,", "station_write_roles(uint8_t *image,",
         "station.h: station_write_roles is declared as"),
-    "header_number_of_64_bits": (HEADER, "\n                                 uint32_t k);\n\n", "\n                                 uint64_t k);\n\n",
+    "header_number_of_64_bits": (HEADER, "uint32_t k);\n\n", "uint64_t k);\n\n",
         "station.h: station_look_back_roles is declared as"),
     "header_exchanges_the_extents": (HEADER, """uint32_t main_length,
                                      uint32_t main_location,
@@ -211,11 +211,10 @@ SOURCES = {
 
 # One more number: the same rule calls for it in the signature, in the call, in the contract and in the header, in the same order.
 ANOTHER_NUMBER = [
-    (CODE, "    kinds: &[u8],\n    roles: &mut [u8],\n    ledger: &mut [u8],\n    k: u32,\n",
-        "    kinds: &[u8],\n    roles: &mut [u8],\n    ledger: &mut [u8],\n    k: u32,\n    from_block: u32,\n"),
+    (CODE, "    ledger: &mut [u8],\n    k: u32,\n", "    ledger: &mut [u8],\n    k: u32,\n    from_block: u32,\n"),
     (CODE, "(lookBack k)", "(lookBack k «from_block»)"),
     (CALLS, "  lookBack : ℕ → Call\n", "  lookBack : ℕ → ℕ → Call\n"),
-    (HEADER, "\n                                 uint32_t k)", "\n                                 uint32_t k, uint32_t from_block)"),
+    (HEADER, "uint32_t k)", "uint32_t k, uint32_t from_block)"),
 ]
 
 # The line that `rt staticlib station` ends in, and what the refusal says.

@@ -4,7 +4,7 @@
  * Link libstation.a. The functions allocate nothing, keep nothing between two
  * calls and run on a stack of 256 KiB.
  *
- * Every call is lent a disc and a ledger, and the eleven that alter disc or ledger
+ * Every call is lent a disc and a ledger, and the ten that alter disc or ledger
  * the roles too, each buffer as a pointer and its length in bytes. The pointer
  * points at that many bytes, also where there are none, and is not null; one that
  * the call may change overlaps no other. Apart from that any lengths and any
@@ -20,9 +20,7 @@
  *           make all of them anew and read none. Every other call changes those
  *           of the sectors that it records, and of the one that its number named
  *           before: write and release read its role, and if that is in use and
- *           no number names it any more, it is superseded. Go back reads all:
- *           what is in use and its map does not name becomes superseded, and
- *           what is superseded and its map names in use. The roles are right if
+ *           no number names it any more, it is superseded. The roles are right if
  *           disc, roles and ledger come as the call before left them. A cut loses
  *           them, as it loses the ledger.
  *   ledger  16,364 bytes: 4,087 map entries, then size, recorded, last table and
@@ -78,9 +76,9 @@
  * the order in which it tests for them, and the first that applies is given.
  * What a call may not change is lent as const.
  *
- * In mode 0 with recorded above 0, write, numbered or not, both forms of commit,
- * going back and closing the session first record seven link sectors; of a link
- * sector only its kind changes, to 2.
+ * In mode 0 with recorded above 0, write, numbered or not, both forms of commit
+ * and closing the session first record seven link sectors; of a link sector only
+ * its kind changes, to 2.
  *
  * What the buffers hold at the end of a call is proved. The order of a call's
  * stores is not: the compiler merges and reorders them, and a program that stops
@@ -130,17 +128,16 @@ enum station_outcome {
        mode above 2; mode 1 where the last recorded sector is missing or not
        kind 1 */
     STATION_LEDGER_UNFIT = 4,
-    /* write, numbered or not, release, close packet, either form of commit, going
-       back or closing the session with mode 2 */
+    /* write, numbered or not, release, close packet, either form of commit or
+       closing the session with mode 2 */
     STATION_READ_ONLY = 5,
     /* begin, and a table sector exists */
     STATION_VAT_EXISTS = 6,
-    /* mount, look back, going back or asking for a time, and no table sector
-       exists */
+    /* mount, look back or asking for a time, and no table sector exists */
     STATION_NO_VAT = 7,
     /* a step back names a sector that is not a table sector */
     STATION_CHAIN_BROKEN = 8,
-    /* the steps back meet FFFFFFFF before k are made */
+    /* going back meets FFFFFFFF before k steps */
     STATION_CHAIN_ENDED = 9,
     /* read, view or release of v not below size, or of an unused entry */
     STATION_NOT_IN_USE = 10,
@@ -152,8 +149,8 @@ enum station_outcome {
     STATION_ABOVE_LIMIT = 13,
     /* no room: write, numbered or not, needs links + 1 + 16 blank sectors, on
        discs of 1,000 sectors or more links + 1 + 264; either form of commit
-       and going back need links, the own sectors that they record, and 1;
-       closing the session links + 257 */
+       needs links, the own sectors that it records, and 1; closing the session
+       links + 257 */
     STATION_NO_ROOM = 14,
     /* the lent block would be a table sector at the block it is about to take,
        or has the tag of a closing's pointer there: tag identifier 2, a right tag
@@ -161,8 +158,8 @@ enum station_outcome {
     STATION_WOULD_BE_VAT = 15,
     /* a timestamp given or found breaks the limits */
     STATION_BAD_TIMESTAMP = 16,
-    /* write, numbered or not, release, close packet, either form of commit, going
-       back or closing the session on a closed disc */
+    /* write, numbered or not, release, close packet, either form of commit or
+       closing the session on a closed disc */
     STATION_SESSION_CLOSED = 17,
     /* closing the session, and the partition start exceeds 400,000 */
     STATION_PARTITION_START = 18,
@@ -320,22 +317,6 @@ uint64_t station_look_back_roles(const uint8_t *image, size_t image_length,
                                  uint8_t *roles, size_t roles_length,
                                  uint8_t *ledger, size_t ledger_length,
                                  uint32_t k);
-
-/*
- * Go back k: makes the save k back the present one. Records the map of the table
- * that look back k shows as a new save without a timestamp, as commit does; its
- * previous table is the one that mount would find, also where the ledger's last
- * table is another. The ledger gets that map, the new table as last, mode 1: what
- * was not saved is dropped, and every save stays, one step further back. k 0 is
- * allowed. Roles are kept up as said above. Second number: the block of the table
- * sector. Refusals 1, 2, 3, 4, 5, 17, 7, then 8 or 9 at the first failing step,
- * then 14.
- */
-uint64_t station_go_back_roles(uint8_t *image, size_t image_length,
-                               uint8_t *kinds, size_t kinds_length,
-                               uint8_t *roles, size_t roles_length,
-                               uint8_t *ledger, size_t ledger_length,
-                               uint32_t k);
 
 /*
  * Time of k: goes back as look back k does and tells the modification time of

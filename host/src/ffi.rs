@@ -240,31 +240,6 @@ pub fn look_back(image: &[u8], kinds: &[u8], roles: &mut [u8], ledger: &mut [u8]
     }
 }
 
-/// `station_go_back_roles`: the answer of [`crate::go_back`] as one number; the second
-/// is the block recorded.
-pub fn go_back(
-    image: &mut [u8],
-    kinds: &mut [u8],
-    roles: &mut [u8],
-    ledger: &mut [u8],
-    k: u32,
-) -> u64 {
-    // SAFETY: each pointer and length is one live slice, and one that changes overlaps no other.
-    unsafe {
-        archive::station_go_back_roles(
-            image.as_mut_ptr(),
-            image.len(),
-            kinds.as_mut_ptr(),
-            kinds.len(),
-            roles.as_mut_ptr(),
-            roles.len(),
-            ledger.as_mut_ptr(),
-            ledger.len(),
-            k,
-        )
-    }
-}
-
 /// `station_time_of`: the answer of [`crate::time_of`] as one number, whose
 /// second is 0, and in the lent bytes, of which there are to be
 /// [`TIME`](crate::TIME): the minutes, then 1 if the zone was not given or else

@@ -12,8 +12,7 @@
 //!   [`begin`], [`mount`] and [`look_back`] make all of them anew, whatever they are
 //!   lent, and every other call keeps them up if they come as the call before left
 //!   them: it reads the role of the block that its number named before, which is
-//!   superseded only if it was in use, and [`go_back`] reads all of them. [`space`]
-//!   counts them;
+//!   superseded only if it was in use. [`space`] counts them;
 //! - the ledger, 16,364 bytes: 4,087 map entries, then size, recorded, last table
 //!   and mode, each 32 bits and little-endian. Unused entries, all entries from
 //!   size on, and a missing last table are FFFFFFFF. Mode is 0 (no packet
@@ -22,12 +21,11 @@
 //! A [`Refusal`] alters no lent byte. Any lengths and contents may be lent: the
 //! core tests them itself. It allocates nothing.
 //!
-//! In mode 0 with recorded above 0, write, numbered or not, both forms of commit,
-//! going back and closing the session first record seven link sectors; of a link
-//! sector only its kind changes. A power cut loses what is not committed, and
-//! [`mount`] then finds the last finished save. [`look_back`] shows an earlier save;
-//! [`go_back`] makes it the present one, by saving its map anew. [`close_session`]
-//! makes a last save that plain CD-ROM drives can read; nothing is recorded after it.
+//! In mode 0 with recorded above 0, write, numbered or not, both forms of commit
+//! and closing the session first record seven link sectors; of a link sector only
+//! its kind changes. A power cut loses what is not committed, and [`mount`] then
+//! finds the last finished save. [`close_session`] makes a last save that plain
+//! CD-ROM drives can read; nothing is recorded after it.
 //!
 //! A save of up to 458 numbers is one table sector. The table of a larger one lies in
 //! 1 to 8 sectors of its own, which the table sector names and which stand before it;
@@ -145,13 +143,13 @@ pub use run::{file_entry, view, write_unnumbered};
 pub use tag::tag_checksum;
 pub use timestamp::{SaveTime, Timestamp};
 
-/// The fourteen calls with the two numbers as the core answers them: outcome ×
+/// The thirteen calls with the two numbers as the core answers them: outcome ×
 /// 4,294,967,296 + second number. Outcome 0 is done, else it is the number of a
 /// [`Refusal`], and the second number is 0.
 pub mod raw {
     pub use crate::ffi::{
-        begin, close_packet, close_session, commit, commit_at, go_back, look_back, mount, read,
-        release, time_of, view, write, write_unnumbered,
+        begin, close_packet, close_session, commit, commit_at, look_back, mount, read, release,
+        time_of, view, write, write_unnumbered,
     };
 }
 
@@ -333,51 +331,6 @@ pub fn look_back(
     k: u32,
 ) -> Result<u32, Refusal> {
     second(raw::look_back(image, kinds, roles, ledger, k))
-}
-
-/// Go back k: makes the save k back the present one. It records the map of the table
-/// that [`look_back`] k shows as a new save without a timestamp, as [`commit`] does; its
-/// previous table is the one that [`mount`] would find, also where the ledger's last
-/// table is another. The ledger gets that map, the new table as last, mode 1: what was
-/// not saved is dropped, and every save stays, one step further back. k 0 is allowed.
-/// The answer is the block of the table sector.
-///
-/// ```
-/// use station::{LEDGER, SECTOR};
-///
-/// let (mut image, mut kinds) = (vec![0; 40 * SECTOR], vec![0; 40]);
-/// let (mut roles, mut ledger) = (vec![0; 40], [0; LEDGER]);
-/// station::begin(&image, &kinds, &mut roles, &mut ledger)?;
-/// for byte in [1, 2] {
-///     let block = [byte; SECTOR];
-///     station::write(&mut image, &mut kinds, &mut roles, &mut ledger, 0, &block)?;
-///     station::commit(&mut image, &mut kinds, &mut roles, &mut ledger)?;
-/// }
-///
-/// // The second run turned out worse: number 0 is the first one again.
-/// let mut shown = [0; SECTOR];
-/// station::go_back(&mut image, &mut kinds, &mut roles, &mut ledger, 1)?;
-/// station::read(&image, &kinds, &ledger, 0, &mut shown)?;
-/// assert_eq!(shown, [1; SECTOR]);
-///
-/// // The save that was the newest is one back now: going there undoes it.
-/// station::go_back(&mut image, &mut kinds, &mut roles, &mut ledger, 1)?;
-/// station::read(&image, &kinds, &ledger, 0, &mut shown)?;
-/// assert_eq!(shown, [2; SECTOR]);
-/// # Ok::<(), station::Refusal>(())
-/// ```
-///
-/// # Errors
-///
-/// 1, 2, 3, 4, 5, 17, 7, then 8 or 9 at the first failing step, then 14.
-pub fn go_back(
-    image: &mut [u8],
-    kinds: &mut [u8],
-    roles: &mut [u8],
-    ledger: &mut [u8],
-    k: u32,
-) -> Result<u32, Refusal> {
-    second(raw::go_back(image, kinds, roles, ledger, k))
 }
 
 /// Time of k: goes back as [`look_back`] k does and tells the modification time

@@ -25,16 +25,16 @@ pub enum Refusal {
     /// the last recorded sector is missing or not kind 1.
     LedgerUnfit = 4,
     /// 5, the operator: write, numbered or not, release, close packet, either form
-    /// of commit, going back or closing the session with mode 2.
+    /// of commit or closing the session with mode 2.
     ReadOnly = 5,
     /// 6, the disc: begin, and a table sector exists.
     VatExists = 6,
-    /// 7, the disc: mount, look back, going back or asking for a time, and no table
-    /// sector exists.
+    /// 7, the disc: mount, look back or asking for a time, and no table sector
+    /// exists.
     NoVat = 7,
     /// 8, the disc: a step back names a sector that is not a table sector.
     ChainBroken = 8,
-    /// 9, the operator: the steps back meet FFFFFFFF before k are made.
+    /// 9, the operator: going back meets FFFFFFFF before k steps.
     ChainEnded = 9,
     /// 10, the operator: read, view or release of v not below size, or of an
     /// unused entry.
@@ -47,8 +47,8 @@ pub enum Refusal {
     AboveLimit = 13,
     /// 14, the recording: no room. Write, numbered or not, needs links + 1 + 16 blank
     /// sectors, on discs of 1,000 sectors or more links + 1 + 264; either form of
-    /// commit and going back need links, the table's own sectors that they record, and
-    /// 1; closing the session links + 257.
+    /// commit needs links, the table's own sectors that it records, and 1; closing the
+    /// session links + 257.
     NoRoom = 14,
     /// 15, the recording: the lent block would be a table sector at the block
     /// it is about to take, or has the tag of a closing's pointer there: tag
@@ -59,7 +59,7 @@ pub enum Refusal {
     /// found breaks the limits that [`Timestamp`](crate::Timestamp) names.
     BadTimestamp = 16,
     /// 17, the disc: write, numbered or not, release, close packet, either form of
-    /// commit, going back or closing the session on a closed disc.
+    /// commit or closing the session on a closed disc.
     /// [`is_closed`](crate::is_closed) says what that is.
     SessionClosed = 17,
     /// 18, the operator: closing the session, and the partition start exceeds
@@ -132,23 +132,21 @@ impl Refusal {
                  mode 1 where the last recorded sector is missing or not kind 1"
             }
             Refusal::ReadOnly => {
-                "write, numbered or not, release, close packet, either form of commit, \
-                 going back or closing the session with mode 2"
+                "write, numbered or not, release, close packet, either form of commit \
+                 or closing the session with mode 2"
             }
             Refusal::VatExists => "begin, and a table sector exists",
-            Refusal::NoVat => {
-                "mount, look back, going back or asking for a time, and no table sector exists"
-            }
+            Refusal::NoVat => "mount, look back or asking for a time, and no table sector exists",
             Refusal::ChainBroken => "a step back names a sector that is not a table sector",
-            Refusal::ChainEnded => "the steps back meet FFFFFFFF before k are made",
+            Refusal::ChainEnded => "going back meets FFFFFFFF before k steps",
             Refusal::NotInUse => "read, view or release of v not below size, or of an unused entry",
             Refusal::Unreadable => "read or view, and the entry's sector is not kind 1",
             Refusal::AboveSize => "write of v above size",
             Refusal::AboveLimit => "write of v at or above 4,087",
             Refusal::NoRoom => {
                 "no room: write needs links + 1 + 16 blank sectors, on discs of 1,000 sectors or \
-                 more links + 1 + 264, commit and going back links + own sectors recorded + 1, \
-                 closing links + 257, where links is 7 in mode 0 with recorded above 0, else 0"
+                 more links + 1 + 264, commit links + own sectors recorded + 1, closing \
+                 links + 257, where links is 7 in mode 0 with recorded above 0, else 0"
             }
             Refusal::WouldBeVat => {
                 "the lent block would be a table sector at the block it is about to take, \
@@ -156,8 +154,8 @@ impl Refusal {
             }
             Refusal::BadTimestamp => "a timestamp given or found breaks the limits",
             Refusal::SessionClosed => {
-                "write, numbered or not, release, close packet, either form of commit, \
-                 going back or closing the session on a closed disc"
+                "write, numbered or not, release, close packet, either form of commit \
+                 or closing the session on a closed disc"
             }
             Refusal::PartitionStart => "the partition start exceeds 400,000",
             Refusal::NotARun => "view, and the numbered block is not a run's entry",

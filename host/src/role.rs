@@ -3,7 +3,7 @@
 use std::error::Error;
 use std::fmt;
 
-/// The role of a sector, with its number in document 02: the byte that the eleven
+/// The role of a sector, with its number in document 02: the byte that the ten
 /// calls which alter disc or ledger keep of it in the lent roles.
 ///
 /// The kind decides [`Link`](Role::Link), [`Unreadable`](Role::Unreadable) and
@@ -118,9 +118,8 @@ impl Space {
 ///
 /// The roles are lent to each call that alters disc or ledger and must come as the
 /// call before left them: [`write`](crate::write) and [`release`](crate::release) read
-/// that of the block which their number named before, and [`go_back`](crate::go_back)
-/// reads all. A cut loses them with the ledger: begin, mount and look back make all of
-/// them anew, whatever the bytes hold.
+/// that of the block which their number named before. A cut loses them with the
+/// ledger: begin, mount and look back make all of them anew, whatever the bytes hold.
 ///
 /// ```
 /// use station::{Role, LEDGER, SECTOR};

@@ -35,7 +35,6 @@ fn typed(core: &mut Core, call: Call, buffer: &mut [u8]) -> Result<u32, Refusal>
         Call::Read(v) => station::read(image, kinds, ledger, v, buffer).map(|()| 0),
         Call::View { v, offset } => station::view(image, kinds, ledger, v, offset, buffer),
         Call::LookBack(k) => station::look_back(image, kinds, roles, ledger, k),
-        Call::GoBack(k) => station::go_back(image, kinds, roles, ledger, k),
         Call::CloseSession(Anchor {
             main,
             reserve,
@@ -94,7 +93,7 @@ fn any_station(random: &mut Random) -> Station {
     station
 }
 
-/// Any bytes, whatever they mean.
+/// Any bytes: no call reads them.
 fn random_roles(random: &mut Random, sectors: usize) -> Vec<u8> {
     (0..sectors).map(|_| random.next() as u8).collect()
 }
@@ -194,6 +193,6 @@ fn refusals_as_errors() {
     let refused = refused.expect_err("a blank disc");
     assert_eq!(
         refused.to_string(),
-        "refusal 7: mount, look back, going back or asking for a time, and no table sector exists"
+        "refusal 7: mount, look back or asking for a time, and no table sector exists"
     );
 }

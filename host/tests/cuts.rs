@@ -175,7 +175,7 @@ impl List {
         if self.core.disc().blank() as usize >= CLOSING && random.one_in(8) {
             return Call::CloseSession(anchor(random));
         }
-        match random.below(47) {
+        match random.below(43) {
             0 => Call::Begin,
             1 => Call::Mount,
             2..=12 => Call::Write(forge::number(random, size)),
@@ -191,8 +191,6 @@ impl List {
                 v: forge::number(random, size),
                 offset: runs::offset(random),
             },
-            // Also to a save that is older than the start.
-            41..=45 => Call::GoBack(forge::number(random, pages + self.history.older.len())),
             _ => Call::LookBack(forge::number(random, pages)),
         }
     }
@@ -241,8 +239,8 @@ impl List {
         Ok(())
     }
 
-    /// Cuts the call after j of its sectors. The table sector of a save is its last, so
-    /// it was kept if the call has sectors and all were kept.
+    /// Cuts the call after j of its sectors. The table sector of a commit or a
+    /// closing is its last, so it was kept if it has sectors and all were kept.
     fn cut(&mut self, attempt: &Attempt, made: &Made, j: usize, random: &mut Random) {
         let (told, torn) = made.torn_bytes(random, j);
         let cut = format!("cut after {j} of {}, {told}", made.sectors);
@@ -310,7 +308,6 @@ fn call_for_a_large_save(random: &mut Random, size: usize) -> Call {
     match random.below(8) {
         0..=4 => Call::Write(random.below(size) as u32),
         5 => Call::ClosePacket,
-        6 => Call::GoBack(random.below(3) as u32),
         _ => Call::Commit,
     }
 }

@@ -132,28 +132,9 @@ fn chain(disc: &mut FullSize) {
     assert_eq!(disc.call(Call::Commit), refused(14));
     assert_eq!(disc.call(Call::CommitAt), refused(14));
     assert_eq!(disc.call(CLOSE), refused(14));
-    assert_eq!(disc.call(Call::GoBack(SECTORS - 1)), refused(14));
-    assert_eq!(disc.call(Call::GoBack(SECTORS)), refused(9));
-    assert_eq!(disc.call(Call::GoBack(NONE)), refused(9));
     assert_eq!(disc.call(Call::Release(0)), refused(10));
     assert_eq!(disc.call(Call::Read(0)), refused(10));
     assert_eq!(disc.call(Call::ClosePacket), done(0));
-    gone_back_along(disc);
-}
-
-/// With the last sector blank again: to the oldest of 359,999 tables, as deep as there is
-/// room for one more.
-fn gone_back_along(disc: &mut FullSize) {
-    disc.kinds()[MOST_SECTORS - 1] = 0;
-    assert_eq!(disc.call(Call::Mount), done(1));
-    disc.lend_ledger(|volume| volume.mode = 1);
-    assert_eq!(disc.call(Call::GoBack(SECTORS - 1)), refused(9));
-    let oldest = Call::GoBack(SECTORS - 2);
-    assert_eq!(disc.call(oldest), done(SECTORS - 1));
-    disc.assert_kept_up();
-    assert_eq!(disc.call(oldest), refused(14));
-    disc.put_sector(SECTORS - 1, &link_of_the_chain(SECTORS - 1));
-    assert_eq!(disc.call(Call::Mount), done(1));
 }
 
 fn link_of_the_chain(block: u32) -> [u8; SECTOR] {
@@ -168,9 +149,6 @@ fn link_of_the_chain(block: u32) -> [u8; SECTOR] {
 /// The oldest table cannot be read: the last step names no table.
 fn broken_chain(disc: &mut FullSize) {
     disc.kinds()[0] = UNREADABLE;
-    assert_eq!(disc.call(Call::GoBack(SECTORS - 2)), refused(14));
-    assert_eq!(disc.call(Call::GoBack(SECTORS - 1)), refused(8));
-    assert_eq!(disc.call(Call::GoBack(NONE)), refused(8));
     assert_eq!(disc.call(Call::LookBack(SECTORS - 2)), done(1));
     assert_eq!(disc.call(Call::LookBack(SECTORS - 1)), refused(8));
     assert_eq!(disc.call(Call::LookBack(NONE)), refused(8));

@@ -102,16 +102,12 @@ fn shown(disc: &mut FullSize, map: &[u32]) {
     for call in [Call::Write(0), Call::Commit, Call::CommitAt, CLOSE] {
         assert_eq!(disc.call(call), refused(14));
     }
-    assert_eq!(disc.call(Call::GoBack(SAVES - 1)), refused(14));
-    assert_eq!(disc.call(Call::GoBack(SAVES)), refused(9));
 }
 
 /// One own sector is lost: of one save, and of all.
 fn broken(disc: &mut FullSize) {
     let lost = table_of(99) - 1;
     disc.kinds()[lost as usize] = UNREADABLE;
-    assert_eq!(disc.call(Call::GoBack(SAVES - 101)), refused(14));
-    assert_eq!(disc.call(Call::GoBack(SAVES - 100)), refused(8));
     assert_eq!(disc.call(Call::LookBack(SAVES - 101)), done(table_of(100)));
     assert_eq!(disc.call(Call::LookBack(SAVES - 100)), refused(8));
     assert_eq!(disc.call(Call::LookBack(NONE)), refused(8));
@@ -121,25 +117,6 @@ fn broken(disc: &mut FullSize) {
     assert_eq!(disc.call(Call::TimeOf(0)), refused(7));
     assert_eq!(disc.call(Call::Begin), done(0));
     disc.kinds()[3] = DATA;
-}
-
-/// With the last 600 sectors blank again: the oldest save and the newest in turn. Each of
-/// them changes the eighth own sector, and so the roles of the blocks that it names.
-fn gone_back_with(disc: &mut FullSize) {
-    let recorded = SECTORS - 600;
-    let saves = recorded / EACH;
-    disc.kinds()[recorded as usize..].fill(0);
-    assert_eq!(disc.call(Call::Mount), done(1));
-    assert_eq!(disc.call(Call::WriteUnnumbered), done(recorded + 7));
-    assert_eq!(disc.call(Call::Write(4086)), done(recorded + 8));
-    assert_eq!(disc.call(Call::GoBack(saves)), refused(9));
-    assert_eq!(disc.call(Call::GoBack(saves - 1)), done(recorded + 10));
-    disc.assert_kept_up();
-    assert_eq!(disc.call(Call::GoBack(1)), done(recorded + 12));
-    disc.assert_kept_up();
-    assert_eq!(disc.call(Call::GoBack(saves / 2)), done(recorded + 14));
-    disc.assert_kept_up();
-    assert_eq!(disc.call(Call::LookBack(saves + 2)), done(table_of(0)));
 }
 
 /// With the last 600 sectors blank again: saves of which each records the own sectors in
@@ -197,7 +174,6 @@ fn thirty_thousand_saves() {
         (_, 11) if block < SECTORS => icb(block / EACH),
         _ => [0; SECTOR],
     });
-    gone_back_with(&mut disc);
     gone_on_with(&mut disc);
     println!("{} calls compared on {SAVES} saves", disc.compared);
 }

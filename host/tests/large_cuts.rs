@@ -129,22 +129,6 @@ fn the_largest_save_behind_links() {
     tell_compared("the_largest_save_behind_links");
 }
 
-/// Going back to the save before it, whose eight own sectors are others, behind links.
-#[test]
-fn going_back_from_the_largest_save() {
-    let mut booked = Booked::with_written(8);
-    booked.call(Call::Commit, &[]);
-    booked.call(Call::Write(5), &[0x5C; SECTOR]);
-    cut_after_each(&booked, Call::GoBack(1), &[], 9);
-    cut_after_each(&booked, Call::GoBack(0), &[], 2);
-    booked.call(Call::ClosePacket, &[]);
-    cut_after_each(&booked, Call::GoBack(1), &[], 16);
-    booked.call(Call::GoBack(1), &[]);
-    booked.call(Call::Write(6), &[0x6C; SECTOR]);
-    cut_after_each(&booked, Call::GoBack(1), &[], 9);
-    tell_compared("going_back_from_the_largest_save");
-}
-
 /// Each number of own sectors that are recorded, without links.
 #[test]
 fn saves_that_name_some_again() {

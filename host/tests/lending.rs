@@ -25,7 +25,7 @@ fn resized(bytes: &[u8], length: usize) -> Vec<u8> {
     resized
 }
 
-/// All fourteen calls.
+/// All thirteen calls.
 fn calls() -> impl Iterator<Item = Call> {
     let telling = [Call::Read(0), Call::TimeOf(0), VIEW];
     KEEPING.into_iter().chain(telling)
@@ -33,7 +33,7 @@ fn calls() -> impl Iterator<Item = Call> {
 
 const VIEW: Call = Call::View { v: 0, offset: 0 };
 
-/// All fourteen calls with the station's buffers at each length; a kind that no
+/// All thirteen calls with the station's buffers at each length; a kind that no
 /// disc has, or a spoiled ledger, shows that the refusal tested first is given.
 fn at_each_length(station: &Station) {
     for image in lengths(station.image.len()) {

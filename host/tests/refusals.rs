@@ -252,82 +252,6 @@ fn look_back() {
     tell_compared("look_back");
 }
 
-/// Of going back "7, 8, 9 and 14 apply, in that order, after" 17 (document 02): each also
-/// where there is no room. It reads the ledger, so 4 and 5 come before.
-#[test]
-fn go_back() {
-    let gone = |station: &Station, k| outcome(station, Call::GoBack(k), &[]);
-    let mut station = saved(30);
-    assert_eq!(station.call(Call::Commit), done(2));
-    assert_eq!(station.call(Call::Commit), done(3));
-    assert_eq!(
-        [0, 1, 2, 3, NONE].map(|k| gone(&station, k)),
-        [0, 0, 0, 9, 9]
-    );
-    for k in [0, 2, 3, NONE] {
-        earlier_refusals_win(station.clone(), Call::GoBack(k), &[]);
-    }
-    let mut full = station.clone();
-    full.shorten(4);
-    assert_eq!(
-        [0, 1, 2, 3, NONE].map(|k| gone(&full, k)),
-        [14, 14, 14, 9, 9]
-    );
-    for k in [0, 2, 3, NONE] {
-        earlier_refusals_win(full.clone(), Call::GoBack(k), &[]);
-    }
-    for mut broken in [station.clone(), full.clone()] {
-        let at_newest = if broken.kinds.len() == 4 { 14 } else { 0 };
-        broken.kinds[2] = UNREADABLE;
-        let expected = [at_newest, 8, 8, 8, 8];
-        assert_eq!([0, 1, 2, 3, NONE].map(|k| gone(&broken, k)), expected);
-        for k in [1, 3] {
-            earlier_refusals_win(broken.clone(), Call::GoBack(k), &[]);
-        }
-    }
-    for mut bare in [station, full] {
-        bare.kinds[..4].fill(LINK);
-        bare.change(|volume| (volume.last_vat, volume.mode) = (NONE, 0));
-        for k in [0, 1, NONE] {
-            assert_eq!(gone(&bare, k), 7);
-            earlier_refusals_win(bare.clone(), Call::GoBack(k), &[]);
-        }
-    }
-    tell_compared("go_back");
-}
-
-/// A ledger whose last table is gone does not fit: 4, before 7.
-#[test]
-fn go_back_without_the_ledgers_table() {
-    let mut station = saved(30);
-    station.kinds[1] = UNREADABLE;
-    station.change(|volume| volume.mode = 0);
-    assert_eq!(outcome(&station, Call::GoBack(0), &[]), 4);
-    station.change(|volume| volume.last_vat = NONE);
-    assert_eq!(outcome(&station, Call::GoBack(0), &[]), 7);
-    tell_compared("go_back_without_the_ledgers_table");
-}
-
-/// Going back needs what a commit of that map needs: links and a table, to the sector.
-#[test]
-fn go_back_with_room_to_the_sector() {
-    let mut station = saved(30);
-    assert_eq!(station.write(1, &BLOCK), done(2));
-    assert_eq!(station.call(Call::Commit), done(3));
-    for (mode, needed) in [(1, 1), (0, 8)] {
-        station.change(|volume| volume.mode = mode);
-        for blank in 0..12 {
-            let mut short = station.clone();
-            short.shorten(4 + blank);
-            for k in [0, 1] {
-                let expected = if blank < needed { 14 } else { 0 };
-                assert_eq!(outcome(&short, Call::GoBack(k), &[]), expected);
-            }
-        }
-    }
-    tell_compared("go_back_with_room_to_the_sector");
-}
-
 /// 16 is tested "after 9 when asking" (document 02), of the one table that k
 /// names; so 7, 8 and 9 come before it.
 #[test]
@@ -395,19 +319,9 @@ fn closed_disc() {
         (Call::CommitAt, &NO_STAMP),
         (CLOSE, &[]),
         (Call::CloseSession(starting(400_001)), &[]),
-        (Call::GoBack(0), &[]),
-        (Call::GoBack(1), &[]),
-        (Call::GoBack(2), &[]),
-        (Call::GoBack(NONE), &[]),
     ] {
         assert_eq!(outcome(&station, call, buffer), 17, "{call:?}");
         earlier_refusals_win(station.clone(), call, buffer);
-    }
-    // Before 8 too: the save before the closing is no table any more.
-    let mut broken = station.clone();
-    broken.kinds[1] = UNREADABLE;
-    for k in [0, 1, NONE] {
-        assert_eq!(outcome(&broken, Call::GoBack(k), &[]), 17);
     }
     for (call, buffer, expected) in [
         (Call::Begin, &[][..], 6),

@@ -6,7 +6,6 @@ mod common;
 
 use common::built::BLOCK;
 use common::closing::{CLOSE, CLOSING};
-use common::large::Large;
 use common::pair::{tell_compared, Pair};
 use common::roles::assert_roles;
 use common::stamps::HALF_PAST;
@@ -124,58 +123,6 @@ fn an_earlier_map() {
     station.call(Call::LookBack(1));
     station.call(Call::Mount);
     assert_roles(&station, "13003");
-}
-
-/// "Going back is no start": what the map names again is in use, what it no longer names
-/// is superseded, and what has no number keeps to that until a mount.
-#[test]
-fn going_back() {
-    let mut station = Station::begun(60);
-    station.write(0, &BLOCK);
-    station.write(1, &BLOCK);
-    station.call(Call::Commit);
-    station.write(0, &BLOCK);
-    station.write_unnumbered(&BLOCK);
-    station.write(2, &BLOCK);
-    station.call(Call::Commit);
-    station.call(Call::Release(1));
-    station.write(2, &BLOCK);
-    assert_roles(&station, "11302130");
-    assert_eq!(station.call(Call::GoBack(1)), done(8));
-    assert_roles(&station, "003121313");
-    assert_eq!(station.call(Call::GoBack(1)), done(9));
-    assert_roles(&station, "1030203133");
-    assert_eq!(station.call(Call::GoBack(0)), done(10));
-    assert_roles(&station, "10302031333");
-    assert_eq!(station.call(Call::Mount), done(1));
-    assert_roles(&station, "10301031333");
-    assert_eq!(station.call(Call::GoBack(3)), done(18));
-    assert_roles(&station, &format!("10301031333{LINKS}3"));
-    assert_eq!(station.call(Call::GoBack(5)), done(19));
-    assert_roles(&station, &format!("00311131333{LINKS}33"));
-    tell_compared("going_back");
-}
-
-/// An earlier save of another deck names a link, an unreadable sector, a table, an own
-/// sector of the newest one, and one block twice: "sectors that a table names stay table".
-#[test]
-fn going_back_to_what_is_no_data() {
-    let mut station = Station::blank(60);
-    for (block, kind) in (0..).zip([DATA, LINK, UNREADABLE, DATA, DATA, DATA]) {
-        station.put_sector(block, kind, &BLOCK);
-    }
-    station.put_sector(5, DATA, &vat_sector(5, &[], NONE));
-    let older = [1, 2, 5, 3, 4, 4];
-    station.put_sector(6, DATA, &vat_sector(6, &older, 5));
-    Large::lying_in(&[3], 7, &[0, 0], 6).put(&mut station);
-    assert_eq!(station.call(Call::Mount), done(1));
-    assert_roles(&station, "04531333");
-    assert_eq!(station.call(Call::GoBack(1)), done(15));
-    assert_roles(&station, &format!("14530333{LINKS}3"));
-    assert_eq!(station.volume().entries(), older);
-    assert_eq!(station.call(Call::GoBack(1)), done(16));
-    assert_roles(&station, &format!("04531333{LINKS}33"));
-    tell_compared("going_back_to_what_is_no_data");
 }
 
 /// What was written and not saved is superseded after a mount.

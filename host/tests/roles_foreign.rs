@@ -63,9 +63,6 @@ struct Reach {
     of_an_own_sector: usize,
     /// A foreign table named a block without a number, or a closing's.
     named_unnumbered: usize,
-    /// Going back took a superseded block into use, and let go of one.
-    named_again: usize,
-    gone_from: usize,
     closed: usize,
 }
 
@@ -77,8 +74,6 @@ impl Reach {
             self.superseded,
             self.of_an_own_sector,
             self.named_unnumbered,
-            self.named_again,
-            self.gone_from,
         ];
         self.closed > 20 && met.iter().chain(&kinds).all(|count| *count > 300)
     }
@@ -97,18 +92,6 @@ impl Reach {
             _ if after.volume().names(block) => self.still_named += 1,
             _ => self.superseded += 1,
         }
-    }
-}
-
-impl Reach {
-    /// Counts what going back made of the roles.
-    fn count_gone(&mut self, before: &Before, after: &Station) {
-        let changed = |from: u8, to: u8| {
-            let mut roles = before.roles.iter().zip(&after.roles);
-            usize::from(roles.any(|(old, new)| (*old, *new) == (from, to)))
-        };
-        self.named_again += changed(1, 0);
-        self.gone_from += changed(0, 1);
     }
 }
 
@@ -186,7 +169,7 @@ fn call(random: &mut Random, station: &Station) -> Call {
     if station.volume().mode == READ_ONLY && random.one_in(2) {
         return Call::Mount;
     }
-    match random.below(27) {
+    match random.below(24) {
         0..=6 => Call::Release(random.below(size + 1) as u32),
         7..=12 => Call::Write(random.below(size + 1) as u32),
         13..=16 => Call::WriteUnnumbered,
@@ -195,7 +178,6 @@ fn call(random: &mut Random, station: &Station) -> Call {
         20 => Call::CommitAt,
         21 => Call::LookBack(random.below(4) as u32),
         22 => Call::Mount,
-        23..=25 => Call::GoBack(random.below(5) as u32),
         _ => CLOSE,
     }
 }
@@ -223,9 +205,6 @@ fn list(case: usize, reach: &mut Reach) {
         if pair.call(call, &buffer).is_done() {
             reach.count(before.let_go(call), pair.station());
             reach.closed += usize::from(call == CLOSE);
-            if matches!(call, Call::GoBack(_)) {
-                reach.count_gone(&before, pair.station());
-            }
         }
     }
 }
@@ -251,16 +230,9 @@ fn may_follow(before: &Before, call: Call, answer: Answer, after: &Station) -> b
     if call.scans() {
         return after.roles == Since::default().roles(&after.disc(), &after.volume());
     }
-    let volume = after.volume();
-    let is_renamed = |block: usize| {
-        let named = volume.names(block as u32);
-        let (from, to) = if named { (1, 0) } else { (0, 1) };
-        before.roles[block] == from && after.roles[block] == to
-    };
     let is_named = |block: usize| {
         let is_recorded = before.kinds[block] == BLANK && after.kinds[block] != BLANK;
-        let is_gone = matches!(call, Call::GoBack(_)) && is_renamed(block);
-        is_recorded || is_gone || before.let_go(call) == Some(block as u32)
+        is_recorded || before.let_go(call) == Some(block as u32)
     };
     let mut blocks = 0..after.roles.len();
     blocks.all(|block| is_named(block) || after.roles[block] == before.roles[block])
@@ -291,8 +263,8 @@ fn junk_lent_as_roles() {
 }
 
 /// One byte throughout, each of the 256, before each call on a station where it is
-/// done: the role of a sector that is recorded is set whatever it was, that of one that
-/// is let go if it was in use, and that of one named again if it was superseded.
+/// done: the role of a sector that is recorded is set whatever it was, and that of one
+/// that is let go if it was in use.
 #[test]
 fn every_byte_lent_as_a_role() {
     let mut station = disc_with_room(&mut Random::of_case(0));
@@ -300,10 +272,7 @@ fn every_byte_lent_as_a_role() {
         station.call(Call::Begin);
     }
     station.write(0, beside(Call::Write(0)));
-    assert!(station.call(Call::Commit).is_done());
-    station.write(0, beside(Call::Write(0)));
     station.write(1, beside(Call::Write(1)));
-    assert!(station.call(Call::Commit).is_done());
     let mut pair = Pair::holding(&station);
     for byte in 0..=255 {
         for call in [Call::Write(0), Call::Release(1), Call::WriteUnnumbered] {
@@ -311,14 +280,7 @@ fn every_byte_lent_as_a_role() {
             assert!(pair.call(call, beside(call)).is_done());
             pair.take_back(&station);
         }
-        for call in [
-            Call::Commit,
-            Call::CommitAt,
-            Call::ClosePacket,
-            Call::Mount,
-            Call::GoBack(0),
-            Call::GoBack(1),
-        ] {
+        for call in [Call::Commit, Call::CommitAt, Call::ClosePacket, Call::Mount] {
             pair.lend_roles(&vec![byte; station.kinds.len()]);
             pair.call(call, beside(call));
             pair.take_back(&station);

@@ -1,5 +1,5 @@
 //! "a lent role buffer of another length than the kinds gives 2" (document 02): each
-//! of the eleven calls with roles of other lengths, alone and beside what else is wrong.
+//! of the ten calls with roles of other lengths, alone and beside what else is wrong.
 
 mod common;
 
@@ -37,7 +37,7 @@ fn with_roles(pair: &mut Pair, call: Call, length: usize) -> u32 {
 }
 
 #[test]
-fn each_of_the_eleven() {
+fn each_of_the_ten() {
     for call in KEEPING {
         let station = station_for(call);
         let right = station.kinds.len();
@@ -47,7 +47,7 @@ fn each_of_the_eleven() {
         }
         assert_eq!(with_roles(&mut pair, call, right), 0, "{call:?}");
     }
-    tell_compared("each_of_the_eleven");
+    tell_compared("each_of_the_ten");
 }
 
 /// Every length up to beyond the right one, on a disc of one sector and on others.

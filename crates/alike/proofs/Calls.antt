@@ -3,7 +3,7 @@
 -- Assumes nothing.
 use Prim.Native.Nat.{ℕ, zero, suc, ◌+◌}
 use mathlib.Core.Path.{◌≡◌, refl, sym, ap, ◌∙◌, subst, subst₂}
-use mathlib.Core.Bool.{Bool, true, false, not, ◌||◌}
+use mathlib.Core.Bool.{Bool, true, not, ◌||◌}
 use mathlib.Core.List.{List, [], ◌∷◌, ◌++◌}
 use mathlib.Core.Option.{Option, some}
 use lib.Dec.{eqb, ltb}
@@ -15,7 +15,7 @@ use Rattle.vat.specs.Sector.{no_stamp, table_bytes}
 use Rattle.anchor.specs.Anchor.{farthest_start, anchor_tagged}
 use Rattle.disc.specs.Disc.{Disc, recorded, Sector, link, puts}
 use Rattle.disc.specs.declared.Walk.{Walk}
-use Rattle.disc.specs.declared.Walk.TheVariants.{Reached, Broken, Ended}
+use Rattle.disc.specs.declared.Walk.TheVariants.{Reached}
 use Rattle.disc.specs.Tables.{table_at, map_at, named_by, newest, block_found}
 use Rattle.disc.specs.Session.{closing, closing_length}
 use Rattle.disc.specs.Again.{fresh_of}
@@ -26,12 +26,12 @@ use Rattle.disc.proofs.Save.{save-same}
 use Rattle.disc.proofs.Recording.{AllWhole}
 use Rattle.volume.specs.declared.Volume.{Volume}
 use Rattle.volume.specs.Volume.{idle, read_only, unpack, pack, map_of, begun, filled, committed}
-use Rattle.recorder.specs.Calls.{Call, begin, mount, write, release, close_packet, commit, close_session, read, look_back, time_of, go_back, stamp_of, stamp_buffer, buffer_of}
-use Rattle.recorder.specs.Refusals.{Test, test, or_else, first, links, target, reserve, basic, ledger_lent, block_lent, stamp_lent, answer_lent, unfit, gate, forbidden_at, number_tests, stamp_wrong, no_room, no_commit_room, block_of, not_in_use, is_some, walked, block_reached, gone, is_broken, is_ended, walk_tests, tests, outcome}
-use Rattle.recorder.specs.Effects.{Effect, settles, saved, commits, closing_first, clean_number, effect, settled, after, if_done, sectors_if, second_number, sectors_of}
+use Rattle.recorder.specs.Calls.{Call, begin, mount, write, release, close_packet, commit, close_session, read, look_back, time_of, stamp_of, stamp_buffer, buffer_of}
+use Rattle.recorder.specs.Refusals.{test, first, links, target, reserve, basic, ledger_lent, block_lent, stamp_lent, answer_lent, unfit, gate, forbidden_at, number_tests, stamp_wrong, no_room, block_of, not_in_use, is_some, walked, is_broken, is_ended, walk_tests, tests, outcome}
+use Rattle.recorder.specs.Effects.{Effect, settles, saved, closing_first, block_reached, clean_number, effect, settled, after, if_done, sectors_if, second_number, sectors_of}
 use Rattle.alike.specs.Alike.{Alike, SameCall}
 use Rattle.recorder.proofs.Done.{mount-done, look-back-done, read_done}
-use Rattle.recorder.proofs.Gone.{walked-table, GoneDone, go-back-done}
+use Rattle.recorder.proofs.Answers.{walked-table}
 use Rattle.history.proofs.Recorded.{effect-whole}
 use Rattle.alike.proofs.Discs.{alike-puts, same-recorded, same-sized, same-order, same-blanks, same_kind, same-content, same-newest, same_map, same-walked, same-time, same-fits, same-closed}
 
@@ -42,19 +42,6 @@ sectors-whole d l c = go (outcome d l c) refl
     go : (o : ℕ) → outcome d l c ≡ o → AllWhole (sectors_if o (effect d l c).sectors)
     go zero z = effect-whole d l c z
     go (suc n) z = tt
-
--- tests behind others count only where none of these applies
-same-behind : (ts us vs : List Test) → first us ≡ first vs → first (ts ++ us) ≡ first (ts ++ vs)
-unfolding first
-same-behind [] us vs h = h
-same-behind (t ∷ ts) us vs h = ap (or_else t.applies t.number) (same-behind ts us vs h)
-
-stopped : (seven eight nine : Bool) (us vs : List Test) → (eight || nine) ≡ true → first (test 7 seven ∷ test 8 eight ∷ test 9 nine ∷ us) ≡ first (test 7 seven ∷ test 8 eight ∷ test 9 nine ∷ vs)
-unfolding first
-stopped true eight nine us vs h = refl
-stopped false true nine us vs h = refl
-stopped false false true us vs h = refl
-stopped false false false us vs h = absurd (mathlib.Core.Bool.false≢true h)
 
 module _ {d e : Disc} (a : Alike d e) where
   pub same-basic : (lengths : Bool) → basic d lengths ≡ basic e lengths
@@ -73,25 +60,26 @@ module _ {d e : Disc} (a : Alike d e) where
   same-room v p = λ i. test 14 (ltb (same-blanks a i) (links v + p i))
 
   -- the sectors of a save, behind what it puts first, and the own sectors among them: the table named as previous names the same blocks, which read the same
-  same-save : (v : Volume) (stamp : List ℕ) (b : ℕ) → let t : List ℕ = table_bytes (map_of v) v.last in
+  same-save : (l : List ℕ) (stamp : List ℕ) (b : ℕ) → let v : Volume = unpack l in
+      let t : List ℕ = table_bytes (map_of v) v.last in
       (save_sectors e t v.last stamp b ≡ save_sectors d t v.last stamp b) × (fresh_of e t v.last ≡ fresh_of d t v.last)
-  same-save v stamp b =
+  same-save l stamp b =
+      let v : Volume = unpack l in
       save-same d e (table_bytes (map_of v) v.last) v.last (names_same d e v.last (λ c h. same-content a c) (same-content a v.last))
       (same-everywhere d e (same-content a) (named_by d v.last)) stamp b
 
-  same-sectors : (v : Volume) (stamp : List ℕ) (b : ℕ) → let t : List ℕ = table_bytes (map_of v) v.last in save_sectors d t v.last stamp b ≡ save_sectors e t v.last stamp b
-  same-sectors v stamp b = sym (same-save v stamp b).0
+  same-sectors : (l : List ℕ) (stamp : List ℕ) (b : ℕ) → let v : Volume = unpack l in
+      let t : List ℕ = table_bytes (map_of v) v.last in save_sectors d t v.last stamp b ≡ save_sectors e t v.last stamp b
+  same-sectors l stamp b = sym (same-save l stamp b).0
 
-  same-commit-room : (v : Volume) (stamp : List ℕ) → no_commit_room d v stamp ≡ no_commit_room e v stamp
-  same-commit-room v stamp = same-room v (ap length (same-sectors v stamp (target v)))
+  same_first : (l : List ℕ) (main reserve : Extent) (start : ℕ) → closing_first d (unpack l) main reserve start ≡ closing_first e (unpack l) main reserve start
+  same_first l main reserve start = ap (λ (ss : List (List ℕ)). closing main reserve start (target (unpack l)) (length ss)) (sym (same-save l no_stamp 0).1)
 
-  same_first : (v : Volume) (main reserve : Extent) (start : ℕ) → closing_first d v main reserve start ≡ closing_first e v main reserve start
-  same_first v main reserve start = ap (λ (ss : List (List ℕ)). closing main reserve start (target v) (length ss)) (sym (same-save v no_stamp 0).1)
-
-  same-saved : (v : Volume) (first : List Sector) (stamp buffer : List ℕ) → saved d v (map_of v) v.last first stamp buffer ≡ saved e v (map_of v) v.last first stamp buffer
-  same-saved v first stamp buffer = λ i.
+  same-saved : (l : List ℕ) (first : List Sector) (stamp buffer : List ℕ) → let v : Volume = unpack l in saved d v (map_of v) v.last first stamp buffer ≡ saved e v (map_of v) v.last first stamp buffer
+  same-saved l first stamp buffer = λ i.
+      let v : Volume = unpack l in
       let at : ℕ = target v + length first in
-      let save : List Sector = same-sectors v stamp at i in
+      let save : List Sector = same-sectors l stamp at i in
       record {
         second = last_block at save;
         sectors = replicate (links v) link ++ (first ++ save);
@@ -102,77 +90,50 @@ module _ {d e : Disc} (a : Alike d e) where
   same-forbidden : (b : ℕ) (block : List ℕ) → forbidden_at d b block ≡ forbidden_at e b block
   same-forbidden b block = ap (λ (lower : Lower). is_table lower block b || anchor_tagged block b) (sym (below-same d e b (λ c h. same-content a c)))
 
-  -- the map of the table that a walk reaches, and the state that going back then makes of a ledger's
-  reached-map : (k b : ℕ) → walked d k ≡ Reached b → map_at d (block_reached (walked d k)) ≡ map_at e (block_reached (walked e k))
-  reached-map k b n =
-      let table : table_at d (block_reached (walked d k)) ≡ true = ap (λ (w : Walk). table_at d (block_reached w)) n ∙ walked-table d k b n in
-      same_map a (block_reached (walked d k)) table ∙ ap (λ (w : Walk). map_at e (block_reached w)) (same-walked a k)
-
-  same-gone : (k b : ℕ) (v : Volume) → walked d k ≡ Reached b → gone d k v ≡ gone e k v
-  unfolding gone
-  same-gone k b v n = λ i. filled (reached-map k b n i) (block_found (same-newest a i)) v.recorded v.mode
-
-  -- of a walk that fails no bytes are read: 8 or 9 comes first
-  same-go-back : (l : List ℕ) (k : ℕ) → outcome d l (go_back k) ≡ outcome e l (go_back k)
-  unfolding outcome tests
-  same-go-back l k =
-      (λ i. first (same-basic (ledger_lent l) i ++ (same-gate l i ++ (same-walk k i ++ (no_commit_room d (gone d k (unpack l)) no_stamp ∷ [])))))
-      ∙ go (walked d k) refl
-    where
-      room : Disc → List Test
-      room x = no_commit_room x (gone x k (unpack l)) no_stamp ∷ []
-
-      failed : (w : Walk) → walked d k ≡ w → (is_broken w || is_ended w) ≡ true
-          → first (basic e (ledger_lent l) ++ (gate e l ++ (walk_tests e k ++ room d))) ≡ first (basic e (ledger_lent l) ++ (gate e l ++ (walk_tests e k ++ room e)))
-      failed w n fails =
-          let applies : (is_broken (walked e k) || is_ended (walked e k)) ≡ true = ap (λ (x : Walk). is_broken x || is_ended x) (sym (same-walked a k) ∙ n) ∙ fails in
-          same-behind (basic e (ledger_lent l)) (gate e l ++ (walk_tests e k ++ room d)) (gate e l ++ (walk_tests e k ++ room e))
-          (same-behind (gate e l) (walk_tests e k ++ room d) (walk_tests e k ++ room e) (stopped (not (is_some (newest e))) (is_broken (walked e k)) (is_ended (walked e k)) (room d) (room e) applies))
-
-      go : (w : Walk) → walked d k ≡ w
-          → first (basic e (ledger_lent l) ++ (gate e l ++ (walk_tests e k ++ room d))) ≡ first (basic e (ledger_lent l) ++ (gate e l ++ (walk_tests e k ++ room e)))
-      go (Reached b) n =
-          ap (λ (t : Test). first (basic e (ledger_lent l) ++ (gate e l ++ (walk_tests e k ++ (t ∷ [])))))
-          (same-commit-room (gone d k (unpack l)) no_stamp ∙ ap (λ (v : Volume). no_commit_room e v no_stamp) (same-gone k b (unpack l) n))
-      go Broken n = failed Broken n refl
-      go Ended n = failed Ended n refl
-
-  pub same_outcome : (l : List ℕ) (c : Call) → outcome d l c ≡ outcome e l c
-  unfolding outcome tests
-  same_outcome l begin = λ i. first (same-basic (ledger_lent l) i ++ (test 6 (is_some (same-newest a i)) ∷ []))
-  same_outcome l mount = λ i. first (same-basic (ledger_lent l) i ++ (test 7 (not (is_some (same-newest a i))) ∷ []))
-  same_outcome l (write n block) = λ i.
-      first
-      (same-basic (block_lent l block) i
+  same_tests : (l : List ℕ) (c : Call) → tests d l c ≡ tests e l c
+  unfolding tests
+  same_tests l begin = λ i. same-basic (ledger_lent l) i ++ (test 6 (is_some (same-newest a i)) ∷ [])
+  same_tests l mount = λ i. same-basic (ledger_lent l) i ++ (test 7 (not (is_some (same-newest a i))) ∷ [])
+  same_tests l (write n block) = λ i.
+      same-basic (block_lent l block) i
       ++ (same-gate l i
       ++ (number_tests (unpack l) n
       ++ (test 14 (ltb (same-blanks a i) (links (unpack l) + 1 + reserve (length (a.same-kinds i))))
       ∷ test 15 (same-forbidden (target (unpack l)) block i)
-      ∷ []))))
-  same_outcome l (release n) = λ i. first (same-basic (ledger_lent l) i ++ (same-gate l i ++ (test 10 (not_in_use (unpack l) n) ∷ [])))
-  same_outcome l close_packet = λ i. first (same-basic (ledger_lent l) i ++ same-gate l i)
-  same_outcome l (commit stamp) = λ i.
-      first (same-basic (stamp_lent l stamp) i ++ (same-gate l i ++ (test 16 (stamp_wrong stamp) ∷ same-commit-room (unpack l) (stamp_of stamp) i ∷ [])))
-  same_outcome l (close_session main reserve start) = λ i.
-      first (same-basic (ledger_lent l) i ++ (same-gate l i ++ (test 18 (ltb farthest_start start) ∷ same-room (unpack l) {m = closing_length + 1} refl i ∷ [])))
-  same_outcome l (read n block) = λ i.
-      first
-      (same-basic (block_lent l block) i
+      ∷ [])))
+  same_tests l (release n) = λ i. same-basic (ledger_lent l) i ++ (same-gate l i ++ (test 10 (not_in_use (unpack l) n) ∷ []))
+  same_tests l close_packet = λ i. same-basic (ledger_lent l) i ++ same-gate l i
+  same_tests l (commit stamp) = λ i.
+      same-basic (stamp_lent l stamp) i ++ (same-gate l i ++ (test 16 (stamp_wrong stamp) ∷ same-room (unpack l) (ap length (same-sectors l (stamp_of stamp) (target (unpack l)))) i ∷ []))
+  same_tests l (close_session main reserve start) = λ i.
+      same-basic (ledger_lent l) i ++ (same-gate l i ++ (test 18 (ltb farthest_start start) ∷ same-room (unpack l) {m = closing_length + 1} refl i ∷ []))
+  same_tests l (read n block) = λ i.
+      same-basic (block_lent l block) i
       ++ (same-unfit l i
       ∷ test 10 (not_in_use (unpack l) n)
       ∷ test 11 (not (eqb (same_kind a (block_of (unpack l) n) i) 1))
-      ∷ []))
-  same_outcome l (look_back k) = λ i. first (same-basic (ledger_lent l) i ++ same-walk k i)
-  same_outcome l (time_of k answer) = λ i. first (same-basic (answer_lent l answer) i ++ (same-walk k i ++ (test 16 (not (valid (same-time a k i))) ∷ [])))
-  same_outcome l (go_back k) = same-go-back l k
+      ∷ [])
+  same_tests l (look_back k) = λ i. same-basic (ledger_lent l) i ++ same-walk k i
+  same_tests l (time_of k answer) = λ i. same-basic (answer_lent l answer) i ++ (same-walk k i ++ (test 16 (not (valid (same-time a k i))) ∷ []))
 
-  -- the map that a mount shows
+  pub same_outcome : (l : List ℕ) (c : Call) → outcome d l c ≡ outcome e l c
+  unfolding outcome
+  same_outcome l c = ap first (same_tests l c)
+
+  -- the map that a mount or a look back shows
   found_map : (l : List ℕ) → outcome d l mount ≡ 0 → map_at d (block_found (newest d)) ≡ map_at e (block_found (newest e))
   found_map l h =
       let b : ℕ = (mount-done d l h).1.0 in
       let n : newest d ≡ some b = (mount-done d l h).1.1 in
       let table : table_at d (block_found (newest d)) ≡ true = ap (λ (o : Option ℕ). table_at d (block_found o)) n ∙ newest-table (table_at d) (recorded d) b n in
       same_map a (block_found (newest d)) table ∙ ap (λ (o : Option ℕ). map_at e (block_found o)) (same-newest a)
+
+  reached-map : (l : List ℕ) (k : ℕ) → outcome d l (look_back k) ≡ 0 → map_at d (block_reached (walked d k)) ≡ map_at e (block_reached (walked e k))
+  reached-map l k h =
+      let b : ℕ = (look-back-done d l k h).1.0 in
+      let n : walked d k ≡ Reached b = (look-back-done d l k h).1.1 in
+      let table : table_at d (block_reached (walked d k)) ≡ true = ap (λ (w : Walk). table_at d (block_reached w)) n ∙ walked-table d k b n in
+      same_map a (block_reached (walked d k)) table ∙ ap (λ (w : Walk). map_at e (block_reached w)) (same-walked a k)
 
   same_effect : (l : List ℕ) (c : Call) → outcome d l c ≡ 0 → effect d l c ≡ effect e l c
   unfolding effect
@@ -183,11 +144,11 @@ module _ {d e : Disc} (a : Alike d e) where
   same_effect l (write n block) h = refl
   same_effect l (release n) h = refl
   same_effect l close_packet h = refl
-  same_effect l (commit stamp) h = same-saved (unpack l) [] (stamp_of stamp) (stamp_buffer stamp)
+  same_effect l (commit stamp) h = same-saved l [] (stamp_of stamp) (stamp_buffer stamp)
   same_effect l (close_session main reserve start) h =
       let v : Volume = unpack l in
-      same-saved v (closing_first d v main reserve start) no_stamp []
-      ∙ ap (λ (first : List Sector). saved e v (map_of v) v.last first no_stamp []) (same_first v main reserve start)
+      same-saved l (closing_first d v main reserve start) no_stamp []
+      ∙ ap (λ (first : List Sector). saved e v (map_of v) v.last first no_stamp []) (same_first l main reserve start)
   same_effect l (read n block) h = λ i.
       record {
         second = 0;
@@ -197,11 +158,8 @@ module _ {d e : Disc} (a : Alike d e) where
       }
   same_effect l (look_back k) h = λ i.
       settles (block_reached (same-walked a k i))
-      (pack (filled (reached-map k (look-back-done d l k h).1.0 (look-back-done d l k h).1.1 i) (block_reached (same-walked a k i)) (same-recorded a i) read_only))
+      (pack (filled (reached-map l k h i) (block_reached (same-walked a k i)) (same-recorded a i) read_only))
   same_effect l (time_of k answer) h = λ i. record { second = 0; sectors = []; ledger = l; buffer = told (same-time a k i) }
-  same_effect l (go_back k) h =
-      let f : GoneDone d l k = go-back-done d l k h in
-      same-saved (gone d k (unpack l)) [] no_stamp [] ∙ ap (λ (v : Volume). commits e v no_stamp []) (same-gone k f.block (unpack l) f.reached)
 
   -- what settles a call: its outcome, and if it is done its effect
   settled-alike : (l : List ℕ) (c : Call) (o : ℕ) → outcome d l c ≡ o

@@ -28,7 +28,7 @@ use Rattle.disc.proofs.Found.{newest-table}
 use Rattle.volume.specs.declared.Volume.{Volume}
 use Rattle.volume.specs.Volume.{fits}
 use Rattle.recorder.specs.Refusals.{walk_from, walked, time_reached, time_back}
-use Rattle.recorder.proofs.Gone.{walked-table}
+use Rattle.recorder.proofs.Answers.{walked-table}
 use Rattle.alike.specs.Alike.{Alike}
 
 pub alike_refl : (d : Disc) → Alike d d

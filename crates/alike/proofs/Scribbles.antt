@@ -18,8 +18,8 @@ use Rattle.alike.specs.Alike.{Alike, SameCall}
 use Rattle.alike.proofs.Discs.{alike_refl, alike-sym, alike-trans, same-recorded, alike-torn, alike-puts}
 use Rattle.alike.proofs.Calls.{sectors-whole}
 use Rattle.alike.proofs.Views.{mean-nothing}
-use Rattle.history.specs.History.{Entry, unused_entry, shows, Snapshot, History, Fed, answered, feed, page_back}
-use Rattle.history.specs.Events.{World, Event, calls, cuts, ledger_held, Allowed, torn_at, cut_disc, ledger_after, next, told, source_of, cut_if, fed, AllAllowed, runs, remembers, after_call, begun_history, mounted_history}
+use Rattle.history.specs.History.{Entry, unused_entry, shows, Snapshot, History, Fed, answered, feed}
+use Rattle.history.specs.Events.{World, Event, calls, cuts, ledger_held, Allowed, torn_at, cut_disc, ledger_after, next, told, cut_if, fed, AllAllowed, runs, remembers, after_call, begun_history, mounted_history}
 use Rattle.history.specs.Claim.{reading, Shows, DoneShowing, Mounts, Claim}
 use Rattle.alike.specs.Scribbles.{Happening, event, scribble, on_disc, AllHappen, ends, recalls, ScribbledPowerCuts}
 use Rattle.history.proofs.Theorem.{power-cuts}
@@ -64,7 +64,7 @@ module _ {d e : Disc} (a : Alike d e) (o : Option (List ℕ)) where
       λ i. answered (told c) (s.same_outcome i) (s.same_second i)
   fed-same (cuts c junk j tear) =
       let s : SameCall d e (ledger_held o junk) c = mean-nothing.calls d e a (ledger_held o junk) c in
-      λ i. cut_if (saves c) (source_of c) (told c) (eqb (s.same_outcome i) 0 && eqb j (length (s.same-sectors i)))
+      λ i. cut_if (saves c) (told c) (eqb (s.same_outcome i) 0 && eqb j (length (s.same-sectors i)))
 
   allowed_same : (v : Event) → Allowed (record { disc = d; ledger = o }) v → Allowed (record { disc = e; ledger = o }) v
   allowed_same (calls c junk) f = λ n z. f n ((mean-nothing.calls d e a junk c).same_outcome ∙ z.0, z.1)
@@ -139,7 +139,6 @@ module _ {d e : Disc} (a : Alike d e) where
       record {
         mounts = λ l long. mounts-alike l h.pages (c.mounts l long);
         looks = λ l long k below. done-alike l (look_back k) (get_or h.pages k []) (c.looks l long k below);
-        shows-back = λ l long k z. done-alike l (look_back k) (page_back h.pages h.older k) (c.shows-back l long k ((mean-nothing.calls d e a l (look_back k)).same_outcome ∙ z));
       }
 
 -- ---- events between which such bytes change

@@ -21,7 +21,7 @@ use Rattle.recorder.specs.Calls.{begin, mount, look_back}
 use Rattle.recorder.specs.Refusals.{block_of, walk_from, walked}
 use Rattle.recorder.specs.Effects.{after, shown_at}
 use Rattle.recorder.proofs.Done.{ledger-accepted, look-back-done}
-use Rattle.recorder.proofs.Gone.{walked-table}
+use Rattle.recorder.proofs.Answers.{walked-table}
 use Rattle.history.specs.History.{History}
 use Rattle.history.specs.Events.{World, runs, remembers, after_call, begun_history, mounted_history}
 use Rattle.history.specs.Recorded.{Untouched}

@@ -64,7 +64,7 @@ module _ (w : World) where
       let same : cut_disc w.disc (sectors_of w.disc held asked) 0 none ≡ w.disc = ap (λ (ss : List Sector). cut_disc w.disc ss 0 none) none-recorded ∙ cut-nothing w.disc 0 none in
       λ i. record { disc = same i; ledger = none }
 
-  cut-history : (h : History) → feed h (fed w cut_viewing) ≡ record { pages = h.pages; draft = none; older = h.older }
+  cut-history : (h : History) → feed h (fed w cut_viewing) ≡ record { pages = h.pages; draft = none }
   unfolding feed fed
   cut-history h = refl
 

@@ -19,4 +19,4 @@ pub record ViewsInLists : Type 0 where
   pub allowed : (w : World) → Allowed w viewing × Allowed w cut_viewing
   pub unchanged : (w : World) (h : History) → (next w viewing ≡ w) × (feed h (fed w viewing) ≡ h)
   pub cut_short : (w : World) (h : History)
-      → (next w cut_viewing ≡ record { disc = w.disc; ledger = none }) × (feed h (fed w cut_viewing) ≡ record { pages = h.pages; draft = none; older = h.older })
+      → (next w cut_viewing ≡ record { disc = w.disc; ledger = none }) × (feed h (fed w cut_viewing) ≡ record { pages = h.pages; draft = none })

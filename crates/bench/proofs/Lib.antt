@@ -1,4 +1,3 @@
 pub mod States
 pub mod Starred
 pub mod Apart
-pub mod Gone

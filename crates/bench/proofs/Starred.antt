@@ -29,13 +29,13 @@ use Rattle.disc.specs.Save.{icb_of, save_sectors}
 use Rattle.volume.specs.declared.Volume.{Volume}
 use Rattle.volume.specs.Volume.{places, unpack, pack, fits, begun, filled, wrote, released, closed, committed}
 use Rattle.recorder.specs.Calls.{Call, begin, mount, write, close_packet, commit, close_session, look_back, time_of}
-use Rattle.recorder.specs.Refusals.{first, links, reserve, walked, gone, tests, outcome}
+use Rattle.recorder.specs.Refusals.{first, links, reserve, walked, tests, outcome}
 use Rattle.recorder.specs.Effects.{effect, After, after, second_number, sectors_of}
 use Rattle.bench.proofs.States.{tests_of, outcome_of, doing, proper, Step, step, Holds, Left, both, holds-pack, stepped, sectors_held}
 
 -- To open this is to open every definition that the rows and lists are worked out from.
 unfoldable pub opened : Unit {0}
-unfolding le read_le leading_words words le_words lay holds every total holds_text crc_from byte_step checksum body_crc summed sealed seal months real days_of_years days_before minutes_before zone_of moment_of valid minutes_of told extents_from descriptors total_length locations plain_rows length_rows attribute_length described_length own_of measured framed modified_of lies laid joined inside table_of table_name entry_count entries_of previous_of enclosed listed is_table table_regid table_bytes own_rows station_name timed body icb_rows icb own.sectors_of own_count extents_at anchor_rows anchor anchor_tagged sized leading in_order sector_at content stored puts table_at bytes_at map_at previous_at time_at named_by newest_below walk closing session_closed same named_again own_blocks fresh again_of fresh_of icb_of save_sectors unpack pack fits begun filled wrote released closed committed first links reserve walked gone tests outcome effect after second_number sectors_of tests_of outcome_of doing proper step sectors_held
+unfolding le read_le leading_words words le_words lay holds every total holds_text crc_from byte_step checksum body_crc summed sealed seal months real days_of_years days_before minutes_before zone_of moment_of valid minutes_of told extents_from descriptors total_length locations plain_rows length_rows attribute_length described_length own_of measured framed modified_of lies laid joined inside table_of table_name entry_count entries_of previous_of enclosed listed is_table table_regid table_bytes own_rows station_name timed body icb_rows icb own.sectors_of own_count extents_at anchor_rows anchor anchor_tagged sized leading in_order sector_at content stored puts table_at bytes_at map_at previous_at time_at named_by newest_below walk closing session_closed same named_again own_blocks fresh again_of fresh_of icb_of save_sectors unpack pack fits begun filled wrote released closed committed first links reserve walked tests outcome effect after second_number sectors_of tests_of outcome_of doing proper step sectors_held
 opened = tt
 
 -- A blank disc of n sectors, and a lent block.

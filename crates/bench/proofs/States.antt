@@ -14,16 +14,15 @@ use Rattle.le.specs.Bytes.{every}
 use Rattle.le.proofs.Runs.{Words}
 use Rattle.timestamp.specs.Timestamp.{told_length, told}
 use Rattle.vat.specs.Table.{sector_length}
-use Rattle.vat.specs.Sector.{no_stamp}
 use Rattle.disc.specs.Disc.{Disc, recorded, kind_at, sector_at, Sector, link, plain, puts}
 use Rattle.disc.specs.Tables.{newest, block_found}
 use Rattle.disc.specs.Session.{session_closed}
 use Rattle.volume.specs.declared.Volume.{Volume}
 use Rattle.volume.specs.Volume.{places, ledger_length, idle, read_only, unpack, pack, fits, begun, wrote, released, closed, committed}
 use Rattle.volume.proofs.State.{Proper, length-pack, unpack-pack}
-use Rattle.recorder.specs.Calls.{Call, begin, mount, write, release, close_packet, commit, close_session, read, look_back, time_of, go_back, stamp_of, stamp_buffer, buffer_of}
-use Rattle.recorder.specs.Refusals.{Test, test, first, links, target, basic, ledger_lent, stamp_long, write_tests, commit_tests, closing_tests, block_of, not_in_use, is_some, walked, block_reached, walk_tests, gone, go_back_tests, time_back, time_wrong, tests, outcome}
-use Rattle.recorder.specs.Effects.{Effect, shown_at, commits, closes, clean_number, effect, After, settled, after, if_done, sectors_if, second_number, sectors_of}
+use Rattle.recorder.specs.Calls.{Call, begin, mount, write, release, close_packet, commit, close_session, read, look_back, time_of, stamp_of, stamp_buffer, buffer_of}
+use Rattle.recorder.specs.Refusals.{Test, test, first, links, target, basic, ledger_lent, stamp_long, write_tests, commit_tests, closing_tests, block_of, not_in_use, is_some, walked, walk_tests, time_back, time_wrong, tests, outcome}
+use Rattle.recorder.specs.Effects.{Effect, shown_at, commits, closes, block_reached, clean_number, effect, After, settled, after, if_done, sectors_if, second_number, sectors_of}
 
 -- ---- a call, of the state
 
@@ -44,7 +43,6 @@ tests_of d long v (read n block) =
     ++ (test 4 (not (fits d v)) ∷ test 10 (not_in_use v n) ∷ test 11 (not (eqb (kind_at d (block_of v n)) 1)) ∷ [])
 tests_of d long v (look_back k) = basic d long ++ walk_tests d k
 tests_of d long v (time_of k answer) = basic d (long && eqb (length answer) told_length) ++ (walk_tests d k ++ (time_wrong d k ∷ []))
-tests_of d long v (go_back k) = basic d long ++ (gate_of d v ++ go_back_tests d k v)
 
 unfoldable pub outcome_of : Disc → Bool → Volume → Call → ℕ
 outcome_of d long v c = first (tests_of d long v c)
@@ -74,10 +72,6 @@ doing d v (close_session main reserve start) = let e : Effect = closes d v main 
 doing d v (read n block) = record { second = 0; sectors = []; state = none; buffer = sector_at d (block_of v n) }
 doing d v (look_back k) = let b : ℕ = block_reached (walked d k) in shows b (shown_at d b read_only)
 doing d v (time_of k answer) = record { second = 0; sectors = []; state = none; buffer = told (time_back d k) }
-doing d v (go_back k) =
-    let u : Volume = gone d k v in
-    let e : Effect = commits d u no_stamp [] in
-    saves u e
 
 -- ---- what it leaves
 
@@ -186,7 +180,6 @@ tests_same d l (close_session main reserve start) = refl
 tests_same d l (read n block) = refl
 tests_same d l (look_back k) = refl
 tests_same d l (time_of k answer) = refl
-tests_same d l (go_back k) = refl
 
 abbrev ledger_of : List ℕ → Option Volume → List ℕ
 ledger_of l none = l
@@ -207,7 +200,6 @@ effect-same d l (close_session main reserve start) = refl
 effect-same d l (read n block) = refl
 effect-same d l (look_back k) = refl
 effect-same d l (time_of k answer) = refl
-effect-same d l (go_back k) = refl
 
 outcome-own : (d : Disc) (l : List ℕ) (c : Call) → outcome d l c ≡ outcome_of d (ledger_lent l) (unpack l) c
 unfolding outcome outcome_of

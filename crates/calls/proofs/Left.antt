@@ -27,12 +27,11 @@ use Rattle.disc.proofs.Growing.{Grew, puts-grew}
 use Rattle.disc.proofs.Save.{own_recorded, own-count, own-whole, save-ends, save-count, grown-save}
 use Rattle.volume.specs.declared.Volume.{Volume}
 use Rattle.volume.specs.Volume.{ledger_length, idle, read_only, unpack, pack, map_of, begun, wrote, released, closed}
-use Rattle.recorder.specs.Calls.{Call, begin, mount, write, release, close_packet, commit, close_session, read, look_back, time_of, go_back, stamp_buffer, buffer_of, stamp_of}
-use Rattle.recorder.specs.Refusals.{links, target, block_of, walked, block_reached, gone, time_reached, outcome}
-use Rattle.recorder.specs.Effects.{Effect, effect, clean_number, saved, commits, closing_first, After, left, settled, after, shown_at}
+use Rattle.recorder.specs.Calls.{Call, begin, mount, write, release, close_packet, commit, close_session, read, look_back, time_of, stamp_buffer, buffer_of, stamp_of}
+use Rattle.recorder.specs.Refusals.{links, target, block_of, walked, time_reached, outcome}
+use Rattle.recorder.specs.Effects.{Effect, effect, block_reached, clean_number, saved, closing_first, After, left, settled, after, shown_at}
 use Rattle.recorder.proofs.Sectors.{links-whole, closing-whole, length-closing, own-few}
 use Rattle.recorder.proofs.Done.{ledger-accepted, WriteDone, write_done, SaveDone, commit-done, ClosingDone, closing-done}
-use Rattle.recorder.proofs.Gone.{go-back-done}
 
 -- equal parts leave the same
 same_after : {a a' : ℕ} {x x' : Disc} {l l' b : List ℕ} → a ≡ a' → x ≡ x' → l ≡ l'
@@ -250,15 +249,14 @@ module _ (d : Disc) (l : List ℕ) where
       × (ledger ≡ (saved_by first stamp []).ledger)
 
   -- a save that is done
-  saves-left : (c : Call) (e : Effect) → outcome d l c ≡ 0 → effect d l c ≡ e → {a : ℕ} {i k m : List ℕ}
-      → a ≡ e.second → lent i k ≡ puts d (recorded d) e.sectors → m ≡ e.ledger → left a i k m e.buffer ≡ after d l c
-  saves-left c e z is at disc ledger = same_after at disc ledger ∙ ap (λ (e : Effect). settled d l (buffer_of c) 0 e) (sym is) ∙ done-left c z
-
   saved-left : (c : Call) (first : List Sector) (stamp buffer : List ℕ) → outcome d l c ≡ 0 → effect d l c ≡ saved_by first stamp buffer → (unpack l).recorded ≡ recorded d
       → {a : ℕ} {i k m : List ℕ} → Saved first stamp a i k m → left a i k m buffer ≡ after d l c
-  saved-left c first stamp buffer z is same s =
+  saved-left c first stamp buffer z is same {a} {i} {k} {m} s =
       let e : Effect = saved_by first stamp buffer in
-      saves-left c e z is s.0 (s.1 ∙ ap (λ (n : ℕ). puts d n e.sectors) same) s.2
+      let disc : lent i k ≡ puts d (recorded d) e.sectors = s.1 ∙ ap (λ (n : ℕ). puts d n e.sectors) same in
+      same_after s.0 disc s.2
+      ∙ ap (λ (e : Effect). settled d l (buffer_of c) 0 e) (sym is)
+      ∙ done-left c z
 
   -- what a save asks for, and a save that is done meets it
   abbrev pub Savable : Type 0
@@ -270,7 +268,7 @@ module _ (d : Disc) (l : List ℕ) where
       × ((unpack l).size ≤ limit)
       × ((eqb (unpack l).last unused || table_at d (unpack l).last) ≡ true)
 
-  savable : (first : List Sector) (stamp : List ℕ) → length l ≡ ledger_length → SaveDone d (unpack l) first stamp → Savable
+  savable : (first : List Sector) (stamp : List ℕ) → length l ≡ ledger_length → SaveDone d l first stamp → Savable
   savable first stamp long f =
       (long, sound-sized d f.sound-disc, sound-order d f.sound-disc, f.fit.same-recorded, f.fit.few, f.fit.last-known)
 
@@ -278,18 +276,13 @@ module _ (d : Disc) (l : List ℕ) where
   ready_of first stamp s w room =
       record { sound-disc = sound d s.1 s.2; same-recorded = s.3; last-known = s.5; whole = w; room = room }
 
-  -- what a commit asks for
-  abbrev Saves : List ℕ → Type 0
-  Saves stamp = Savable × (length stamp ≡ stamp_length) × (recorded d + length (saved_by [] stamp []).sectors ≤ length d.kinds)
-
-  saves-of : (stamp : List ℕ) → length l ≡ ledger_length → SaveDone d (unpack l) [] stamp → Saves stamp
-  saves-of stamp long f =
-      let count : length (saved_by [] stamp []).sectors ≡ links (unpack l) + length (table_sectors [] stamp) =
-      length-append (replicate (links (unpack l)) link) (table_sectors [] stamp) ∙ ap (λ (n : ℕ). n + length (table_sectors [] stamp)) (length-replicate (links (unpack l)) link) in
-      (savable [] stamp long f, f.timely, omega (arith, count, f.room, leading_le d.kinds))
-
-  pub commit-saves : (stamp : Option (List ℕ)) → outcome d l (commit stamp) ≡ 0 → Saves (stamp_of stamp)
-  commit-saves stamp z = saves-of (stamp_of stamp) (ledger-accepted d l (commit stamp) z) (commit-done d l stamp z).saving
+  pub commit-saves : (stamp : Option (List ℕ)) → outcome d l (commit stamp) ≡ 0
+      → Savable × (length (stamp_of stamp) ≡ stamp_length) × (recorded d + length (saved_by [] (stamp_of stamp) []).sectors ≤ length d.kinds)
+  commit-saves stamp z =
+      let f : SaveDone d l [] (stamp_of stamp) = (commit-done d l stamp z).saving in
+      let long : length (saved_by [] (stamp_of stamp) []).sectors ≡ links (unpack l) + length (table_sectors [] (stamp_of stamp)) =
+      length-append (replicate (links (unpack l)) link) (table_sectors [] (stamp_of stamp)) ∙ ap (λ (n : ℕ). n + length (table_sectors [] (stamp_of stamp))) (length-replicate (links (unpack l)) link) in
+      (savable [] (stamp_of stamp) (ledger-accepted d l (commit stamp) z) f, f.timely, omega (arith, long, f.room, leading_le d.kinds))
 
   pub commit-left : (stamp : Option (List ℕ)) → outcome d l (commit stamp) ≡ 0
       → {a : ℕ} {i k m : List ℕ} → Saved [] (stamp_of stamp) a i k m → left a i k m (stamp_buffer stamp) ≡ after d l (commit stamp)
@@ -323,14 +316,3 @@ module _ (d : Disc) (l : List ℕ) where
       let all : length first + own ≡ closing_length = length-closing main reserved start (target (unpack l)) own (omega (arith, own-few d (unpack l) s.4)) in
       ready_of first no_stamp s (closing-whole main reserved start (target (unpack l)) own)
       (omega (arith, all, save-count d table_of (unpack l).last no_stamp (target (unpack l) + length first)))
-
--- going back is a commit of the state m
-module _ (d : Disc) (l m : List ℕ) (k : ℕ) (z : outcome d l (go_back k) ≡ 0) (long : length m ≡ ledger_length) (is : unpack m ≡ gone d k (unpack l)) where
-  pub back-saves : Saves d m no_stamp
-  back-saves = saves-of d m no_stamp long (subst (λ (v : Volume). SaveDone d v [] no_stamp) (sym is) (go-back-done d l k z).saving)
-
-  pub back-left : {a : ℕ} {i ks x : List ℕ} → Saved d m [] no_stamp a i ks x → left a i ks x [] ≡ after d l (go_back k)
-  unfolding effect
-  back-left s =
-      let e : Effect = saved_by d m [] no_stamp [] in
-      saves-left d l (go_back k) e z (ap (λ (v : Volume). commits d v no_stamp []) (sym is)) s.0 (s.1 ∙ ap (λ (n : ℕ). puts d n e.sectors) back-saves.0.3) s.2

@@ -2,7 +2,7 @@
 -- Assumes nothing.
 use Prim.Native.Nat.{ℕ, ◌+◌, ◌≤◌, ◌<◌}
 use native.Mathlib.Omega.{arith}
-use mathlib.Core.Path.{◌≡◌, refl, sym, ap, ap₂, ◌∙◌}
+use mathlib.Core.Path.{◌≡◌, refl, sym, ap, ◌∙◌}
 use mathlib.Core.Bool.{Bool, true, false, ◌&&◌, not, and-true}
 use mathlib.Core.List.{List, [], ◌∷◌, ◌++◌}
 use mathlib.Core.Option.{Option, none, some}
@@ -10,26 +10,23 @@ use lib.Dec.{eqb, ltb, leb}
 use lib.ListN.{length}
 use borrow.Author.Tests.{eq-eqb, ne_eqb, ltb-true, le-ltb, lt-ltb, le-leb, lt-leb}
 use Rattle.timestamp.specs.Timestamp.{valid}
-use Rattle.vat.specs.Table.{limit, unused, most_own}
+use Rattle.vat.specs.Table.{limit, unused}
 use Rattle.extent.specs.declared.Extent.{Extent}
-use Rattle.vat.specs.Sector.{no_stamp, table_bytes}
+use Rattle.vat.specs.Sector.{table_bytes}
 use Rattle.anchor.specs.Anchor.{farthest_start}
 use Rattle.disc.specs.declared.Walk.TheVariants.{Reached, Broken, Ended}
-use Rattle.disc.specs.Disc.{Disc, most_sectors, sized, in_order, recorded, kind_at, blanks}
-use Rattle.disc.specs.Tables.{table_at, map_at, time_at, block_found, newest_below, newest, walk}
+use Rattle.disc.specs.Disc.{Disc, most_sectors, kind_at, blanks}
+use Rattle.disc.specs.Tables.{time_at, block_found, newest_below, newest}
 use Rattle.disc.specs.Session.{closing_length, session_closed}
-use Rattle.disc.proofs.Recording.{Sound, leading_le}
-use Rattle.disc.proofs.Found.{newest-below, table-recorded}
+use Rattle.disc.proofs.Found.{newest-below}
 use Rattle.disc.specs.Again.{fresh_of}
+use Rattle.disc.specs.Save.{save_sectors}
 use Rattle.disc.proofs.Save.{save-count}
-use Rattle.volume.specs.Volume.{read_only, unpack, pack, map_of, fits, filled}
+use Rattle.volume.specs.Volume.{read_only, unpack, map_of, fits}
 use Rattle.volume.specs.declared.Volume.{Volume}
-use Rattle.volume.proofs.State.{Proper, unpack-pack}
-use Rattle.recorder.specs.Calls.{begin, mount, write, release, close_packet, commit, close_session, read, look_back, time_of, go_back, stamp_of}
-use Rattle.recorder.specs.Refusals.{Test, test, or_else, first, links, target, reserve_if, reserve, basic, ledger_lent, block_lent, stamp_lent, answer_lent, unfit, block_tests, write_tests, stamp_wrong, no_room, no_commit_room, commit_tests, closing_tests, block_of, not_in_use, is_some, walk_from, walked, is_broken, is_ended, walk_tests, block_reached, gone, go_back_tests, time_wrong, tests, outcome}
-use Rattle.recorder.proofs.Sectors.{own-few}
-use Rattle.recorder.proofs.Done.{skip, stopped, resumed, fitting_tests, working_tests}
-use Rattle.recorder.proofs.Gone.{filled-proper, gone-is}
+use Rattle.recorder.specs.Calls.{begin, mount, write, release, close_packet, commit, close_session, read, look_back, time_of, stamp_of}
+use Rattle.recorder.specs.Refusals.{Test, test, first, links, target, reserve_if, reserve, basic, ledger_lent, block_lent, stamp_lent, answer_lent, unfit, block_tests, write_tests, stamp_wrong, no_room, commit_tests, closing_tests, block_of, not_in_use, is_some, walked, is_broken, is_ended, walk_tests, time_wrong, tests, outcome}
+use Rattle.recorder.proofs.Done.{stopped, resumed, fitting_tests, working_tests}
 
 -- ---- the newest table, as a block number
 
@@ -98,50 +95,52 @@ module _ (d : Disc) (l : List ℕ) where
   unfolding outcome tests first
   begin-0 z e = resumed (basic d (ledger_lent l)) (test 6 (is_some (newest d)) ∷ []) refl z ∙ rw e
 
--- the steps of a walk
-module _ (d : Disc) (k : ℕ) where
-  pub walk-7 : newest d ≡ none → first (walk_tests d k) ≡ 7
+-- 1, 2, 3 and 7
+abbrev pub found_tests : Disc → Bool → List Test
+found_tests d lengths = basic d lengths ++ (test 7 (not (is_some (newest d))) ∷ [])
+
+module _ (d : Disc) (lengths : Bool) where
+  pub found-stopped : (first (basic d lengths) ≡ 0 → ⊥) → first (found_tests d lengths) ≡ first (basic d lengths)
+  found-stopped h = stopped (basic d lengths) (test 7 (not (is_some (newest d))) ∷ []) h
+
+  pub found-7 : first (basic d lengths) ≡ 0 → newest d ≡ none → first (found_tests d lengths) ≡ 7
   unfolding first
-  walk-7 e = rw e
+  found-7 z e = resumed (basic d lengths) (test 7 (not (is_some (newest d))) ∷ []) refl z ∙ rw e
 
-  module _ (b : ℕ) (n : newest d ≡ some b) where
-    pub walk-8 : walked d k ≡ Broken → first (walk_tests d k) ≡ 8
-    unfolding first
-    walk-8 e = rw (n, e)
+  pub found-0 : (b : ℕ) → first (basic d lengths) ≡ 0 → newest d ≡ some b → first (found_tests d lengths) ≡ 0
+  unfolding first
+  found-0 b z e = resumed (basic d lengths) (test 7 (not (is_some (newest d))) ∷ []) refl z ∙ rw e
 
-    pub walk-9 : walked d k ≡ Ended → first (walk_tests d k) ≡ 9
-    unfolding first
-    walk-9 e = rw (n, e)
+-- and then the steps of a walk
+module _ (d : Disc) (lengths : Bool) (k : ℕ) where
+  steps : List Test
+  steps = test 8 (is_broken (walked d k)) ∷ test 9 (is_ended (walked d k)) ∷ []
 
-    pub walk_0 : (t : ℕ) → walked d k ≡ Reached t → first (walk_tests d k) ≡ 0
-    unfolding first
-    walk_0 t e = rw (n, e)
+  pub walk-stopped : (first (found_tests d lengths) ≡ 0 → ⊥) → first (basic d lengths ++ walk_tests d k) ≡ first (found_tests d lengths)
+  unfolding steps
+  walk-stopped h = stopped (found_tests d lengths) steps h
 
-  -- behind 1, 2 and 3
-  module _ (lengths : Bool) where
-    pub reached-stopped : (first (basic d lengths) ≡ 0 → ⊥) → first (basic d lengths ++ walk_tests d k) ≡ first (basic d lengths)
-    reached-stopped h = stopped (basic d lengths) (walk_tests d k) h
+  walk-rest : first (found_tests d lengths) ≡ 0 → first (basic d lengths ++ walk_tests d k) ≡ first steps
+  unfolding steps
+  walk-rest z = resumed (found_tests d lengths) steps refl z
 
-    pub reached-rest : first (basic d lengths) ≡ 0 → first (basic d lengths ++ walk_tests d k) ≡ first (walk_tests d k)
-    reached-rest z = resumed (basic d lengths) (walk_tests d k) refl z
+  pub walk-8 : first (found_tests d lengths) ≡ 0 → walked d k ≡ Broken → first (basic d lengths ++ walk_tests d k) ≡ 8
+  unfolding first steps
+  walk-8 z e = walk-rest z ∙ rw e
 
--- mount is a walk of no step
-no_step : (d : Disc) (o : Option ℕ)
-    → first (test 7 (not (is_some o)) ∷ test 8 (is_broken (walk_from d 0 o)) ∷ test 9 (is_ended (walk_from d 0 o)) ∷ []) ≡ first (test 7 (not (is_some o)) ∷ [])
-unfolding first walk
-no_step d none = refl
-no_step d (some b) = refl
+  pub walk-9 : first (found_tests d lengths) ≡ 0 → walked d k ≡ Ended → first (basic d lengths ++ walk_tests d k) ≡ 9
+  unfolding first steps
+  walk-9 z e = walk-rest z ∙ rw e
 
-pub mount-outcome : (d : Disc) (l : List ℕ) → first (basic d (ledger_lent l) ++ walk_tests d 0) ≡ outcome d l mount
-unfolding outcome tests first walked
-mount-outcome d l =
-    ap (λ (n : ℕ). or_else (not (sized d)) 1 (or_else (not (ledger_lent l)) 2 (or_else (not (in_order d.kinds)) 3 n))) (no_step d (newest d))
+  pub walk_0 : (b : ℕ) → first (found_tests d lengths) ≡ 0 → walked d k ≡ Reached b → first (basic d lengths ++ walk_tests d k) ≡ 0
+  unfolding first steps
+  walk_0 b z e = walk-rest z ∙ rw e
 
-pub mount-reached : (d : Disc) (n b : ℕ) → newest d ≡ some n → walked d 0 ≡ Reached b → newest d ≡ some b
-unfolding walked walk
-mount-reached d n b found way = found ∙ ap some (ap block_reached (sym (ap (walk_from d 0) found) ∙ way))
+-- the lists of mount, of look back and of a time
+pub mount-outcome : (d : Disc) (l : List ℕ) → first (found_tests d (ledger_lent l)) ≡ outcome d l mount
+unfolding outcome tests
+mount-outcome d l = refl
 
--- the lists of look back and of a time
 pub look-back-outcome : (d : Disc) (l : List ℕ) (k : ℕ) → first (basic d (ledger_lent l) ++ walk_tests d k) ≡ outcome d l (look_back k)
 unfolding outcome tests
 look-back-outcome d l k = refl
@@ -223,7 +222,7 @@ module _ (d : Disc) (l : List ℕ) where
   release-tested n z = resumed (working_tests d l (ledger_lent l)) (test 10 (not_in_use (unpack l) n) ∷ []) refl (sym alone ∙ z)
 
 -- room for more is room for less
-less-room : (d : Disc) (v : Volume) (few many : ℕ) → few ≤ many → first (no_room d v many ∷ []) ≡ 0 → first (no_room d v few ∷ []) ≡ 0
+pub less-room : (d : Disc) (v : Volume) (few many : ℕ) → few ≤ many → first (no_room d v many ∷ []) ≡ 0 → first (no_room d v few ∷ []) ≡ 0
 unfolding first
 less-room d v few many h z = go (ltb (blanks d) (links v + few)) refl
   where
@@ -233,19 +232,6 @@ less-room d v few many h z = go (ltb (blanks d) (links v + few)) refl
     go : (t : Bool) → ltb (blanks d) (links v + few) ≡ t → first (no_room d v few ∷ []) ≡ 0
     go false e = rw e
     go true e = let told = short (ltb-true (blanks d) (links v + few) e) in absurd (omega (arith, told, z))
-
--- how many sectors a commit of a state records, whatever its timestamp
-pub commit-counted : (d : Disc) (v : Volume) (stamp : List ℕ)
-    → first (no_commit_room d v stamp ∷ []) ≡ first (no_room d v (length (fresh_of d (table_bytes (map_of v) v.last) v.last) + 1) ∷ [])
-commit-counted d v stamp = ap (λ (n : ℕ). first (no_room d v n ∷ [])) (save-count d (table_bytes (map_of v) v.last) v.last stamp (target v))
-
--- room for as many own sectors as any table has, and the ICB, is room for a commit of every state that begins where this one does
-pub most-room : (d : Disc) (v w : Volume) → links w ≡ links v → w.size ≤ limit → first (no_room d v (most_own + 1) ∷ []) ≡ 0 → first (no_commit_room d w no_stamp ∷ []) ≡ 0
-most-room d v w same few z =
-    let own : ℕ = length (fresh_of d (table_bytes (map_of w) w.last) w.last) in
-    commit-counted d w no_stamp
-    ∙ less-room d w (own + 1) (most_own + 1) (omega (arith, own-few d w few))
-    (ap (λ (n : ℕ). first (test 14 (ltb (blanks d) (n + (most_own + 1))) ∷ [])) same ∙ z)
 
 module _ (d : Disc) (l : List ℕ) (stamp : Option (List ℕ)) where
   pub commit-stopped : (first (working_tests d l (stamp_lent l stamp)) ≡ 0 → ⊥) → outcome d l (commit stamp) ≡ first (working_tests d l (stamp_lent l stamp))
@@ -260,40 +246,12 @@ module _ (d : Disc) (l : List ℕ) (stamp : Option (List ℕ)) where
   unfolding first
   commit-16 z e = commit-rest z ∙ rw e
 
-  pub commit-tested : first (working_tests d l (stamp_lent l stamp)) ≡ 0 → stamp_wrong stamp ≡ false → outcome d l (commit stamp) ≡ first (no_commit_room d (unpack l) no_stamp ∷ [])
+  pub commit-tested : first (working_tests d l (stamp_lent l stamp)) ≡ 0 → stamp_wrong stamp ≡ false
+      → outcome d l (commit stamp) ≡ first (no_room d (unpack l) (length (fresh_of d (table_bytes (map_of (unpack l)) (unpack l).last) (unpack l).last) + 1) ∷ [])
+  unfolding first
   commit-tested z e =
       let v : Volume = unpack l in
-      commit-rest z ∙ skip 16 (stamp_wrong stamp) (no_commit_room d v (stamp_of stamp) ∷ []) e
-      ∙ commit-counted d v (stamp_of stamp) ∙ sym (commit-counted d v no_stamp)
-
-module _ (d : Disc) (l : List ℕ) (k : ℕ) where
-  pub back-stopped : (first (working_tests d l (ledger_lent l && true)) ≡ 0 → ⊥) → outcome d l (go_back k) ≡ first (working_tests d l (ledger_lent l && true))
-  unfolding outcome tests
-  back-stopped h = stopped (working_tests d l (ledger_lent l)) (go_back_tests d k (unpack l)) (λ z. h (alone d l ∙ z)) ∙ sym (alone d l)
-
-  module _ (z : first (working_tests d l (ledger_lent l && true)) ≡ 0) where
-    back-rest : outcome d l (go_back k) ≡ first (go_back_tests d k (unpack l))
-    unfolding outcome tests
-    back-rest = resumed (working_tests d l (ledger_lent l)) (go_back_tests d k (unpack l)) refl (sym (alone d l) ∙ z)
-
-    pub back-lost : (first (walk_tests d k) ≡ 0 → ⊥) → outcome d l (go_back k) ≡ first (walk_tests d k)
-    back-lost h = back-rest ∙ stopped (walk_tests d k) (no_commit_room d (gone d k (unpack l)) no_stamp ∷ []) h
-
-    pub back-tested : (n b : ℕ) → newest d ≡ some n → walked d k ≡ Reached b
-        → outcome d l (go_back k) ≡ first (no_commit_room d (filled (map_at d b) n (unpack l).recorded (unpack l).mode) no_stamp ∷ [])
-    back-tested n b found way =
-        back-rest ∙ resumed (walk_tests d k) (no_commit_room d (gone d k (unpack l)) no_stamp ∷ []) refl (walk_0 d k n found b way)
-        ∙ ap (λ (v : Volume). first (no_commit_room d v no_stamp ∷ [])) (gone-is d k n b (unpack l) found way)
-
--- the state that bytes hold which show a table, with a last table, and what is recorded and the mode as a ledger has them
-pub shown-state : (d : Disc) → Sound d → (l m : List ℕ) (b n r mode : ℕ) → table_at d b ≡ true → table_at d n ≡ true → (unpack l).recorded ≡ recorded d → r ≡ recorded d
-    → mode ≡ (unpack l).mode → mode < 4294967296 → m ≡ pack (filled (map_at d b) n r mode) → unpack m ≡ filled (map_at d b) n (unpack l).recorded (unpack l).mode
-shown-state d ok l m b n r mode table last same count is small shown =
-    let state : Volume = filled (map_at d b) n r mode in
-    let low : n < recorded d = table-recorded d ok n last in
-    let good : Proper state =
-    filled-proper d ok b n r mode table (omega (arith, leading_le d.kinds, ok.few)) (omega (arith, leading_le d.kinds, ok.few)) small in
-    ap unpack shown ∙ unpack-pack state good ∙ ap₂ (λ (x y : ℕ). filled (map_at d b) n x y) (count ∙ sym same) is
+      commit-rest z ∙ rw (e, save-count d (table_bytes (map_of v) v.last) v.last (stamp_of stamp) (target v))
 
 module _ (d : Disc) (l : List ℕ) (main reserved : Extent) (start : ℕ) where
   pub closing-stopped : (first (working_tests d l (ledger_lent l && true)) ≡ 0 → ⊥) → outcome d l (close_session main reserved start) ≡ first (working_tests d l (ledger_lent l && true))

@@ -1,21 +1,20 @@
 // The outcome of each call, its tests in order.
-ghost use Rattle.std.specs.Prelude.{◌≡◌, true, [], ◌∷◌, ◌≤◌, length};
+ghost use Rattle.std.specs.Prelude.{◌≡◌, true, ◌≤◌, length};
 ghost use Rattle.std.proofs.Math.Option.{none, some};
 ghost use Rattle.vat.specs.Table.{sector_length};
-ghost use Rattle.vat.specs.Sector.{no_stamp};
 ghost use Rattle.disc.specs.declared.Walk.TheVariants.{Reached};
-ghost use Rattle.disc.specs.Disc.{lent, sized, in_order, leading, recorded};
-ghost use Rattle.disc.specs.Tables.{table_at, map_at, newest};
-ghost use Rattle.volume.specs.Volume.{ledger_length, unpack, filled};
-ghost use Rattle.recorder.specs.Calls.{begin, mount, write, release, close_packet, commit, close_session, read, look_back, time_of, go_back};
-ghost use Rattle.recorder.specs.Refusals.{first, forbidden_at, block_tests, no_commit_room, walked, outcome};
+ghost use Rattle.disc.specs.Disc.{lent, sized, leading, recorded};
+ghost use Rattle.disc.specs.Tables.{table_at, newest};
+ghost use Rattle.volume.specs.Volume.{ledger_length, unpack};
+ghost use Rattle.recorder.specs.Calls.{begin, mount, write, release, close_packet, commit, close_session, read, look_back, time_of};
+ghost use Rattle.recorder.specs.Refusals.{first, forbidden_at, block_tests, walked, outcome};
 
 use crate::{Plan, refused};
 use anchor::FARTHEST_START;
 use disc::session::CLOSING;
 use extent::Extent;
 use timestamp::{STAMP, TOLD};
-use vat::table::{LIMIT, MOST_OWN, SECTOR, UNUSED};
+use vat::table::{LIMIT, SECTOR, UNUSED};
 use volume::LEDGER;
 
 pub fn begin(image: &[u8], kinds: &[u8], ledger: &[u8]) -> Plan
@@ -34,8 +33,7 @@ pub fn begin(image: &[u8], kinds: &[u8], ledger: &[u8]) -> Plan
 pub fn mount(image: &[u8], kinds: &[u8], ledger: &[u8]) -> Plan
     ensures { (result.outcome ≡ outcome (lent image.now kinds.now) ledger.now mount) × (result.outcome ≡ 0 → (result.recorded ≡ recorded (lent image.now kinds.now)) × (newest (lent image.now kinds.now) ≡ some result.block)) }
 {
-    // As look back 0: its walk ends where it begins.
-    crate::basic::reached(image, kinds, ledger.len() == LEDGER, 0)
+    crate::basic::found(image, kinds, ledger.len() == LEDGER)
 }
 
 pub fn look_back(image: &[u8], kinds: &[u8], ledger: &[u8], k: u32) -> Plan
@@ -154,41 +152,6 @@ pub fn commit_at(image: &[u8], kinds: &[u8], ledger: &[u8], stamp: &[u8]) -> u32
         return 16;
     }
     crate::basic::save_room(image, kinds, ledger)
-}
-
-// 14 of going back: of a commit of the state that shows the table a plan found, with the newest as its last, in the ledger's mode. Its links are the ledger's:
-// where there is room for as many own sectors as any table has, that state is not made. Where there is less, it is made in a buffer of its own, since a refusal
-// alters no lent byte.
-fn back_room(image: &[u8], kinds: &[u8], ledger: &[u8], plan: Plan) -> u32
-    requires { (sized (lent image.now kinds.now) ≡ true) × (in_order kinds.now ≡ true) × (length ledger.now ≡ ledger_length) × ((unpack ledger.now).recorded ≡ leading kinds.now) × (plan.recorded ≡ leading kinds.now) × (table_at (lent image.now kinds.now) plan.block ≡ true) × (table_at (lent image.now kinds.now) plan.newest ≡ true) }
-    ensures { result ≡ first (no_commit_room (lent image.now kinds.now) (filled (map_at (lent image.now kinds.now) plan.block) plan.newest (unpack ledger.now).recorded (unpack ledger.now).mode) no_stamp ∷ []) }
-{
-    if crate::basic::room(kinds, ledger, MOST_OWN + 1) == 0 {
-        return 0;
-    }
-    let mode = volume::ledger::mode(ledger);
-    let mut state = [0u8; 16364];
-    crate::effects::show(image, kinds, &mut state, plan, plan.newest, mode);
-    crate::basic::save_room(image, kinds, &state)
-}
-
-// 1 to 5 and 17, then 7, 8, 9 of the walk, and 14 of the state that is to be saved: the map of the table reached, and as its last table the newest.
-pub fn go_back(image: &[u8], kinds: &[u8], ledger: &[u8], k: u32) -> Plan
-    ensures { (result.outcome ≡ outcome (lent image.now kinds.now) ledger.now (go_back k)) × (result.outcome ≡ 0 → (result.recorded ≡ recorded (lent image.now kinds.now)) × (walked (lent image.now kinds.now) k ≡ Reached result.block) × (table_at (lent image.now kinds.now) result.block ≡ true) × (newest (lent image.now kinds.now) ≡ some result.newest)) }
-{
-    let outcome = crate::basic::working(image, kinds, ledger, true);
-    if outcome != 0 {
-        return refused(outcome);
-    }
-    let plan = crate::basic::walked(image, kinds, volume::ledger::recorded(ledger), k);
-    if plan.outcome != 0 {
-        return plan;
-    }
-    let fourteen = back_room(image, kinds, ledger, plan);
-    if fourteen != 0 {
-        return refused(fourteen);
-    }
-    plan
 }
 
 pub fn close_session(

@@ -1,14 +1,14 @@
 // The tests that several calls share, in the documents' order. 0 says that none of them applies.
-ghost use Rattle.std.specs.Prelude.{◌≡◌, true, ◌&&◌, ◌||◌, [], ◌∷◌, ◌++◌, ◌≤◌, eqb, length};
+ghost use Rattle.std.specs.Prelude.{◌≡◌, true, ◌&&◌, ◌||◌, not, [], ◌∷◌, ◌++◌, ◌+◌, ◌≤◌, eqb, length};
 ghost use Rattle.std.proofs.Math.Option.{some};
 ghost use Rattle.vat.specs.Table.{limit, unused};
-ghost use Rattle.vat.specs.Sector.{no_stamp, table_bytes};
+ghost use Rattle.vat.specs.Sector.{table_bytes};
 ghost use Rattle.disc.specs.declared.Walk.TheVariants.{Reached};
 ghost use Rattle.disc.specs.Disc.{lent, sized, leading, recorded};
 ghost use Rattle.disc.specs.Tables.{table_at, newest};
 ghost use Rattle.disc.specs.Again.{fresh_of};
 ghost use Rattle.volume.specs.Volume.{ledger_length, unpack, map_of};
-ghost use Rattle.recorder.specs.Refusals.{first, links, basic, ledger_lent, unfit, gate, no_room, no_commit_room, reserve, not_in_use, walked, walk_tests};
+ghost use Rattle.recorder.specs.Refusals.{test, first, links, basic, ledger_lent, unfit, gate, no_room, reserve, not_in_use, is_some, walked, walk_tests};
 
 use crate::{Plan, refused};
 use disc::Walk;
@@ -34,41 +34,47 @@ pub fn sound(image: &[u8], kinds: &[u8], lengths: bool) -> Plan
         outcome: 0,
         recorded: recorded,
         block: 0,
-        newest: 0,
     }
 }
 
-// 7, and then 8 or 9 at the first failing step of a walk back k tables, on a disc with so many sectors recorded. The answer has the block reached, and the
-// newest table's, from which the walk begins.
-pub fn walked(image: &[u8], kinds: &[u8], recorded: u32, k: u32) -> Plan
-    requires { (sized (lent image.now kinds.now) ≡ true) × (recorded ≡ leading kinds.now) }
-    ensures { (result.outcome ≡ first (walk_tests (lent image.now kinds.now) k)) × (result.outcome ≡ 0 → (result.recorded ≡ leading kinds.now) × (walked (lent image.now kinds.now) k ≡ Reached result.block) × (table_at (lent image.now kinds.now) result.block ≡ true) × (newest (lent image.now kinds.now) ≡ some result.newest)) }
-{
-    let newest = disc::tables::newest(image, kinds, recorded);
-    if newest == UNUSED {
-        return refused(7);
-    }
-    match disc::tables::walk_back(image, kinds, k, newest) {
-        Walk::Reached(block) => Plan {
-            outcome: 0,
-            recorded: recorded,
-            block: block,
-            newest: newest,
-        },
-        Walk::Broken => refused(8),
-        Walk::Ended => refused(9),
-    }
-}
-
-// 1, 2, 3, and then 7, 8, 9 of a walk back k tables.
-pub fn reached(image: &[u8], kinds: &[u8], lengths: bool, k: u32) -> Plan
-    ensures { (result.outcome ≡ first (basic (lent image.now kinds.now) lengths ++ walk_tests (lent image.now kinds.now) k)) × (result.outcome ≡ 0 → (result.recorded ≡ leading kinds.now) × (walked (lent image.now kinds.now) k ≡ Reached result.block) × (table_at (lent image.now kinds.now) result.block ≡ true) × (newest (lent image.now kinds.now) ≡ some result.newest)) }
+// 1, 2, 3 and 7: and a table sector exists; the answer has its block.
+pub fn found(image: &[u8], kinds: &[u8], lengths: bool) -> Plan
+    ensures { (result.outcome ≡ first (basic (lent image.now kinds.now) lengths ++ (test 7 (not (is_some (newest (lent image.now kinds.now)))) ∷ []))) × (result.outcome ≡ 0 → (result.recorded ≡ recorded (lent image.now kinds.now)) × (newest (lent image.now kinds.now) ≡ some result.block)) }
 {
     let plan = sound(image, kinds, lengths);
     if plan.outcome != 0 {
         return plan;
     }
-    walked(image, kinds, plan.recorded, k)
+    let recorded = plan.recorded;
+    let block = disc::tables::newest(image, kinds, recorded);
+    if block == UNUSED {
+        return refused(7);
+    }
+    Plan {
+        outcome: 0,
+        recorded: recorded,
+        block: block,
+    }
+}
+
+// 1, 2, 3, 7, and then 8 or 9 at the first failing step of a walk back k tables; the answer has the block reached.
+pub fn reached(image: &[u8], kinds: &[u8], lengths: bool, k: u32) -> Plan
+    ensures { (result.outcome ≡ first (basic (lent image.now kinds.now) lengths ++ walk_tests (lent image.now kinds.now) k)) × (result.outcome ≡ 0 → (result.recorded ≡ recorded (lent image.now kinds.now)) × (walked (lent image.now kinds.now) k ≡ Reached result.block) × (table_at (lent image.now kinds.now) result.block ≡ true)) }
+{
+    let plan = found(image, kinds, lengths);
+    if plan.outcome != 0 {
+        return plan;
+    }
+    let recorded = plan.recorded;
+    match disc::tables::walk_back(image, kinds, k, plan.block) {
+        Walk::Reached(block) => Plan {
+            outcome: 0,
+            recorded: recorded,
+            block: block,
+        },
+        Walk::Broken => refused(8),
+        Walk::Ended => refused(9),
+    }
 }
 
 // 1 to 4: and the ledger fits the disc. If it does, its count is the disc's, and is looked at first.
@@ -155,10 +161,10 @@ pub fn room(kinds: &[u8], ledger: &[u8], recording: u32) -> u32
     0
 }
 
-// 14 of a commit of the state in these bytes: room for its own sectors that are recorded, and for the ICB. Where there is room for as many as any table has, nobody asks how many these are.
+// 14 of a commit: room for its own sectors that are recorded, and for the ICB. Where there is room for as many as any table has, nobody asks how many these are.
 pub fn save_room(image: &[u8], kinds: &[u8], ledger: &[u8]) -> u32
     requires { (sized (lent image.now kinds.now) ≡ true) × (length ledger.now ≡ ledger_length) × ((unpack ledger.now).size ≤ limit) × ((eqb (unpack ledger.now).last unused || table_at (lent image.now kinds.now) (unpack ledger.now).last) ≡ true) × ((unpack ledger.now).recorded ≡ leading kinds.now) }
-    ensures { result ≡ first (no_commit_room (lent image.now kinds.now) (unpack ledger.now) no_stamp ∷ []) }
+    ensures { result ≡ first (no_room (lent image.now kinds.now) (unpack ledger.now) (length (fresh_of (lent image.now kinds.now) (table_bytes (map_of (unpack ledger.now)) (unpack ledger.now).last) (unpack ledger.now).last) + 1) ∷ []) }
 {
     if room(kinds, ledger, MOST_OWN + 1) == 0 {
         return 0;

@@ -143,14 +143,14 @@ pub fn close(
     save_at(image, kinds, ledger, &stamp, b)
 }
 
-// The ledger shows the map of the table that a plan found, with a last table: that one, or another where the next save is to name another as previous.
-pub fn show(image: &[u8], kinds: &[u8], ledger: &mut [u8], plan: Plan, last: u32, mode: u32)
+// The ledger shows the table that a plan found.
+pub fn show(image: &[u8], kinds: &[u8], ledger: &mut [u8], plan: Plan, mode: u32)
     requires { (length ledger.old ≡ ledger_length) × (sized (lent image.now kinds.now) ≡ true) × (table_at (lent image.now kinds.now) plan.block ≡ true) }
-    ensures { ledger.new ≡ pack (filled (map_at (lent image.now kinds.now) plan.block) last plan.recorded mode) }
+    ensures { ledger.new ≡ pack (filled (map_at (lent image.now kinds.now) plan.block) plan.block plan.recorded mode) }
 {
     let b = plan.block;
     let s = disc::tables::sector_at(image, b);
     let n = disc::bytes::entry_count(kinds, s, b);
     disc::bytes::copied(ledger, image, kinds, s, b, n);
-    volume::ledger::show(ledger, n, last, plan.recorded, mode);
+    volume::ledger::show(ledger, n, b, plan.recorded, mode);
 }

@@ -5,14 +5,12 @@ pub mod effects;
 
 ghost use Rattle.std.specs.Prelude.{◌≡◌};
 
-// What a call is to do: its outcome, and if that is 0 how many sectors are recorded and, of a call that looks for a table, the block of the one to show, and
-// that of the newest.
+// What a call is to do: its outcome, and if that is 0 how many sectors are recorded and, for mount and look back, the block of the table to show.
 #[derive(Drop)]
 pub struct Plan {
     pub outcome: u32,
     pub recorded: u32,
     pub block: u32,
-    pub newest: u32,
 }
 
 // A call that is refused, with its number.
@@ -23,6 +21,5 @@ pub fn refused(outcome: u32) -> Plan
         outcome: outcome,
         recorded: 0,
         block: 0,
-        newest: 0,
     }
 }

@@ -10,11 +10,11 @@ use mathlib.Core.List.{List, [], ◌∷◌}
 use mathlib.Core.Option.{Option, none, some}
 use Rattle.disc.specs.Disc.{Disc}
 use Rattle.disc.specs.Tables.{map_at, newest, block_found}
-use Rattle.recorder.specs.Calls.{Call, begin, mount, write, release, close_packet, commit, close_session, read, look_back, time_of, go_back, only_tells}
+use Rattle.recorder.specs.Calls.{Call, begin, mount, write, release, close_packet, commit, close_session, read, look_back, time_of, only_tells}
 use Rattle.recorder.specs.Refusals.{outcome}
 use Rattle.recorder.specs.Effects.{effect, after, second_number}
 use Rattle.history.specs.History.{Snapshot, History, done, feed}
-use Rattle.history.specs.Events.{World, calls, AllAllowed, ledger_after, next, told, fed, runs, remembers, page_of, older_than, after_call}
+use Rattle.history.specs.Events.{World, calls, AllAllowed, ledger_after, next, told, fed, runs, remembers, page_of, after_call}
 use Rattle.history.specs.Claim.{Claim}
 use Rattle.alike.specs.Scribbles.{Happening, event, AllHappen, ends, recalls}
 use Rattle.history.proofs.Theorem.{Kept, all-kept, begun_kept, mounted-kept}
@@ -49,7 +49,6 @@ still-held d l (close_session main reserve start) e = refl
 still-held d l (read v block) e = refl
 still-held d l (look_back k) e = refl
 still-held d l (time_of k answer) e = rw e
-still-held d l (go_back k) e = refl
 
 module _ (x : Day) (c : Call) (e : outcome x.disc x.ledger c ≡ 0) where
   pub next-done : next (world x) (calls c []) ≡ world (did x c)
@@ -109,12 +108,8 @@ abbrev pub start_pages : Bool → Disc → List Snapshot
 start_pages true d = []
 start_pages false d = start_page false d ∷ []
 
-abbrev pub start_older : Bool → Disc → ℕ → Snapshot
-start_older true d = λ k. []
-start_older false d = older_than d
-
 abbrev pub start_history : Bool → Disc → History
-start_history fresh d = record { pages = start_pages fresh d; draft = some (start_page fresh d); older = start_older fresh d }
+start_history fresh d = record { pages = start_pages fresh d; draft = some (start_page fresh d) }
 
 start-claim : (fresh : Bool) (d : Disc) (l : List ℕ) → outcome d l (opening fresh) ≡ 0
     → (hs : List Happening) → AllHappen (after_call d l (opening fresh)) hs

@@ -4,7 +4,6 @@ pub mod Shown
 pub mod Saves
 pub mod Whatever
 pub mod Since
-pub mod Gone
 pub mod Times
 pub mod Written
 pub mod Blocks

@@ -1,6 +1,6 @@
 -- What a host wants of its days: what was saved is read back, where the answers said, however long ago and whatever was cut since.
 --     saved-shows, saved-reads, saved-back   a save, mounted, read, and one step back from it
---     page-long-ago, long-ago-reads          a save with any calls behind it
+--     long-ago-reads                         a save with any calls behind it
 --     released-reads, nothing-mounts         a number released; a disc without a save
 --     cut-reads                              a save, a write, and any call that was cut
 --     storing-reads, marking-reads           the same of a program that was stopped
@@ -21,7 +21,7 @@ use Rattle.disc.proofs.Recording.{Sound, leading_le}
 use Rattle.volume.specs.declared.Volume.{Volume}
 use Rattle.volume.specs.Volume.{ledger_length, unpack, map_of, begun, grown, wrote, committed}
 use Rattle.volume.proofs.State.{Proper, length-pack, unpack-pack, proper-begun, proper-wrote, proper-committed}
-use Rattle.recorder.specs.Calls.{Call, begin, mount, write, release, close_packet, commit, close_session, read, look_back, time_of, go_back, buffer_of, saves}
+use Rattle.recorder.specs.Calls.{Call, begin, mount, write, release, close_packet, commit, look_back, buffer_of, saves}
 use Rattle.recorder.specs.Refusals.{outcome, target}
 use Rattle.recorder.specs.Effects.{Effect, effect, sectors_if, after, second_number, sectors_of}
 use Rattle.alike.specs.Alike.{Alike}
@@ -30,14 +30,13 @@ use Rattle.recorder.proofs.Answers.{answer-of, done-small}
 use Rattle.recorder.proofs.Sectors.{before_icb, ends-in-icb}
 use Rattle.alike.proofs.Discs.{blank-bytes}
 use Rattle.alike.proofs.Ahead.{marked-call}
-use Rattle.history.specs.History.{unused_entry, shows, Snapshot, History, Told, placed, saved_if, done, feed, Source, of_draft, cut_commit}
-use Rattle.history.specs.Events.{cuts, Torn, torn_at, cut_disc, next, told, source_of, kept, cut_if, cut_short, fed}
+use Rattle.history.specs.History.{unused_entry, shows, Snapshot, History, Told, placed, saved_if, done, feed}
+use Rattle.history.specs.Events.{cuts, Torn, torn_at, cut_disc, next, told, kept, cut_if, cut_short, fed}
 use Rattle.history.specs.Claim.{block_number, DoneShowing, Mounts, Claim}
 use Rattle.history.specs.Times.{saved_stamp}
-use Rattle.history.specs.Back.{saved_state}
 use Rattle.alike.specs.Scribbles.{event, scribble, AllHappen, ends, recalls}
 use Rattle.history.proofs.Saving.{told-save, unsaved, Saving, saving-done, small, table_block, at_table}
-use Rattle.history.proofs.Theorem.{Kept, saved-page, Remounted, save-then-mount}
+use Rattle.history.proofs.Theorem.{Kept, saved-page, Remounted, remounts}
 use Rattle.client.specs.Day.{Day, ended, day, AllDone, opening, ShowsSave, back_if, one_back, saves_among, struck, OneSector, sectors_behind, CutBehind, table_kept, reads_of, StoppedStoring, StoppedMarking, world}
 use Rattle.client.proofs.Days.{joined, part-done, did, done_first, called-done, first_done, rest-done, last_done, Fit, first-fit, opening-fit, last_fit}
 use Rattle.client.proofs.Claimed.{not-lost, history, kept_next, start_page, start_pages, opened, remembered, claim-behind, claim-at, kept_at}
@@ -92,34 +91,16 @@ module _ (d : Disc) (l : List ℕ) (good : Proper (unpack l)) where
       let s : Volume = unpack l in
       rw e (ap (λ v. v.last) (unpack-pack (wrote (some v) (target s) s) (proper-wrote s good (some v) (target s) f.fit.few (omega (arith, few d f.sound-disc, f.fit.same-recorded, links-few s)))))
 
-  pub save-long : (c : Call) → saves c ≡ true → outcome d l c ≡ 0 → length (after d l c).ledger ≡ ledger_length
+  save-long : (c : Call) → saves c ≡ true → outcome d l c ≡ 0 → length (after d l c).ledger ≡ ledger_length
   unfolding after
   save-long c is-save e =
       let s : Saving d l c = saving-done d l c is-save e in
-      let v : Volume = saved_state d l c in
+      let v : Volume = unpack l in
       let ok : Sound d = s.done.sound-disc in
-      let b : ℕ = table_block d l ok c s in
+      let b : ℕ = table_block d l ok good c s in
       rw e
       (ap (λ (x : Effect). length x.ledger) s.leaves
-      ∙ length-pack (committed b v) (proper-committed v (s.still-proper good) b (omega (arith, at_table d l ok c s, small d l ok c s))))
-
--- a save of the draft records the ledger's state
-draft-state : (d : Disc) (l : List ℕ) (c : Call) → source_of c ≡ of_draft → saved_state d l c ≡ unpack l
-draft-state d l begin e = refl
-draft-state d l mount e = refl
-draft-state d l (write n block) e = refl
-draft-state d l (release n) e = refl
-draft-state d l close_packet e = refl
-draft-state d l (commit stamp) e = refl
-draft-state d l (close_session main reserve start) e = refl
-draft-state d l (read n block) e = refl
-draft-state d l (look_back k) e = refl
-draft-state d l (time_of k answer) e = refl
-draft-state d l (go_back k) e = absurd (let z : ◌≡◌ {A = ℕ} 0 1 = cc in omega arith)
-
--- and counts as a commit of it
-told-draft : (c : Call) → saves c ≡ true → source_of c ≡ of_draft → told c ≡ Told.commit of_draft
-told-draft c is-save of-draft = told-save c is-save ∙ ap Told.commit of-draft
+      ∙ length-pack (committed b v) (proper-committed v good b (omega (arith, at_table d l ok good c s, small d l ok good c s))))
 
 one-step : (last : ℕ) {answer : ℕ} → (last ≡ unused → answer ≡ 9 * 4294967296) → ((last ≡ unused → ⊥) → answer ≡ last) → answer ≡ one_back last
 one-step last {answer} none-there there = go (eqb last unused) refl
@@ -180,7 +161,7 @@ module _ (x : Day) (fresh : Bool) (ok : x.answer < 4294967296) where
 
   -- ---- a save
 
-  module _ (v : ℕ) (block : List ℕ) (c : Call) (is-save : saves c ≡ true) (of-draft : source_of c ≡ of_draft) (a : AllDone x (opening fresh ∷ write (some v) block ∷ c ∷ [])) where
+  module _ (v : ℕ) (block : List ℕ) (c : Call) (is-save : saves c ≡ true) (a : AllDone x (opening fresh ∷ write (some v) block ∷ c ∷ [])) where
     abbrev recorded-day : Day
     recorded-day = day x (opening fresh ∷ write (some v) block ∷ [])
 
@@ -210,14 +191,14 @@ module _ (x : Day) (fresh : Bool) (ok : x.answer < 4294967296) where
     saved-long = ap (λ (y : Day). length y.ledger) save-called ∙ save-long recorded-day.disc recorded-day.ledger recorded-good c is-save save-is-done
 
     again : Remounted recorded-day.disc recorded-day.ledger c saved-day.ledger
-    again = save-then-mount recorded-day.disc recorded-day.ledger c is-save save-is-done saved-day.ledger saved-long
+    again = remounts recorded-day.disc recorded-day.ledger recorded-good c is-save save-is-done saved-day.ledger saved-long
 
     saved-disc : saved-day.disc ≡ (after recorded-day.disc recorded-day.ledger c).disc
     saved-disc = ap (λ (y : Day). y.disc) save-called
 
     mounts : DoneShowing saved-day.disc saved-day.ledger mount (first_page x fresh v block)
     mounts =
-        subst (λ (t : Told). Mounts saved-day.disc saved-day.ledger (done t (second_number written-first.disc written-first.ledger c) (remembered x fresh (write (some v) block ∷ []))).pages) (told-draft c is-save of-draft)
+        subst (λ (t : Told). Mounts saved-day.disc saved-day.ledger (done t (second_number written-first.disc written-first.ledger c) (remembered x fresh (write (some v) block ∷ []))).pages) (told-save c is-save)
         ((claim-at x fresh ok (write (some v) block ∷ c ∷ []) a).mounts saved-day.ledger saved-long)
 
     pub saved-shows : ShowsSave x (opening fresh) v block c (after saved-day.disc saved-day.ledger mount).answer (after saved-day.disc saved-day.ledger mount).ledger
@@ -255,12 +236,10 @@ module _ (x : Day) (fresh : Bool) (ok : x.answer < 4294967296) where
         ap (λ (y : Day). (unpack y.ledger).last) (last_done x (opening fresh ∷ []) (write (some v) block) record-done)
         ∙ written_last o.disc o.ledger (kept_at x fresh ok [] o-done).good.ledger-good v block
         (done_first o (write (some v) block) [] o-done (subst (λ (y : Day). y.answer < 4294967296) (joined (opening fresh ∷ []) (write (some v) block ∷ []) x) record-done)) in
-        let last-same : (saved_state recorded-day.disc recorded-day.ledger c).last ≡ (unpack o.ledger).last =
-        ap (λ (u : Volume). u.last) (draft-state recorded-day.disc recorded-day.ledger c of-draft) ∙ same in
         let here : (after saved-day.disc saved-day.ledger (look_back 1)).answer ≡ (after (after recorded-day.disc recorded-day.ledger c).disc saved-day.ledger (look_back 1)).answer =
         ap (λ (d : Disc). (after d saved-day.ledger (look_back 1)).answer) saved-disc in
         ap (λ (y : Day). y.answer) (e ∙ last_fit x (opening fresh ∷ write (some v) block ∷ c ∷ []) (look_back 1) a saved-fit)
-        ∙ here ∙ one-step (unpack o.ledger).last (λ z. again.none-back (last-same ∙ z)) (λ used. again.one-back (λ z. used (sym last-same ∙ z)) ∙ last-same)
+        ∙ here ∙ one-step (unpack o.ledger).last (λ z. again.none-back (same ∙ z)) (λ used. again.one-back (λ z. used (sym same ∙ z)) ∙ same)
 
 -- ---- any calls behind a save
 
@@ -268,10 +247,6 @@ module _ (x : Day) (fresh : Bool) (ok : x.answer < 4294967296) where
 pub record MovedBack (before after : List Snapshot) (n : ℕ) : Type 0 where
   pub page : (i : ℕ) → get_or after (i + n) [] ≡ get_or before i []
   pub count : length after ≡ length before + n
-
--- the newest page then
-pub moved_here : {ps qs : List Snapshot} {n : ℕ} → MovedBack ps qs n → get_or qs n [] ≡ get_or ps 0 []
-moved_here {ps} {qs} {n} m = ap (λ (k : ℕ). get_or qs k []) (let e : n ≡ 0 + n = omega arith in e) ∙ m.page 0
 
 moved_on : {ps qs rs : List Snapshot} {p : Snapshot} {n : ℕ} → qs ≡ p ∷ ps → MovedBack qs rs n → MovedBack ps rs (n + 1)
 moved_on {ps} {qs} {rs} {p} {n} e m =
@@ -309,15 +284,14 @@ pub record Later (x : Day) (cs : List Call) (y : Day) (out : List ℕ) : Type 0 
   pub block-long : length out ≡ sector_length
 
 module _ (x : Day) (fresh : Bool) (ok : x.answer < 4294967296) (v : ℕ) where
-  pub claim-later : (cs : List Call) → AllDone x (opening fresh ∷ cs) → {y : Day} {out : List ℕ} → Later x (opening fresh ∷ cs) y out → Claim y.disc (remembered x fresh cs)
+  claim-later : (cs : List Call) → AllDone x (opening fresh ∷ cs) → {y : Day} {out : List ℕ} → Later x (opening fresh ∷ cs) y out → Claim y.disc (remembered x fresh cs)
   claim-later cs a g = subst (λ (d : Disc). Claim d (remembered x fresh cs)) g.there (claim-at x fresh ok cs a)
 
-  -- the page of a save, with any calls behind it
-  pub page-long-ago : (c : Call) → saves c ≡ true → source_of c ≡ of_draft → (block : List ℕ) (since : List Call) → AllDone x (opening fresh ∷ write (some v) block ∷ c ∷ since)
-      → (let pages : List Snapshot = (remembered x fresh (write (some v) block ∷ c ∷ since)).pages in
-      (get_or pages (saves_among since) [] ≡ first_page x fresh v block) × (saves_among since < length pages))
+  pub long-ago-reads : (c : Call) → saves c ≡ true → (block : List ℕ) (since : List Call) → AllDone x (opening fresh ∷ write (some v) block ∷ c ∷ since)
+      → (y : Day) (out : List ℕ) → Later x (opening fresh ∷ write (some v) block ∷ c ∷ since) y out
+      → Reads y (look_back (saves_among since)) v out 0 block
   unfolding day
-  page-long-ago c is-save of-draft block since a =
+  long-ago-reads c is-save block since a y out g =
       let o : Day = opened x fresh in
       let w : Day = did o (write (some v) block) in
       let z : Day = did w c in
@@ -333,18 +307,13 @@ module _ (x : Day) (fresh : Bool) (ok : x.answer < 4294967296) (v : ℕ) where
       let m : MovedBack h.pages (remembered x fresh (write (some v) block ∷ c ∷ since)).pages (saves_among since) =
       moved_back since z h (called-done w c since w-done w-rest) (rest-done w c since w-done w-rest) k in
       let made : h.pages ≡ first_page x fresh v block ∷ start_pages fresh x.disc =
-      ap (λ (t : Told). (done t (second_number w.disc w.ledger c) (remembered x fresh (write (some v) block ∷ []))).pages) (told-draft c is-save of-draft) in
+      ap (λ (t : Told). (done t (second_number w.disc w.ledger c) (remembered x fresh (write (some v) block ∷ []))).pages) (told-save c is-save) in
+      let page : get_or (remembered x fresh (write (some v) block ∷ c ∷ since)).pages (saves_among since) [] ≡ first_page x fresh v block =
+      ap (λ (n : ℕ). get_or (remembered x fresh (write (some v) block ∷ c ∷ since)).pages n []) (let e : saves_among since ≡ 0 + saves_among since = omega arith in e) ∙ m.page 0 ∙ ap (λ (ps : List Snapshot). get_or ps 0 []) made in
       let some-page : length h.pages ≡ suc (length (start_pages fresh x.disc)) = ap length made in
-      (moved_here m ∙ ap (λ (ps : List Snapshot). get_or ps 0 []) made, omega (arith, m.count, some-page))
-
-  pub long-ago-reads : (c : Call) → saves c ≡ true → source_of c ≡ of_draft → (block : List ℕ) (since : List Call) → AllDone x (opening fresh ∷ write (some v) block ∷ c ∷ since)
-      → (y : Day) (out : List ℕ) → Later x (opening fresh ∷ write (some v) block ∷ c ∷ since) y out
-      → Reads y (look_back (saves_among since)) v out 0 block
-  long-ago-reads c is-save of-draft block since a y out g =
-      let page = page-long-ago c is-save of-draft block since a in
       look-reads y g.ok g.roles-fit v out g.block-long (saves_among since)
-      ((claim-later (write (some v) block ∷ c ∷ since) a g).looks y.ledger g.ledger-long (saves_among since) page.1)
-      (ap (λ (p : Snapshot). get_or p v unused_entry) page.0 ∙ first-there x fresh ok v block (c ∷ since) a)
+      ((claim-later (write (some v) block ∷ c ∷ since) a g).looks y.ledger g.ledger-long (saves_among since) (omega (arith, m.count, some-page)))
+      (ap (λ (p : Snapshot). get_or p v unused_entry) page ∙ first-there x fresh ok v block (c ∷ since) a)
 
   -- two saves: the newer reads what was written last
   pub newer-reads : (old new : List ℕ) → (a : AllDone x (opening fresh ∷ write (some v) old ∷ commit none ∷ write (some v) new ∷ close_packet ∷ commit none ∷ []))
@@ -400,25 +369,21 @@ kept_table d l c is-save j = go (outcome d l c) refl
     go zero e =
         let ss : List Sector = (effect d l c).sectors in
         let s : Saving d l c = saving-done d l c is-save e in
-        let v : Volume = saved_state d l c in
+        let v : Volume = unpack l in
         let some-there : 0 < length ss = subst (λ (x : Effect). 0 < length x.sectors) (sym s.leaves) (subst (λ (ss : List Sector). 0 < length ss) (sym (ends-in-icb d v (map_of v) v.last s.first (saved_stamp c) (buffer_of c))) (ends-in (before_icb d v (map_of v) v.last s.first) _)) in
         ap (λ (t : Bool). t && eqb j (length ss)) (sym (lt-ltb 0 (length ss) some-there))
     go (suc n) e = ap (λ (t : Bool). t && eqb j 0) (ne_eqb (suc n) 0 (λ e. omega (arith, e)))
 
--- a history that a cut left, with its page if the table was kept
-abbrev pub cut_history : Bool → History → History
-cut_history kept h = record { pages = saved_if kept h.draft h.pages; draft = none; older = h.older }
-
-pub cut-history : (d : Disc) (l : List ℕ) (h : History) (c : Call) → source_of c ≡ of_draft → (j : ℕ)
-    → feed h (cut_short d l c j) ≡ cut_history (table_kept c j (length (sectors_of d l c))) h
+pub cut-history : (d : Disc) (l : List ℕ) (h : History) (c : Call) (j : ℕ)
+    → feed h (cut_short d l c j) ≡ record { pages = saved_if (table_kept c j (length (sectors_of d l c))) h.draft h.pages; draft = none }
 unfolding feed
-cut-history d l h c of-draft j = go (saves c) refl
+cut-history d l h c j = go (saves c) refl
   where
-    go : (t : Bool) → saves c ≡ t → feed h (cut_if t (source_of c) (told c) (kept d l c j)) ≡ cut_history (t && (ltb 0 (length (sectors_of d l c)) && eqb j (length (sectors_of d l c)))) h
-    go true is = ap (λ (source : Source). feed h (cut_commit source (kept d l c j))) of-draft ∙ ap (λ (k : Bool). cut_history k h) (kept_table d l c is j)
+    go : (t : Bool) → saves c ≡ t → feed h (cut_if t (told c) (kept d l c j)) ≡ record { pages = saved_if (t && (ltb 0 (length (sectors_of d l c)) && eqb j (length (sectors_of d l c)))) h.draft h.pages; draft = none }
+    go true is = ap {B = History} (λ k. record { pages = saved_if k h.draft h.pages; draft = none }) (kept_table d l c is j)
     go false is = refl
 
-module _ (x : Day) (fresh : Bool) (ok : x.answer < 4294967296) (v : ℕ) (stamp : Option (List ℕ)) (old new : List ℕ) (c : Call) (of-draft : source_of c ≡ of_draft) (j : ℕ) (tear : Option (List ℕ)) where
+module _ (x : Day) (fresh : Bool) (ok : x.answer < 4294967296) (v : ℕ) (stamp : Option (List ℕ)) (old new : List ℕ) (c : Call) (j : ℕ) (tear : Option (List ℕ)) where
   abbrev before-cut : List Call
   before-cut = write (some v) old ∷ commit stamp ∷ write (some v) new ∷ []
 
@@ -430,13 +395,13 @@ module _ (x : Day) (fresh : Bool) (ok : x.answer < 4294967296) (v : ℕ) (stamp 
 
   -- bytes that mean nothing may have changed since
   cut-claim : {d e : Disc} → CutBehind x (opening fresh ∷ before-cut) c j tear d → Alike d e
-      → Claim e (cut_history keeps (remembered x fresh before-cut))
+      → Claim e (record { pages = saved_if keeps (remembered x fresh before-cut).draft (remembered x fresh before-cut).pages; draft = none })
   unfolding AllHappen ends recalls next fed cut_disc
   cut-claim {d} {e} g alike =
       let ss : List Sector = sectors_behind x (opening fresh ∷ before-cut) c in
       let same : d ≡ cut_disc cut-day.disc ss j tear = g.is-left ∙ struck-torn (ltb j (length ss)) tear (recorded cut-day.disc + j) (puts cut-day.disc (recorded cut-day.disc) (take j ss)) in
       subst (Claim e)
-      (cut-history cut-day.disc cut-day.ledger (remembered x fresh before-cut) c of-draft j)
+      (cut-history cut-day.disc cut-day.ledger (remembered x fresh before-cut) c j)
       (claim-behind x fresh ok before-cut g.all_done (event (cuts c [] j tear) ∷ scribble e ∷ [])
       ((λ z. absurd (not-lost cut-day.ledger z), g.within, torn-sector tear g.one-sector), (subst (λ (x : Disc). Alike x e) same alike, tt)))
 
@@ -444,7 +409,7 @@ module _ (x : Day) (fresh : Bool) (ok : x.answer < 4294967296) (v : ℕ) (stamp 
       → Reads y mount v out 0 (reads_of keeps old new)
   cut-reads d y out y-ok fit g alike long whole = go keeps (cut-claim g alike)
     where
-      go : (t : Bool) → Claim y.disc (cut_history t (remembered x fresh before-cut)) → Reads y mount v out 0 (reads_of t old new)
+      go : (t : Bool) → Claim y.disc (record { pages = saved_if t (remembered x fresh before-cut).draft (remembered x fresh before-cut).pages; draft = none }) → Reads y mount v out 0 (reads_of t old new)
       go true claim = mount-reads y y-ok fit v out whole (claim.mounts y.ledger long) (written-there (first_page x fresh v old) v _ new (below-first x fresh ok v old (commit stamp ∷ write (some v) new ∷ []) g.all_done))
       go false claim = mount-reads y y-ok fit v out whole (claim.mounts y.ledger long) (first-there x fresh ok v old (commit stamp ∷ write (some v) new ∷ []) g.all_done)
 
@@ -466,16 +431,16 @@ module _ (x : Day) (fresh : Bool) (ok : x.answer < 4294967296) (v : ℕ) (stamp 
       let ss : List Sector = sectors_behind x (opening fresh ∷ write (some v) old ∷ commit stamp ∷ write (some v) new ∷ []) mount in
       let good : Sound d = (kept_at x fresh ok (write (some v) old ∷ commit stamp ∷ write (some v) new ∷ []) s.all_done).good.sound-disc in
       let alike : Alike d y.disc = subst (λ (ks : List ℕ). Alike d (lent y.disc.image ks)) s.same-kinds (blank-bytes d good y.disc.image s.same_length s.same-recorded) in
-      cut-reads x fresh ok v stamp old new mount refl 0 none d y out y-ok fit
+      cut-reads x fresh ok v stamp old new mount 0 none d y out y-ok fit
       (record { all_done = s.all_done; within = omega arith; one-sector = tt; is-left = sym (unstruck (ltb 0 (length ss)) (recorded d + 0) d) }) alike long whole
 
   -- the first j sectors marked: as if the call had been cut after them
-  pub marking-reads : (c : Call) → source_of c ≡ of_draft → (j : ℕ) → StoppedMarking x (opening fresh ∷ write (some v) old ∷ commit stamp ∷ write (some v) new ∷ []) c j y.disc
+  pub marking-reads : (c : Call) (j : ℕ) → StoppedMarking x (opening fresh ∷ write (some v) old ∷ commit stamp ∷ write (some v) new ∷ []) c j y.disc
       → Reads y mount v out 0 (reads_of (table_kept c j (length (sectors_behind x (opening fresh ∷ write (some v) old ∷ commit stamp ∷ write (some v) new ∷ []) c))) old new)
-  marking-reads c of-draft j s =
+  marking-reads c j s =
       let d : Disc = written-day.disc in
       let ss : List Sector = sectors_behind x (opening fresh ∷ write (some v) old ∷ commit stamp ∷ write (some v) new ∷ []) c in
       let cut : Disc = puts d (recorded d) (take j ss) in
       let alike : Alike cut y.disc = subst₂ (λ (i ks : List ℕ). Alike cut (lent i ks)) s.all-stored s.some-marked (marked-call d written-day.ledger c j) in
-      cut-reads x fresh ok v stamp old new c of-draft j none cut y out y-ok fit
+      cut-reads x fresh ok v stamp old new c j none cut y out y-ok fit
       (record { all_done = s.all_done; within = s.within; one-sector = tt; is-left = sym (unstruck (ltb j (length ss)) (recorded d + j) cut) }) alike long whole

@@ -1,4 +1,4 @@
--- What is read behind a call that shows a page.
+-- What is read behind a mount or a look back that shows a page.
 -- Assumes nothing.
 use Prim.Native.Nat.{ℕ, zero, suc, ◌*◌, ◌<◌}
 use mathlib.Core.Path.{◌≡◌, refl, sym, ap, ◌∙◌, subst}
@@ -12,7 +12,7 @@ use Rattle.recorder.specs.Refusals.{outcome}
 use Rattle.recorder.specs.Effects.{Effect, effect, After, settled, after}
 use Rattle.recorder.proofs.Answers.{done-small}
 use Rattle.history.specs.History.{Entry, unused_entry, shows, Snapshot}
-use Rattle.history.specs.Claim.{reading, Shows, DoneShowing}
+use Rattle.history.specs.Claim.{reading, DoneShowing}
 use Rattle.client.specs.Day.{Day, ended, day, AllDone, read_at}
 use Rattle.client.proofs.Days.{joined, did, Fit, first-fit, next-fit}
 
@@ -48,12 +48,15 @@ module _ (x : Day) (cs : List Call) {c : Call} {v : ℕ} {out : List ℕ} {answe
   given-behind e f copied =
       given s (e ∙ joined cs (c ∷ read v out ∷ []) x) (λ a. copied ∙ ap (λ (y : Day). read_at y v out) (f ∙ joined cs (c ∷ []) x))
 
-module _ (x : Day) (ok : x.answer < 4294967296) (fit : Fit x) (c : Call) {p : Snapshot} (s : Shows (after x.disc x.ledger c).disc (after x.disc x.ledger c).ledger p) (small : (after x.disc x.ledger c).answer < 4294967296) (v : ℕ) (out : List ℕ) (long : length out ≡ sector_length) where
-  abbrev reads : Entry → After
-  reads e = reading (after x.disc x.ledger c).disc (after x.disc x.ledger c).ledger out e
+module _ (x : Day) (ok : x.answer < 4294967296) (fit : Fit x) (c : Call) {p : Snapshot} (s : DoneShowing x.disc x.ledger c p) (same : (after x.disc x.ledger c).disc ≡ x.disc) (small : (after x.disc x.ledger c).answer < 4294967296) (v : ℕ) (out : List ℕ) (long : length out ≡ sector_length) where
+  abbrev behind : List ℕ
+  behind = (after x.disc x.ledger c).ledger
 
-  reads-entry : after (after x.disc x.ledger c).disc (after x.disc x.ledger c).ledger (read v out) ≡ reads (get_or p v unused_entry)
-  reads-entry = s.reads v out long
+  abbrev reads : Entry → After
+  reads e = reading x.disc behind out e
+
+  reads-entry : after (after x.disc x.ledger c).disc behind (read v out) ≡ reads (get_or p v unused_entry)
+  reads-entry = ap (λ (d : Disc). after d behind (read v out)) same ∙ s.showing.reads v out long
 
   reads-page : Reads x c v out (reads (get_or p v unused_entry)).answer (reads (get_or p v unused_entry)).buffer
   unfolding day
@@ -67,24 +70,20 @@ module _ (x : Day) (ok : x.answer < 4294967296) (fit : Fit x) (c : Call) {p : Sn
       }
 
   -- in use: the page's bytes
-  pub reads-block : {b : ℕ} {block : List ℕ} → get_or p v unused_entry ≡ shows b (some block) → Reads x c v out 0 block
+  reads-block : {b : ℕ} {block : List ℕ} → get_or p v unused_entry ≡ shows b (some block) → Reads x c v out 0 block
   reads-block e = subst (λ (y : Entry). Reads x c v out (reads y).answer (reads y).buffer) e reads-page
 
   -- not in use: 10, and the lent block as it was
   reads-unused : get_or p v unused_entry ≡ unused_entry → Reads x c v out (10 * 4294967296) out
   reads-unused e = subst (λ (y : Entry). Reads x c v out (reads y).answer (reads y).buffer) e reads-page
 
--- a call that shows a page and records nothing
-shows-here : (x : Day) (c : Call) {p : Snapshot} → DoneShowing x.disc x.ledger c p → (after x.disc x.ledger c).disc ≡ x.disc → Shows (after x.disc x.ledger c).disc (after x.disc x.ledger c).ledger p
-shows-here x c {p} s same = subst (λ (d : Disc). Shows d (after x.disc x.ledger c).ledger p) (sym same) s.showing
-
 module _ (x : Day) (ok : x.answer < 4294967296) (fit : Fit x) {p : Snapshot} (v : ℕ) (out : List ℕ) (long : length out ≡ sector_length) where
   module _ (s : DoneShowing x.disc x.ledger mount p) where
     pub mount-reads : {b : ℕ} {block : List ℕ} → get_or p v unused_entry ≡ shows b (some block) → Reads x mount v out 0 block
-    mount-reads = reads-block x ok fit mount (shows-here x mount s (mount-disc x.disc x.ledger)) (done-small x.disc x.ledger mount s.is-done) v out long
+    mount-reads = reads-block x ok fit mount s (mount-disc x.disc x.ledger) (done-small x.disc x.ledger mount s.is-done) v out long
 
     pub mount-unused : get_or p v unused_entry ≡ unused_entry → Reads x mount v out (10 * 4294967296) out
-    mount-unused = reads-unused x ok fit mount (shows-here x mount s (mount-disc x.disc x.ledger)) (done-small x.disc x.ledger mount s.is-done) v out long
+    mount-unused = reads-unused x ok fit mount s (mount-disc x.disc x.ledger) (done-small x.disc x.ledger mount s.is-done) v out long
 
   pub look-reads : (k : ℕ) → DoneShowing x.disc x.ledger (look_back k) p → {b : ℕ} {block : List ℕ} → get_or p v unused_entry ≡ shows b (some block) → Reads x (look_back k) v out 0 block
-  look-reads k s = reads-block x ok fit (look_back k) (shows-here x (look_back k) s (look-disc x.disc x.ledger k)) (done-small x.disc x.ledger (look_back k) s.is-done) v out long
+  look-reads k s = reads-block x ok fit (look_back k) s (look-disc x.disc x.ledger k) (done-small x.disc x.ledger (look_back k) s.is-done) v out long

@@ -77,7 +77,6 @@ pub record SavedThere (x : Day) (fresh : Bool) (before : List Call) (c : Call) (
   pub ends_there : day (opened x fresh) (before ++ (c ∷ [])) ≡ saved x fresh before c
   pub a-page : length (book x fresh before c).pages ≡ suc (length (remembered x fresh before).pages)
   pub went-since : Went (saved x fresh before c) (book x fresh before c) since
-  pub moved : MovedBack (book x fresh before c).pages (history (saved x fresh before c) (book x fresh before c) since).pages (saves_among since)
   pub counted : length (remembers (world (saved x fresh before c)) (book x fresh before c) (as_events since)).pages ≡ saves_among since + length (book x fresh before c).pages
   pub same-disc : (runs (world (saved x fresh before c)) (as_events since)).disc ≡ (day x (opening fresh ∷ (before ++ (c ∷ since)))).disc
 
@@ -113,7 +112,6 @@ saved-there x fresh ok before since c is-save a =
       ends_there = joined before (c ∷ []) o ∙ first_done y c [] b-done (part-done (c ∷ []) since y y-rest);
       a-page = ap length (saved-page y.disc y.ledger hy kept c is-save c-done (second_number y.disc y.ledger c));
       went-since = w;
-      moved = moved;
       counted = ap (λ (g : History). length g.pages) w.recalled ∙ (let n : length (history z hz since).pages ≡ saves_among since + length hz.pages = omega (arith, moved.count) in n);
       same-disc =
           ap (λ (v : World). v.disc) w.ended

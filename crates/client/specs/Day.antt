@@ -5,7 +5,7 @@ use Rattle.vat.specs.Table.{sector_length, unused}
 use Rattle.extent.specs.Extents.{extent}
 use Rattle.disc.specs.Disc.{Disc, lent, Sector, torn, recorded, put, puts}
 use Rattle.volume.specs.Volume.{unpack, grown}
-use Rattle.recorder.specs.Calls.{Call, begin, mount, write, read, go_back, saves}
+use Rattle.recorder.specs.Calls.{Call, begin, mount, write, read, saves}
 use Rattle.recorder.specs.Effects.{after, sectors_of}
 use Rattle.roles.specs.Keeping.{AfterRoles, after_roles}
 use Rattle.run.specs.Entry.{entry}
@@ -79,11 +79,6 @@ one_back last = back_if (eqb last unused) last
 abbrev pub saves_among : List Call → ℕ
 saves_among [] = 0
 saves_among (c ∷ cs) = grown (saves c) (saves_among cs)
-
--- A save of block as number v by the call c, and calls since; then going back as many saves as are among these, which makes that save the present one; and
--- calls behind it.
-abbrev pub going_back : Bool → ℕ → List ℕ → Call → List Call → List Call → List Call
-going_back fresh v block c since later = opening fresh ∷ write (some v) block ∷ c ∷ (since ++ (go_back (saves_among since) ∷ later))
 
 -- What a cut leaves at the call's next sector, if there is one: it stays as it was, or is torn to 2048 bytes of any kind.
 abbrev pub struck : Bool → Option (List ℕ) → ℕ → Disc → Disc

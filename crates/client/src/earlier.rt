@@ -10,19 +10,17 @@ ghost use Rattle.disc.specs.Disc.{Disc, lent};
 ghost use Rattle.volume.specs.Volume.{ledger_length};
 ghost use Rattle.recorder.specs.Calls.{Call, write, commit, close_session, saves};
 ghost use Rattle.run.specs.View.{most_viewed};
-ghost use Rattle.history.specs.History.{of_draft};
-ghost use Rattle.history.specs.Events.{Event, AllAllowed, runs, source_of};
+ghost use Rattle.history.specs.Events.{Event, AllAllowed, runs};
 ghost use Rattle.history.specs.Times.{saved_stamp};
 ghost use Rattle.archive.specs.Earlier.{seen_back, showing};
 ghost use Rattle.alike.specs.Alike.{Alike};
-ghost use Rattle.client.specs.Day.{Day, ended, day, AllDone, opening, saves_among, going_back, sectors_behind, CutBehind, table_kept, reads_of, StoppedStoring, StoppedMarking, left_by, world, NoSave, ClosedAnswer, filling, storing, joined_blocks};
+ghost use Rattle.client.specs.Day.{Day, ended, day, AllDone, opening, saves_among, sectors_behind, CutBehind, table_kept, reads_of, StoppedStoring, StoppedMarking, left_by, world, NoSave, ClosedAnswer, filling, storing, joined_blocks};
 
 use crate::REFUSED;
 use extent::Extent;
 
-// Whatever was done since a save of x, with k saves among it, goings back too: k saves back, v reads x. And where that save was made the present one again,
-// with k saves since then: k saves back, v reads x again. The save is a commit or a closing: going back saves no x that was just written. Any 16,364 bytes will
-// do as ledger, and any bytes as roles, one a sector.
+// Whatever was done since a save of x, with k saves among it: k saves back, v reads x. Any 16,364 bytes will do as ledger, and
+// any bytes as roles, one a sector.
 pub fn long_ago(
     image: &[u8],
     kinds: &[u8],
@@ -32,8 +30,7 @@ pub fn long_ago(
     v: u32,
     out: &mut [u8],
 ) -> u64
-    ensures value { (start : Day) (fresh : Bool) (c : Call) (x : List ℕ) (since : List Call) → start.answer < 4294967296 → saves c ≡ true → source_of c ≡ of_draft → AllDone start (opening fresh ∷ write (some v) x ∷ c ∷ since) → saves_among since ≡ k → (lent image.now kinds.now) ≡ (day start (opening fresh ∷ write (some v) x ∷ c ∷ since)).disc → length roles.old ≡ length kinds.now → length ledger.old ≡ ledger_length → length out.old ≡ sector_length → (result ≡ 0) × (out.new ≡ x) }
-    ensures value_2 { (start : Day) (fresh : Bool) (c : Call) (x : List ℕ) (since later : List Call) → start.answer < 4294967296 → saves c ≡ true → source_of c ≡ of_draft → AllDone start (going_back fresh v x c since later) → saves_among later ≡ k → (lent image.now kinds.now) ≡ (day start (going_back fresh v x c since later)).disc → length roles.old ≡ length kinds.now → length ledger.old ≡ ledger_length → length out.old ≡ sector_length → (result ≡ 0) × (out.new ≡ x) }
+    ensures { (start : Day) (fresh : Bool) (c : Call) (x : List ℕ) (since : List Call) → start.answer < 4294967296 → saves c ≡ true → AllDone start (opening fresh ∷ write (some v) x ∷ c ∷ since) → saves_among since ≡ k → (lent image.now kinds.now) ≡ (day start (opening fresh ∷ write (some v) x ∷ c ∷ since)).disc → length roles.old ≡ length kinds.now → length ledger.old ≡ ledger_length → length out.old ≡ sector_length → (result ≡ 0) × (out.new ≡ x) }
 {
     crate::show_back(image, kinds, roles, ledger, k, v, out)
 }
@@ -134,8 +131,8 @@ pub fn after_events(
     crate::show(image, kinds, roles, ledger, v, out)
 }
 
-// The morning after a power cut. After a save of x and a write of y, whatever call but going back was cut, and after however many of its sectors: v reads y
-// if that call saves and kept its table, and else x. Any 16,364 bytes will do as ledger, any bytes as roles, one a sector, and any bytes in the sectors that are
+// The morning after a power cut. After a save of x and a write of y, whatever call was cut, and after however many of its sectors: v reads y if that
+// call saves and kept its table, and else x. Any 16,364 bytes will do as ledger, any bytes as roles, one a sector, and any bytes in the sectors that are
 // not data.
 pub fn after_cut(
     image: &[u8],
@@ -145,7 +142,7 @@ pub fn after_cut(
     v: u32,
     out: &mut [u8],
 ) -> u64
-    ensures { (start : Day) (fresh : Bool) (stamp : Option (List ℕ)) (x y : List ℕ) (c : Call) (j : ℕ) (tear : Option (List ℕ)) (left : Disc) → start.answer < 4294967296 → source_of c ≡ of_draft → CutBehind start (opening fresh ∷ write (some v) x ∷ commit stamp ∷ write (some v) y ∷ []) c j tear left → Alike left (lent image.now kinds.now) → length roles.old ≡ length kinds.now → length ledger.old ≡ ledger_length → length out.old ≡ sector_length → (result ≡ 0) × (out.new ≡ reads_of (table_kept c j (length (sectors_behind start (opening fresh ∷ write (some v) x ∷ commit stamp ∷ write (some v) y ∷ []) c))) x y) }
+    ensures { (start : Day) (fresh : Bool) (stamp : Option (List ℕ)) (x y : List ℕ) (c : Call) (j : ℕ) (tear : Option (List ℕ)) (left : Disc) → start.answer < 4294967296 → CutBehind start (opening fresh ∷ write (some v) x ∷ commit stamp ∷ write (some v) y ∷ []) c j tear left → Alike left (lent image.now kinds.now) → length roles.old ≡ length kinds.now → length ledger.old ≡ ledger_length → length out.old ≡ sector_length → (result ≡ 0) × (out.new ≡ reads_of (table_kept c j (length (sectors_behind start (opening fresh ∷ write (some v) x ∷ commit stamp ∷ write (some v) y ∷ []) c))) x y) }
 {
     crate::show(image, kinds, roles, ledger, v, out)
 }
@@ -161,7 +158,7 @@ pub fn after_crash(
     out: &mut [u8],
 ) -> u64
     ensures value { (start : Day) (fresh : Bool) (stamp : Option (List ℕ)) (x y : List ℕ) → start.answer < 4294967296 → StoppedStoring start (opening fresh ∷ write (some v) x ∷ commit stamp ∷ write (some v) y ∷ []) (lent image.now kinds.now) → length roles.old ≡ length kinds.now → length ledger.old ≡ ledger_length → length out.old ≡ sector_length → (result ≡ 0) × (out.new ≡ x) }
-    ensures value_2 { (start : Day) (fresh : Bool) (stamp : Option (List ℕ)) (x y : List ℕ) (c : Call) (j : ℕ) → start.answer < 4294967296 → source_of c ≡ of_draft → StoppedMarking start (opening fresh ∷ write (some v) x ∷ commit stamp ∷ write (some v) y ∷ []) c j (lent image.now kinds.now) → length roles.old ≡ length kinds.now → length ledger.old ≡ ledger_length → length out.old ≡ sector_length → (result ≡ 0) × (out.new ≡ reads_of (table_kept c j (length (sectors_behind start (opening fresh ∷ write (some v) x ∷ commit stamp ∷ write (some v) y ∷ []) c))) x y) }
+    ensures value_2 { (start : Day) (fresh : Bool) (stamp : Option (List ℕ)) (x y : List ℕ) (c : Call) (j : ℕ) → start.answer < 4294967296 → StoppedMarking start (opening fresh ∷ write (some v) x ∷ commit stamp ∷ write (some v) y ∷ []) c j (lent image.now kinds.now) → length roles.old ≡ length kinds.now → length ledger.old ≡ ledger_length → length out.old ≡ sector_length → (result ≡ 0) × (out.new ≡ reads_of (table_kept c j (length (sectors_behind start (opening fresh ∷ write (some v) x ∷ commit stamp ∷ write (some v) y ∷ []) c))) x y) }
 {
     crate::show(image, kinds, roles, ledger, v, out)
 }

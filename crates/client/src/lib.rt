@@ -5,19 +5,16 @@
 pub mod account;
 pub mod earlier;
 
-ghost use Rattle.std.specs.Prelude.{◌≡◌, Bool, true, List, [], ◌∷◌, ℕ, ◌*◌, ◌≤◌, ◌<◌, length, take, drop};
+ghost use Rattle.std.specs.Prelude.{◌≡◌, true, [], ◌∷◌, ◌*◌, ◌≤◌, ◌<◌, length, take, drop};
 ghost use Rattle.std.proofs.Math.Option.{none, some};
 ghost use Rattle.timestamp.specs.Timestamp.{told_length, told};
 ghost use Rattle.vat.specs.Table.{sector_length};
 ghost use Rattle.extent.specs.declared.Extent.{Extent};
-ghost use Rattle.disc.specs.Disc.{lent};
 ghost use Rattle.volume.specs.Volume.{unpack};
-ghost use Rattle.recorder.specs.Calls.{Call, begin, mount, write, release, close_packet, commit, close_session, read, look_back, time_of, go_back, saves};
+ghost use Rattle.recorder.specs.Calls.{begin, mount, write, release, close_packet, commit, close_session, read, look_back, time_of};
 ghost use Rattle.run.specs.View.{most_viewed};
-ghost use Rattle.history.specs.History.{of_draft};
-ghost use Rattle.history.specs.Events.{source_of};
 ghost use Rattle.archive.specs.Earlier.{showing};
-ghost use Rattle.client.specs.Day.{Day, ended, morning, day, AllDone, opening, saves_among, read_at, ShowsSave, one_back, filling, storing, viewed};
+ghost use Rattle.client.specs.Day.{ended, morning, day, AllDone, opening, read_at, ShowsSave, one_back, filling, storing, viewed};
 
 use extent::Extent;
 
@@ -324,26 +321,6 @@ pub fn save_twice(
         return shown;
     }
     show(image, kinds, roles, ledger, v, new)
-}
-
-// Going back for good: the save k back is the present one, and number v of it is read at once, with the ledger that the call left.
-pub fn go_back_and_read(
-    image: &mut [u8],
-    kinds: &mut [u8],
-    roles: &mut [u8],
-    ledger: &mut [u8],
-    k: u32,
-    v: u32,
-    out: &mut [u8],
-) -> u64
-    ensures ledger_after { ended result image.new kinds.new roles.new ledger.new ≡ day (morning image.old kinds.old roles.old ledger.old) (go_back k ∷ read v out.old ∷ []) }
-    ensures value { (start : Day) (fresh : Bool) (c : Call) (x : List ℕ) (since : List Call) → start.answer < 4294967296 → saves c ≡ true → source_of c ≡ of_draft → AllDone start (opening fresh ∷ write (some v) x ∷ c ∷ since) → saves_among since ≡ k → (lent image.old kinds.old) ≡ (day start (opening fresh ∷ write (some v) x ∷ c ∷ since)).disc → ledger.old ≡ (day start (opening fresh ∷ write (some v) x ∷ c ∷ since)).ledger → length roles.old ≡ length kinds.old → AllDone (morning image.old kinds.old roles.old ledger.old) (go_back k ∷ []) → length out.old ≡ sector_length → (result ≡ 0) × (out.new ≡ x) }
-{
-    let gone = keeper::go_back(image, kinds, roles, ledger, k);
-    if REFUSED <= gone {
-        return gone;
-    }
-    sector_log::read(image, kinds, ledger, v, out)
 }
 
 // A block is written without a number.

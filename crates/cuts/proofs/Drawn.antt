@@ -22,7 +22,7 @@ use Rattle.history.specs.Claim.{block_number, reading, Shows, DoneShowing, Mount
 use Rattle.history.proofs.Theorem.{power-cuts}
 use Rattle.bench.proofs.Starred.{blank, block, full}
 use Rattle.cuts.proofs.CutCommit.{commit-works, cut_started, cut-allowed, cut-pages}
-use Rattle.cuts.proofs.Lists.{start, Begun, Mounted, in-the-links, in-the-links-pages, shown-in-the-links, no-table-yet, shown-no-table-yet, gone-back, gone-back-pages, shown-gone-back, two-saves, past_the_start, past-the-start-pages, shown-past-the-start}
+use Rattle.cuts.proofs.Lists.{start, Begun, Mounted, in-the-links, in-the-links-pages, shown-in-the-links, no-table-yet, shown-no-table-yet}
 use Rattle.cuts.proofs.Lists.{before-the-first-table, first-table-pages, shown-before-the-first-table}
 use Rattle.cuts.proofs.Lists.{looks-like-a-table, struck-pages, shown-looks-like-a-table, three_back, three-back-pages, shown-three-back}
 use Rattle.cuts.proofs.Lists.{unnumbered, unnumbered-pages, shown-unnumbered, cut_twice, cut-twice-pages, shown-cut-twice}
@@ -159,12 +159,6 @@ allowed-looks-like-a-table = shown-looks-like-a-table.allowed
 pub allowed-three-back : AllAllowed (start 22) three_back
 allowed-three-back = shown-three-back.allowed
 
-pub allowed-gone-back : AllAllowed (start 22) gone-back
-allowed-gone-back = shown-gone-back.allowed
-
-pub allowed-past-the-start : AllAllowed (after_call two-saves full mount) past_the_start
-allowed-past-the-start = shown-past-the-start.allowed
-
 pub allowed-unnumbered : AllAllowed (start 21) unnumbered
 allowed-unnumbered = shown-unnumbered.allowed
 
@@ -193,12 +187,6 @@ drawn-looks-like-a-table = begun-gives 17 looks-like-a-table struck-pages shown-
 
 pub drawn-three-back : Gives (runs (start 22) three_back).disc three-back-pages
 drawn-three-back = begun-gives 22 three_back three-back-pages shown-three-back
-
-pub drawn-gone-back : Gives (runs (start 22) gone-back).disc gone-back-pages
-drawn-gone-back = begun-gives 22 gone-back gone-back-pages shown-gone-back
-
-pub drawn-past-the-start : Gives (runs (after_call two-saves full mount) past_the_start).disc past-the-start-pages
-drawn-past-the-start = mounted-gives two-saves past_the_start past-the-start-pages shown-past-the-start
 
 pub drawn-unnumbered : Gives (runs (start 21) unnumbered).disc unnumbered-pages
 drawn-unnumbered = begun-gives 21 unnumbered unnumbered-pages shown-unnumbered

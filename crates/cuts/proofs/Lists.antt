@@ -16,7 +16,7 @@ use Rattle.disc.specs.Disc.{Disc, link, plain, torn, puts}
 use Rattle.disc.specs.Again.{same}
 use Rattle.volume.specs.declared.Volume.{Volume}
 use Rattle.volume.specs.Volume.{unpack}
-use Rattle.recorder.specs.Calls.{begin, mount, write, release, close_packet, commit, look_back, go_back}
+use Rattle.recorder.specs.Calls.{begin, mount, write, release, close_packet, commit, look_back}
 use Rattle.recorder.specs.Refusals.{ledger_lent}
 use Rattle.recorder.specs.Effects.{after}
 use Rattle.history.specs.History.{unused_entry, shows, Snapshot, History, feed}
@@ -142,37 +142,6 @@ cut-twice-pages = (shows 0 none ∷ shows 1 (some (block 6)) ∷ []) ∷ (shows 
 pub shown-cut-twice : Mounted scratched cut_twice cut-twice-pages
 unfolding works scratched cut_twice cut-twice-pages
 shown-cut-twice = works-so scratched mount (mounted_history scratched) cut_twice cut-twice-pages tt
-
--- going back to the first of two saves, a write that is not saved, and going back that is cut with its table kept
-unfoldable pub gone-back : List Event
-gone-back =
-    calls (write (some 0) (block 1)) [] ∷ calls (commit none) []
-    ∷ calls (write (some 0) (block 2)) [] ∷ calls (commit none) []
-    ∷ calls (go_back 1) [] ∷ calls (write (some 1) (block 3)) [] ∷ cuts (go_back 1) [] 1 none
-    ∷ []
-
-unfoldable pub gone-back-pages : List Snapshot
-gone-back-pages = (shows 2 (some (block 2)) ∷ []) ∷ (shows 0 (some (block 1)) ∷ []) ∷ (shows 2 (some (block 2)) ∷ []) ∷ (shows 0 (some (block 1)) ∷ []) ∷ []
-
-pub shown-gone-back : Begun 22 gone-back gone-back-pages
-unfolding works gone-back gone-back-pages
-shown-gone-back = works-so (blank 22) begin begun_history gone-back gone-back-pages tt
-
--- a mount on a disc with two saves, and going back to the one older than the start, twice
-unfoldable pub two-saves : Disc
-two-saves =
-    puts (blank 14) 0
-    (plain (block 5) ∷ plain (icb (table_bytes (0 ∷ []) unused) [] no_stamp 1) ∷ plain (block 6) ∷ plain (icb (table_bytes (2 ∷ []) 1) [] no_stamp 3) ∷ [])
-
-unfoldable pub past_the_start : List Event
-past_the_start = calls (go_back 1) [] ∷ calls (go_back 2) [] ∷ []
-
-unfoldable pub past-the-start-pages : List Snapshot
-past-the-start-pages = (shows 0 (some (block 5)) ∷ []) ∷ (shows 0 (some (block 5)) ∷ []) ∷ (shows 2 (some (block 6)) ∷ []) ∷ []
-
-pub shown-past-the-start : Mounted two-saves past_the_start past-the-start-pages
-unfolding works two-saves past_the_start past-the-start-pages
-shown-past-the-start = works-so two-saves mount (mounted_history two-saves) past_the_start past-the-start-pages tt
 
 -- writes without a number, done and cut, between saves: no page shows their blocks
 unfoldable pub unnumbered : List Event

@@ -19,7 +19,7 @@ use Rattle.recorder.specs.Calls.{Call, buffer_of, restores, saves, only_tells}
 use Rattle.recorder.specs.Refusals.{ledger_lent, outcome}
 use Rattle.recorder.specs.Effects.{after, if_done, sectors_if, sectors_of}
 use Rattle.history.specs.History.{Snapshot, History, answered, feed}
-use Rattle.history.specs.Events.{World, Event, calls, cuts, ledger_held, CountsAsDone, Torn, cut_disc, ledger_after, next, told, source_of, cut_if, fed, AllAllowed, runs, remembers, shown, after_call}
+use Rattle.history.specs.Events.{World, Event, calls, cuts, ledger_held, CountsAsDone, Torn, cut_disc, ledger_after, next, told, cut_if, fed, AllAllowed, runs, remembers, shown, after_call}
 use Rattle.bench.proofs.States.{outcome_of, Doing, doing, Step, settled_of, step, Holds, holds-own, Left, both, outcome-same, stepped, sectors_held, sectors-same, second-same}
 use Rattle.bench.proofs.Starred.{opened, full}
 use Rattle.cuts.proofs.Pages.{reads_as, mounts-to, looks-to, page-held, shows-held, mounts-held, looks-held, mounts-read, looks-read, same-entry, same-page, same-pages, pages-same}
@@ -113,7 +113,7 @@ played ok d k h (cuts c junk j tear ∷ es) =
     let m : Kept = lent_to k junk in
     let n : ℕ = outcome_of d m.long m.state c in
     let ss : List Sector = sectors_if n (doing d m.state c).sectors in
-    played (ok && (follows k n c && (leb j (length ss) && struck tear))) (cut_disc d ss j tear) none (feed h (cut_if (saves c) (source_of c) (told c) (eqb n 0 && eqb j (length ss)))) es
+    played (ok && (follows k n c && (leb j (length ss) && struck tear))) (cut_disc d ss j tear) none (feed h (cut_if (saves c) (told c) (eqb n 0 && eqb j (length ss)))) es
 
 -- What the working out says of the world and the history that the list leaves.
 pub record So (w : World) (h : History) (es : List Event) (p : Played) : Type 0 where
@@ -139,7 +139,7 @@ allowed-before (cuts c junk j tear ∷ es) ok d k h t =
     let n : ℕ = outcome_of d m.long m.state c in
     let ss : List Sector = sectors_if n (doing d m.state c).sectors in
     let now : Bool = follows k n c && (leb j (length ss) && struck tear) in
-    (both ok now (allowed-before es (ok && now) (cut_disc d ss j tear) none (feed h (cut_if (saves c) (source_of c) (told c) (eqb n 0 && eqb j (length ss)))) t)).0
+    (both ok now (allowed-before es (ok && now) (cut_disc d ss j tear) none (feed h (cut_if (saves c) (told c) (eqb n 0 && eqb j (length ss)))) t)).0
 
 pub played-so : (es : List Event) (ok : Bool) (k : Option Kept) (h : History) (w : World) → Matches w.ledger k → T (played ok w.disc k h es).allowed
     → So w h es (played ok w.disc k h es)
@@ -181,7 +181,7 @@ played-so (cuts c junk j tear ∷ es) ok k h w m t =
     let n : ℕ = outcome_of d q.long q.state c in
     let ss : List Sector = sectors_if n (doing d q.state c).sectors in
     let now : Bool = follows k n c && (leb j (length ss) && struck tear) in
-    let h' : History = feed h (cut_if (saves c) (source_of c) (told c) (eqb n 0 && eqb j (length ss))) in
+    let h' : History = feed h (cut_if (saves c) (told c) (eqb n 0 && eqb j (length ss))) in
     let w' : World = next w (cuts c junk j tear) in
     let g : History = feed h (fed w (cuts c junk j tear)) in
     let held : Holds l q.long q.state = lent-holds w.ledger k junk m in
@@ -191,7 +191,7 @@ played-so (cuts c junk j tear ∷ es) ok k h w m t =
     let sectors : sectors_of d l c ≡ ss = sectors-same d l c held in
     let rest : So w' g es (played (ok && now) (cut_disc d ss j tear) none h' es) =
     subst₂ (λ (e : Disc) (f : History). T (played (ok && now) e none f es).allowed → So w' g es (played (ok && now) e none f es))
-    (ap (λ (xs : List Sector). cut_disc d xs j tear) sectors) (λ i. feed h (cut_if (saves c) (source_of c) (told c) (eqb (outcomes i) 0 && eqb j (length (sectors i)))))
+    (ap (λ (xs : List Sector). cut_disc d xs j tear) sectors) (λ i. feed h (cut_if (saves c) (told c) (eqb (outcomes i) 0 && eqb j (length (sectors i)))))
     (played-so es (ok && now) none g w' tt) t in
     record {
       allowed = (

@@ -24,7 +24,7 @@ use Rattle.run.specs.Entry.{total_sectors, file_rows, entry}
 use Rattle.space.specs.Space.{Lent, leaves_all}
 use Rattle.bench.proofs.Starred.{opened, blank, block, full, stamp}
 use Rattle.space.proofs.Worked.{roles-opened}
-use Rattle.client.specs.Day.{Day, day, AllDone, opening, going_back, CutBehind, StoppedStoring, StoppedMarking, storing}
+use Rattle.client.specs.Day.{Day, day, AllDone, opening, CutBehind, StoppedStoring, StoppedMarking, storing}
 use Rattle.client.specs.Account.{RolesLeft}
 use Rattle.client.proofs.Days.{part-done, did, Fit, first-fit, next-fit}
 use Rattle.history.proofs.Closed.{closed-discs}
@@ -73,15 +73,6 @@ timed = tt
 pub saved-at : AllDone (fresh 18) save-at
 unfolding all_done
 saved-at = ltb→lt (day (fresh 18) save-at).answer 4294967296 timed
-
--- a second save, and the first made the present one again
-back_done : T (all_done (fresh 39) (going_back true 0 (block 1) (commit none) save-again []))
-unfolding days-opened
-back_done = tt
-
-pub gone-back : AllDone (fresh 39) (going_back true 0 (block 1) (commit none) save-again [])
-unfolding all_done
-gone-back = ltb→lt (day (fresh 39) (going_back true 0 (block 1) (commit none) save-again [])).answer 4294967296 back_done
 
 storing-done : T (all_done (fresh 20) stored)
 unfolding days-opened

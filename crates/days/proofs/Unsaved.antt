@@ -55,7 +55,7 @@ cut-leaves : (w : World) (h : History) → (feed h (fed w (cuts (commit none) []
 unfolding fed
 cut-leaves w h =
     let l : List ℕ = ledger_held w.ledger [] in
-    ap (λ (g : History). g.pages) (cut-history w.disc l h (commit none) refl 0)
+    ap (λ (g : History). g.pages) (cut-history w.disc l h (commit none) 0)
     ∙ ap (λ (t : Bool). saved_if t h.draft h.pages) (none_kept (length (sectors_of w.disc l (commit none))))
   where
     none_kept : (n : ℕ) → (ltb 0 n && eqb 0 n) ≡ false

@@ -20,7 +20,6 @@ use Rattle.history.proofs.Recorded as recordings
 use Rattle.history.proofs.Theorem as history
 use Rattle.history.proofs.Times as times
 use Rattle.history.proofs.Closed as closed
-use Rattle.history.proofs.Gone as gone
 use Rattle.archive.proofs.Theorem as archive
 use Rattle.archive.proofs.Viewing as viewing
 use Rattle.space.proofs.Theorem as roles
@@ -29,7 +28,6 @@ use Rattle.alike.proofs.Views as alike
 use Rattle.alike.proofs.Scribbles as scribbles
 use Rattle.bench.proofs.Starred as bench
 use Rattle.bench.proofs.Apart as apart
-use Rattle.bench.proofs.Gone as gone-rows
 use Rattle.delivery.specs.Delivery.{Delivery}
 
 refusals : (d : Disc) (rs l : List ℕ) (c : Call) (n : ℕ) → outcome_roles d rs l c ≡ suc n → after_roles d rs l c ≡ left_roles (suc n * 4294967296) d.image d.kinds rs l (buffer_of c)
@@ -79,7 +77,4 @@ delivered =
       as-without-roles = called.as-without-roles;
       own-neither = own.fresh-neither;
       apart-rows = apart.apart-rows;
-      goes_back = gone.goes_back;
-      going-back-rows = gone-rows.going-back-rows;
-      back-elsewhere-rows = gone-rows.back-elsewhere-rows;
     }

@@ -1,6 +1,6 @@
 -- Some of what the page says, written out for every list, call and save, so that a definition behind it that says less is refused here.
 -- Assumes nothing.
-use Prim.Native.Nat.{ℕ, suc, ◌+◌, ◌≤◌, ◌<◌}
+use Prim.Native.Nat.{ℕ, ◌+◌, ◌≤◌, ◌<◌}
 use mathlib.Core.Bool.{true}
 use mathlib.Core.List.{List, []}
 use mathlib.Core.Logic.{◌⊎◌}
@@ -11,12 +11,12 @@ use Rattle.vat.specs.Table.{unused}
 use Rattle.extent.specs.declared.Extent.{Extent}
 use Rattle.disc.specs.Disc.{Disc}
 use Rattle.disc.specs.Session.{session_closed}
-use Rattle.volume.specs.Volume.{unpack, map_of}
-use Rattle.recorder.specs.Calls.{Call, mount, close_session, look_back, time_of, go_back, may_record}
-use Rattle.recorder.specs.Refusals.{walked, outcome}
+use Rattle.volume.specs.Volume.{unpack}
+use Rattle.recorder.specs.Calls.{Call, mount, close_session, look_back, time_of, may_record}
+use Rattle.recorder.specs.Refusals.{outcome}
 use Rattle.recorder.specs.Effects.{after}
 use Rattle.run.specs.View.{view}
-use Rattle.history.specs.History.{unused_entry, History, page_back, feed}
+use Rattle.history.specs.History.{unused_entry, History, feed}
 use Rattle.history.specs.Events.{World, Event, Allowed, next, fed, AllAllowed, runs, remembers, after_call, mounted_history}
 use Rattle.history.specs.Times.{telling, call_of, saved_stamp, Saves}
 use Rattle.timestamp.specs.Timestamp.{valid}
@@ -35,11 +35,6 @@ module _ (d : Disc) (l : List ℕ) (e : outcome d l mount ≡ 0) (es : List Even
   pub looks-back : (m : List ℕ) → length m ≡ 16364 → (k : ℕ) → k < length past.pages → (n : ℕ)
       → get_or (unpack (after w.disc m (look_back k)).ledger).entries n unused ≡ block_number (get_or (get_or past.pages k []) n unused_entry)
   looks-back m long k below n = ((delivered.power-cuts.after-mount d l e es a).looks m long k below).showing.entry n
-
-  -- and, where it is done further back than that, those of the older save that going back to it makes its page of
-  pub shows-older : (m : List ℕ) → length m ≡ 16364 → (k : ℕ) → outcome w.disc m (look_back k) ≡ 0 → (n : ℕ)
-      → get_or (unpack (after w.disc m (look_back k)).ledger).entries n unused ≡ block_number (get_or (page_back past.pages past.older k) n unused_entry)
-  shows-older m long k done n = ((delivered.power-cuts.after-mount d l e es a).shows-back m long k done).showing.entry n
 
   -- a closing that is done closes the disc, which mounts clean
   pub closes : (m : List ℕ) → w.ledger ≡ some m → (main reserve : Extent) (start : ℕ) → outcome w.disc m (close_session main reserve start) ≡ 0
@@ -63,17 +58,6 @@ module _ (d : Disc) (l : List ℕ) (e : outcome d l mount ≡ 0) (es : List Even
       → (m answer : List ℕ) → length m ≡ 16364 → length answer ≡ 8
       → after (runs (next w made) later).disc m (time_of k answer) ≡ telling (valid (saved_stamp (call_of made))) (runs (next w made) later).disc m answer (saved_stamp (call_of made))
   tells-time made allowed saving later follow k counted = delivered.save-times.after-mount d l e es a made allowed saving later follow k counted
-
--- after every going back that is done a mount shows the map that a look back k showed, and each save is one step further back
-module _ (d : Disc) (l : List ℕ) (k : ℕ) (e : outcome d l (go_back k) ≡ 0) where
-  abbrev gone-disc : Disc
-  gone-disc = (after d l (go_back k)).disc
-
-  pub shown-again : (m : List ℕ) → length m ≡ 16364 → map_of (unpack (after gone-disc m mount).ledger) ≡ map_of (unpack (after d m (look_back k)).ledger)
-  shown-again m long = (delivered.goes_back.shown-again d l k e m long).2
-
-  pub further : (j : ℕ) → walked gone-disc (suc j) ≡ walked d j
-  further = delivered.goes_back.further d l k e
 
 -- every call that 17 turns away
 pub turned-away : (d : Disc) → session_closed d ≡ true → (l : List ℕ) (c : Call) → may_record c ≡ true → (outcome d l c ≡ 17) ⊎ ((0 < outcome d l c) × (outcome d l c ≤ 5))

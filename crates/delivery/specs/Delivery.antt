@@ -37,7 +37,6 @@ use Rattle.history.specs.Recorded.{WriteOnce, RecordedSame}
 use Rattle.history.specs.Claim.{PowerCuts}
 use Rattle.history.specs.Times.{TellsTime, saved_stamp, SaveTimes}
 use Rattle.history.specs.Closed.{ClosedDiscs}
-use Rattle.history.specs.Back.{GoesBack}
 use Rattle.history.proofs.Theorem.{Remounted}
 use Rattle.archive.specs.Earlier.{EntriesStay, EarlierEntries}
 use Rattle.archive.specs.Viewing.{ViewsInLists}
@@ -47,7 +46,6 @@ use Rattle.alike.specs.Alike.{MeanNothing}
 use Rattle.alike.specs.Scribbles.{ScribbledPowerCuts}
 use Rattle.bench.proofs.Starred.{all_right, starred, requested, closings, unnumbered}
 use Rattle.bench.proofs.Apart.{apart}
-use Rattle.bench.proofs.Gone.{going_back, back_elsewhere}
 
 pub record Delivery : Type 0 where
   -- ---- the tender
@@ -74,7 +72,7 @@ pub record Delivery : Type 0 where
   -- Demand 3, which document 01 states as the book.
   pub power-cuts : PowerCuts
   -- "A save is one finished table sector", and a mount on what it leaves shows it.
-  pub save-then-mount : (d : Disc) (l : List ℕ) (c : Call) → saves c ≡ true → outcome d l c ≡ 0 → (m : List ℕ) → length m ≡ ledger_length → Remounted d l c m
+  pub save-then-mount : (d : Disc) (l : List ℕ) → AllBytes l → (c : Call) → saves c ≡ true → outcome d l c ≡ 0 → (m : List ℕ) → length m ≡ ledger_length → Remounted d l c m
   -- ---- document 01
 
   -- "Bytes of a sector whose kind is not 1 mean nothing", to each call, and to demand 3.
@@ -99,7 +97,7 @@ pub record Delivery : Type 0 where
   pub told-mark : (s : List ℕ) → read_le 4 (told s) 4 ≡ marked (not_given (zone_of s))
   -- "A new call tells, for k saves back, the modification time".
   pub save-times : SaveTimes
-  pub save-then-time : (d : Disc) (l : List ℕ) (c : Call) → saves c ≡ true → outcome d l c ≡ 0 → TellsTime (after d l c).disc 0 (saved_stamp c)
+  pub save-then-time : (d : Disc) (l : List ℕ) → AllBytes l → (c : Call) → saves c ≡ true → outcome d l c ≡ 0 → TellsTime (after d l c).disc 0 (saved_stamp c)
   -- R-4 changes no answer: that its table has the CRC of each byte is what `crc::by_table` shows of it.
 
   -- R-5: what a closing records before its table, and closed discs.
@@ -128,9 +126,3 @@ pub record Delivery : Type 0 where
       → unused_or_below (recorded d) previous ≡ true → recorded d ≤ at → at ≤ 400000 → NeitherFrom at (fresh_of d (table_bytes map previous) previous)
   -- R-8 in rows: tables in sectors of their own, recognised and not, and saves that record some.
   pub apart-rows : T (all_right apart)
-  -- R-9: "One call records the map of k saves back as a new save", and "every save in between is still reached by counting back, one step further". The claims
-  -- about lists above speak of going back too: as a commit in the cut rule, "whose page, copied as draft, is that save's page".
-  pub goes_back : GoesBack
-  -- R-9 in rows: links, room and refusals; another deck's tables, what is dropped, and own sectors.
-  pub going-back-rows : T (all_right going_back)
-  pub back-elsewhere-rows : T (all_right back_elsewhere)

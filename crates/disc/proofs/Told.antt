@@ -1,5 +1,5 @@
 -- Tables known by laws, whatever form they have: what a table tells, what is none, and what keeps them.
---     data-kind, recognised-at, entries-named, previous-named, few-at, named-data  what a table tells
+--     data-kind, recognised-at, entries-named, few-at, named-data  what a table tells
 --     table-of, map_of_lem, previous-of, time-of, names_of, other-kind what stands at a block, or that it is none
 --     table_same, map_same, previous-same, time-same, names_same   discs that read the same at a block and below have the same table there, or none
 --     told                                                         a table whose sectors read the same is there and holds the same, whatever else changed
@@ -18,7 +18,7 @@ use Rattle.le.proofs.Rows.{and_left, and_right}
 use Rattle.extent.specs.declared.Extent.{Extent}
 use Rattle.extent.specs.Extents.{locations}
 use Rattle.vat.specs.Table.{sector_length, limit, unused_or_below, Lower, own_of, modified_of, is_there, lies, full_before, laid, table_of, entries_of, previous_of, is_table}
-use Rattle.vat.proofs.Theorems.{Named, Recognised, recognised, tells, Agree, agree-table}
+use Rattle.vat.proofs.Theorems.{Recognised, recognised, tells, Agree, agree-table}
 use Rattle.disc.specs.Disc.{Disc, kind_at, sector_at, readable, content}
 use Rattle.disc.specs.Tables.{below, table_at, bytes_at, map_at, previous_at, time_at, named_if, named_by}
 
@@ -55,10 +55,6 @@ module _ (d : Disc) (b : ℕ) (e : table_at d b ≡ true) where
   pub entries-named : every (unused_or_below b) (map_at d b) ≡ true
   unfolding map_at bytes_at
   entries-named = recognised-at.entries
-
-  pub previous-named : Named b (previous_at d b)
-  unfolding previous_at bytes_at
-  previous-named = (tells (below d b) (sector_at d b) b is-table).previous
 
   pub few-at : length (map_at d b) ≤ limit
   unfolding map_at bytes_at

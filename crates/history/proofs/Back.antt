@@ -18,8 +18,8 @@ use Rattle.vat.specs.Table.{unused}
 use Rattle.disc.specs.declared.Walk.TheVariants.{Reached}
 use Rattle.disc.specs.Tables.{stepped, walk}
 use Rattle.disc.proofs.Found.{newest-table}
-use Rattle.history.specs.History.{Snapshot, History, Source, Fed, made, saved, feed}
-use Rattle.history.proofs.Log.{Format, NamesBelow, or_unused, newest_of, Extends, Plain, Saved, extends-same, State, at, Source-of, Step, working, Link, Chain, Pages, Inv, newest-plain, newest-saved, head-link, source-page, source-newest}
+use Rattle.history.specs.History.{Snapshot, History, Fed, saved, feed}
+use Rattle.history.proofs.Log.{Format, or_unused, newest_of, Extends, Plain, Saved, extends-same, State, Step, working, Link, Chain, Pages, Drafted, Inv, newest-plain, newest-saved, head-link}
 
 module _ (F : Format) where
   pub step-extends : {s s' : State F} {f : Fed} → Step F s f s' → Extends F s.disc s'.disc
@@ -29,9 +29,9 @@ module _ (F : Format) where
   step-extends (Step.looked {d} k second w looks) = extends-same F d
   step-extends (Step.wrote xs last n t block p inside used reads) = p.extends
   step-extends (Step.released {d} xs last n second) = extends-same F d
-  step-extends (Step.committed source xs ys last previous t second from s) = s.extends
+  step-extends (Step.committed xs last t second s) = s.extends
   step-extends (Step.lost f clears p) = p.extends
-  step-extends (Step.lost-saved source xs ys last previous t from s) = s.extends
+  step-extends (Step.lost-saved xs last t s) = s.extends
 
   -- ---- the way back
 
@@ -101,7 +101,7 @@ module _ (F : Format) where
       record { newest = r.newest; is-newest = newest-plain F p ∙ r.is-newest; way = way-kept p.extends k r.newest b r.way }
 
   -- a save whose previous table is the newest is one step more
-  behind-saved : {d d' : F.Disc} (xs : List ℕ) (last t : ℕ) → Saved F d d' xs last t → last ≡ or_unused (newest_of F d)
+  behind-saved : {d d' : F.Disc} (xs : List ℕ) (last t : ℕ) → Saved F d d' (working F xs last) t → last ≡ or_unused (newest_of F d)
       → (k b : ℕ) → Behind d k b → Behind d' (suc k) b
   behind-saved {d} {d'} xs last t s is_last k b r =
       let old : ℕ = r.newest in
@@ -110,7 +110,7 @@ module _ (F : Format) where
       let table : F.table d' old ≡ true = s.extends.tables old inside ∙ newest-table (F.table d) (F.recorded d) old r.is-newest in
       record {
         newest = t;
-        is-newest = newest-saved F xs last t s;
+        is-newest = newest-saved F (working F xs last) t s;
         way =
             subst (λ (x : ℕ). (t < F.recorded d') × (x ≡ unused → ⊥) × (F.table d' x ≡ true) × Way d' k x b) (sym named)
             (omega (arith, s.last-sector), (λ u. omega (arith, s.small, s.behind)), table, way-kept s.extends k old b r.way);
@@ -125,27 +125,21 @@ module _ (F : Format) where
   since-plain : {d d' : F.Disc} → Plain F d d' → {pages : List Snapshot} {m k b : ℕ} → Since d pages m k b → Since d' pages m k b
   since-plain p {pages} {m} {k} {b} r = record { followed = r.followed; counted = r.counted; behind = behind-plain p r.followed b r.behind }
 
-  module _ (names-below : NamesBelow F) where
-    since-saved : {d d' : F.Disc} (source : Source) (xs ys : List ℕ) (last previous t : ℕ) → Source-of F d source xs last ys previous → Saved F d d' ys previous t
-        → (h : History) → Inv F (at F d (some (working F xs last))) h
-        → {m k b : ℕ} → Since d h.pages m k b → Since d' (saved (made source h) h.pages) m k b
-    since-saved {d} {d'} source xs ys last previous t from s h i {m} {k} {b} r =
-        subst (λ (o : Option Snapshot). Since d' (saved o h.pages) m k b) (sym (source-page F names-below source xs ys last previous from h i))
-        (record {
-          followed = suc r.followed;
-          counted = omega (arith, r.counted);
-          behind = behind-saved ys previous t s (source-newest F names-below source xs ys last previous from h i) r.followed b r.behind;
-        })
+  since-saved : {d d' : F.Disc} (xs : List ℕ) (last t : ℕ) → Saved F d d' (working F xs last) t → {draft : Option Snapshot} → Drafted F d xs last draft
+      → {pages : List Snapshot} {m k b : ℕ} → Since d pages m k b → Since d' (saved draft pages) m k b
+  since-saved {d} {d'} xs last t s {draft} g {pages} {m} {k} {b} r =
+      subst (λ (o : Option Snapshot). Since d' (saved o pages) m k b) (sym g.shown)
+      (record { followed = suc r.followed; counted = omega (arith, r.counted); behind = behind-saved xs last t s g.newest r.followed b r.behind })
 
-    pub since-kept : {s s' : State F} {f : Fed} (h : History) → Step F s f s' → Inv F s h → {m k b : ℕ} → Since s.disc h.pages m k b → Since s'.disc (feed h f).pages m k b
-    unfolding feed
-    since-kept {s} h (Step.quiet same) i {m} {k} {b} r = subst (λ (g : History). Since s.disc g.pages m k b) (sym (same h)) r
-    since-kept h (Step.begun second none-there) i r = r
-    since-kept h (Step.mounted second t there) i r = r
-    since-kept h (Step.looked k second w looks) i r = r
-    since-kept h (Step.wrote xs last none t block p inside used reads) i r = since-plain p r
-    since-kept h (Step.wrote xs last (some n) t block p inside used reads) i r = since-plain p r
-    since-kept h (Step.released xs last n second) i r = r
-    since-kept h (Step.committed source xs ys last previous t second from s) i r = since-saved source xs ys last previous t from s h i r
-    since-kept {s} {s'} h (Step.lost f clears p) i {m} {k} {b} r = subst (λ (g : History). Since s'.disc g.pages m k b) (sym (clears h)) (since-plain p r)
-    since-kept h (Step.lost-saved source xs ys last previous t from s) i r = since-saved source xs ys last previous t from s h i r
+  pub since-kept : {s s' : State F} {f : Fed} (h : History) → Step F s f s' → Inv F s h → {m k b : ℕ} → Since s.disc h.pages m k b → Since s'.disc (feed h f).pages m k b
+  unfolding feed
+  since-kept {s} h (Step.quiet same) i {m} {k} {b} r = subst (λ (g : History). Since s.disc g.pages m k b) (sym (same h)) r
+  since-kept h (Step.begun second none-there) i r = r
+  since-kept h (Step.mounted second t there) i r = r
+  since-kept h (Step.looked k second w looks) i r = r
+  since-kept h (Step.wrote xs last none t block p inside used reads) i r = since-plain p r
+  since-kept h (Step.wrote xs last (some n) t block p inside used reads) i r = since-plain p r
+  since-kept h (Step.released xs last n second) i r = r
+  since-kept h (Step.committed xs last t second s) i r = since-saved xs last t s i.draft r
+  since-kept {s} {s'} h (Step.lost f clears p) i {m} {k} {b} r = subst (λ (g : History). Since s'.disc g.pages m k b) (sym (clears h)) (since-plain p r)
+  since-kept h (Step.lost-saved xs last t s) i r = since-saved xs last t s i.draft r

@@ -26,8 +26,9 @@ use Rattle.disc.specs.Again.{fresh_of}
 use Rattle.disc.proofs.Recording.{Sound, AllWhole, whole_append, Recorded, put-recorded, puts-append}
 use Rattle.disc.proofs.Save.{NoTables, AllData, own-count, own-whole, own-data}
 use Rattle.volume.specs.Volume.{ledger_length, read_only, unpack, map_of, fits}
-use Rattle.recorder.specs.Calls.{Call, begin, mount, write, release, close_packet, commit, close_session, read, look_back, time_of, go_back, may_record}
-use Rattle.recorder.specs.Refusals.{Test, test, first, basic, gate, links, target, ledger_lent, block_lent, stamp_lent, write_tests, commit_tests, closing_tests, go_back_tests, not_in_use, tests, outcome}
+use Rattle.volume.proofs.State.{Proper}
+use Rattle.recorder.specs.Calls.{Call, begin, mount, write, release, close_packet, commit, close_session, read, look_back, time_of, may_record}
+use Rattle.recorder.specs.Refusals.{Test, test, first, basic, gate, links, target, ledger_lent, block_lent, stamp_lent, write_tests, commit_tests, closing_tests, not_in_use, tests, outcome}
 use Rattle.recorder.specs.Effects.{closing_first, effect, after, sectors_of}
 use Rattle.recorder.proofs.Done.{ClosingDone, closing-done}
 use Rattle.recorder.proofs.Sectors.{links-whole, closing-whole, length-closing, own-few}
@@ -42,7 +43,7 @@ use Rattle.history.proofs.Saving.{Saving, closing-saving, own, table_sector, bef
 use Rattle.history.proofs.Steps.{done-fed, refused-records-none, records-nothing}
 use Rattle.history.proofs.Recorded.{after-disc, cut-nothing}
 use Rattle.history.proofs.Blank.{closes-blank}
-use Rattle.history.proofs.Theorem.{Kept, all-kept, claimed, begun_kept, mounted-kept, drafted, saved-page, saved-disc, save-then-mount}
+use Rattle.history.proofs.Theorem.{Kept, all-kept, claimed, begun_kept, mounted-kept, drafted, saved-page, saved-disc, remounts}
 
 -- ---- sectors stand where they were recorded
 
@@ -111,13 +112,13 @@ first_of main reserve start b n own d at s = s.0
 
 -- ---- what a closing leaves
 
-module _ (d : Disc) (l : List ℕ) (ok : Sound d) (main reserve : Extent) (start : ℕ) (f : ClosingDone d l main reserve start) where
+module _ (d : Disc) (l : List ℕ) (ok : Sound d) (good : Proper (unpack l)) (main reserve : Extent) (start : ℕ) (f : ClosingDone d l main reserve start) where
   abbrev s : Saving d l (close_session main reserve start)
   s = closing-saving d l main reserve start f
 
   -- what the save's table has before its ICB, and all data before that: pointer, zero sectors and these
   abbrev own-part : List Sector
-  own-part = own d l ok (close_session main reserve start) s
+  own-part = own d l ok good (close_session main reserve start) s
 
   -- how many own sectors are recorded, and what is put before them
   abbrev own_count : ℕ
@@ -150,23 +151,23 @@ module _ (d : Disc) (l : List ℕ) (ok : Sound d) (main reserve : Extent) (start
   between-no-tables =
       let n : ℕ = links (unpack l) in
       subst (λ (k : ℕ). NoTables (recorded d + k) between) (length-replicate n link)
-      (no-tables-behind (replicate n link) between (recorded d) (before-no-tables d l ok (close_session main reserve start) s))
+      (no-tables-behind (replicate n link) between (recorded d) (before-no-tables d l ok good (close_session main reserve start) s))
 
   abbrev left : Disc
-  left = saved_disc d l ok (close_session main reserve start) s
+  left = saved_disc d l ok good (close_session main reserve start) s
 
   -- the pointer's block, behind the links, and the table's
   abbrev pointer : ℕ
   pointer = recorded d + links (unpack l)
 
   abbrev table : ℕ
-  table = recorded d + length (before_table d l ok (close_session main reserve start) s)
+  table = recorded d + length (before_table d l ok good (close_session main reserve start) s)
 
   at_pointer : target (unpack l) ≡ pointer
   at_pointer = ap (λ (r : ℕ). r + links (unpack l)) f.saving.fit.same-recorded
 
   counted : table ≡ pointer + closing_length
-  counted = omega (arith, length_before_lem d l ok (close_session main reserve start) s, length-append ahead-part own-part, between-long)
+  counted = omega (arith, length_before_lem d l ok good (close_session main reserve start) s, length-append ahead-part own-part, between-long)
 
   linked : Disc
   linked = puts d (recorded d) (replicate (links (unpack l)) link)
@@ -176,7 +177,7 @@ module _ (d : Disc) (l : List ℕ) (ok : Sound d) (main reserve : Extent) (start
   linked-grown =
       let n : ℕ = links (unpack l) in
       subst (λ (k : ℕ). Grown d (puts d (recorded d) (replicate n link)) k) (length-replicate n link)
-      (puts_plain (replicate n link) d ok (omega (arith, length-replicate {A = Sector} n link, room d l ok (close_session main reserve start) s, length_before_lem d l ok (close_session main reserve start) s)) (links-whole n) (links-no-tables n (recorded d)))
+      (puts_plain (replicate n link) d ok (omega (arith, length-replicate {A = Sector} n link, room d l ok good (close_session main reserve start) s, length_before_lem d l ok good (close_session main reserve start) s)) (links-whole n) (links-no-tables n (recorded d)))
 
   -- pointer and zero sectors, where they were recorded
   standing : Stands left pointer between
@@ -184,15 +185,15 @@ module _ (d : Disc) (l : List ℕ) (ok : Sound d) (main reserve : Extent) (start
   standing =
       let n : ℕ = links (unpack l) in
       let c : Call = close_session main reserve start in
-      let ss : List Sector = before_table d l ok c s in
+      let ss : List Sector = before_table d l ok good c s in
       let before : Disc = puts d (recorded d) ss in
       let split : before ≡ puts linked (recorded linked) between =
       puts-append (replicate n link) between d (recorded d) ∙ ap (λ (k : ℕ). puts linked k between) (ap (λ (k : ℕ). recorded d + k) (length-replicate n link) ∙ sym linked-grown.counted) in
-      let inside : recorded linked + length between ≤ length linked.kinds = omega (arith, linked-grown.counted, linked-grown.same_length, counted, between-long, room d l ok c s) in
+      let inside : recorded linked + length between ≤ length linked.kinds = omega (arith, linked-grown.counted, linked-grown.same_length, counted, between-long, room d l ok good c s) in
       let there : Stands (puts linked (recorded linked) between) (recorded linked) between =
       stand between linked linked-grown.still-sound inside between-whole between-data (subst (λ (b : ℕ). NoTables b between) (sym linked-grown.counted) between-no-tables) in
-      let all : Grown d before (length ss) = puts_plain ss d ok (omega (arith, room d l ok c s)) (before-whole d l ok c s) (before-no-tables d l ok c s) in
-      stand-on (behind-extends d ok ss (before-whole d l ok c s) (before-no-tables d l ok c s) (table_sector d l ok c s) (sector-long d l ok c s) (room d l ok c s))
+      let all : Grown d before (length ss) = puts_plain ss d ok (omega (arith, room d l ok good c s)) (before-whole d l ok good c s) (before-no-tables d l ok good c s) in
+      stand-on (behind-extends d ok ss (before-whole d l ok good c s) (before-no-tables d l ok good c s) (table_sector d l ok good c s) (sector-long d l ok good c s) (room d l ok good c s))
       between pointer (omega (arith, all.counted, counted, between-long))
       (subst₂ (λ (x : Disc) (b : ℕ). Stands x b between) (sym split) linked-grown.counted there)
 
@@ -206,19 +207,19 @@ module _ (d : Disc) (l : List ℕ) (ok : Sound d) (main reserve : Extent) (start
   tagged =
       let b : ℕ = target (unpack l) in
       subst (λ (x : List ℕ). anchor_tagged x pointer ≡ true) (sym pointed)
-      (tagged-anchor tag_version main reserve (start + b) (omega (arith, f.near, at_pointer, counted, ok.few, room d l ok (close_session main reserve start) s)) pointer (omega (arith, at_pointer)) (omega (arith, at_pointer, f.near)))
+      (tagged-anchor tag_version main reserve (start + b) (omega (arith, f.near, at_pointer, counted, ok.few, room d l ok good (close_session main reserve start) s)) pointer (omega (arith, at_pointer)) (omega (arith, at_pointer, f.near)))
 
   pub is-closed : session_closed left ≡ true
   unfolding session_closed
   is-closed =
       let c : Call = close_session main reserve start in
-      let ss : List Sector = before_table d l ok c s in
-      let all : recorded left ≡ suc table = behind-counted d ok ss (before-whole d l ok c s) (before-no-tables d l ok c s) (table_sector d l ok c s) (sector-long d l ok c s) (room d l ok c s) in
+      let ss : List Sector = before_table d l ok good c s in
+      let all : recorded left ≡ suc table = behind-counted d ok ss (before-whole d l ok good c s) (before-no-tables d l ok good c s) (table_sector d l ok good c s) (sector-long d l ok good c s) (room d l ok good c s) in
       let last : recorded left - 1 ≡ table = omega (arith, all) in
       let first : recorded left - 1 - closing_length ≡ pointer = omega (arith, all, counted) in
       let all-data : every (λ k. eqb k 1) (take closing_length (drop pointer left.kinds)) ≡ true =
       subst (λ (n : ℕ). every (λ k. eqb k 1) (take n (drop pointer left.kinds)) ≡ true) between-long (kinds-of between left pointer standing) in
-      rw (le-leb (closing_length + 1) (recorded left) (omega (arith, all, counted)), first, tagged, all-data, last) (save d l ok c s).a-table
+      rw (le-leb (closing_length + 1) (recorded left) (omega (arith, all, counted)), first, tagged, all-data, last) (save d l ok good c s).a-table
 
 -- ---- on a closed disc
 
@@ -250,7 +251,6 @@ module _ (d : Disc) (closed : session_closed d ≡ true) (l : List ℕ) where
   turned-away (read n block) m = absurd (mathlib.Core.Bool.false≢true m)
   turned-away (look_back k) m = absurd (mathlib.Core.Bool.false≢true m)
   turned-away (time_of k answer) m = absurd (mathlib.Core.Bool.false≢true m)
-  turned-away (go_back k) m = at-the-gate (ledger_lent l) (go_back_tests d k (unpack l))
 
   refused_none : (c : Call) (n : ℕ) → outcome d l c ≡ n → TurnedAway n → sectors_of d l c ≡ []
   refused_none c zero e (inl z) = absurd (omega arith)
@@ -268,7 +268,6 @@ module _ (d : Disc) (closed : session_closed d ≡ true) (l : List ℕ) where
   nothing (read n block) = records-nothing d l (read n block) tt
   nothing (look_back k) = records-nothing d l (look_back k) tt
   nothing (time_of k answer) = records-nothing d l (time_of k answer) tt
-  nothing (go_back k) = refused_none (go_back k) (outcome d l (go_back k)) refl (turned-away (go_back k) refl)
 
 same_next : (w : World) → session_closed w.disc ≡ true → (e : Event) → (next w e).disc ≡ w.disc
 unfolding next puts
@@ -304,10 +303,11 @@ module _ (d : Disc) (l : List ℕ) (h : History) (k : Kept (record { disc = d; l
   shows-closed : ClosedShowing (after d l call).disc (drafted d l h k call refl e).0
   shows-closed =
       let ok : Sound d = k.good.sound-disc in
+      let good : Proper (unpack l) = k.good.ledger-good in
       let f : ClosingDone d l main reserve start = closing-done d l main reserve start e in
       record {
-        is-closed = ap session_closed (saved-disc d l ok call (closing-saving d l main reserve start f) e) ∙ is-closed d l ok main reserve start f;
-        clean = λ m long. (save-then-mount d l call refl e m long).clean;
+        is-closed = ap session_closed (saved-disc d l ok good call (closing-saving d l main reserve start f) e) ∙ is-closed d l ok good main reserve start f;
+        clean = λ m long. (remounts d l good call refl e m long).clean;
         mounts = shows-draft;
       }
 

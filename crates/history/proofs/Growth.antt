@@ -23,12 +23,12 @@ use Rattle.disc.specs.Disc.{Disc, recorded, readable, content, Sector, link, pla
 use Rattle.disc.specs.Tables.{below, table_at, map_at, previous_at, time_at}
 use Rattle.disc.specs.Session.{zero_sectors, zero_sector, closing}
 use Rattle.disc.proofs.Recording.{Sound, Whole, Recorded, put-recorded, plain_here, puts-append, AllWhole, whole_take, blank-kind, links-contents}
-use Rattle.disc.proofs.Told.{entries-named, previous-named, table-of, map_of_lem, previous-of, time-of, other-kind, SameBelow, below-same, table_same, map_same, previous-same, time-same}
+use Rattle.disc.proofs.Told.{entries-named, table-of, map_of_lem, previous-of, time-of, other-kind, SameBelow, below-same, table_same, map_same, previous-same, time-same}
 use Rattle.disc.proofs.Growing.{one_kept}
 use Rattle.disc.proofs.Save.{NoTable, NoTables}
 use Rattle.recorder.proofs.Sectors.{behind, length-behind}
 use Rattle.history.specs.Events.{Torn, torn_at, cut_disc}
-use Rattle.history.proofs.Log.{Format, AllBelow, NamesBelow, Extends, Plain, Saved, extends-on, plain-same, plain-on}
+use Rattle.history.proofs.Log.{Format, AllBelow, NamesBelow, View, Extends, Plain, Saved, extends-on, plain-same, plain-on}
 
 abbrev pub F : Format
 F = record { Disc = Disc; recorded = recorded; table = table_at; map_at = map_at; previous_at = previous_at; time_at = time_at; content = content }
@@ -54,7 +54,7 @@ all-below-to b [] a = refl
 all-below-to b (x ∷ xs) a = ap₂ (λ (p q : Bool). p && q) (below-to b x a.0) (all-below-to b xs a.1)
 
 pub names-below : NamesBelow F
-names-below d b e = (all-below-of b (map_at d b) (entries-named d b e), previous-named d b e)
+names-below d b e = all-below-of b (map_at d b) (entries-named d b e)
 
 -- ---- data
 
@@ -225,24 +225,24 @@ module _ (d : Disc) (ok : Sound d) (ss : List Sector) (w : AllWhole ss) (n : NoT
   lower = below (puts d (recorded d) ss) (recorded d + length ss)
 
   -- a table behind them is a save
-  pub behind-saved : (map : List ℕ) (previous : ℕ) → recorded d + length ss < unused → is_table lower s (recorded d + length ss) ≡ true → entries_of (table_of lower s) ≡ map → previous_of (table_of lower s) ≡ previous
-      → Saved F d (puts d (recorded d) (behind ss s)) map previous (recorded d + length ss)
+  pub behind-saved : (v : View) → recorded d + length ss < unused → is_table lower s (recorded d + length ss) ≡ true → entries_of (table_of lower s) ≡ v.map → previous_of (table_of lower s) ≡ v.last
+      → Saved F d (puts d (recorded d) (behind ss s)) v (recorded d + length ss)
   unfolding before
-  behind-saved map previous small is-table maps links =
+  behind-saved v small is-table maps links =
       let r : ℕ = recorded before in
       let counted : recorded d + length ss ≡ r = sym before-grown.counted in
       let ok' : Sound before = before-grown.still-sound in
-      let all : Saved F d (put before r (plain s)) map previous r =
+      let all : Saved F d (put before r (plain s)) v r =
       record {
         extends = extends-on F before-grown.plainly.extends (extends-of last-recorded);
         behind = omega arith;
         small = omega arith;
         last-sector = last-recorded.one_more;
         a-table = table-next before ok' before-room s long ∙ subst (λ (b : ℕ). is_table (below before b) s b ≡ true) counted is-table;
-        its_map = map_next before ok' before-room s long ∙ subst (λ (b : ℕ). entries_of (table_of (below before b) s) ≡ map) counted maps;
-        its-previous = previous-next before ok' before-room s long ∙ subst (λ (b : ℕ). previous_of (table_of (below before b) s) ≡ previous) counted links;
+        its_map = map_next before ok' before-room s long ∙ subst (λ (b : ℕ). entries_of (table_of (below before b) s) ≡ v.map) counted maps;
+        its-previous = previous-next before ok' before-room s long ∙ subst (λ (b : ℕ). previous_of (table_of (below before b) s) ≡ v.last) counted links;
       } in
-      subst (λ (e : Disc). Saved F d e map previous (recorded d + length ss)) (sym goes-behind) (subst (λ (b : ℕ). Saved F d (put before r (plain s)) map previous b) (sym counted) all)
+      subst (λ (e : Disc). Saved F d e v (recorded d + length ss)) (sym goes-behind) (subst (λ (b : ℕ). Saved F d (put before r (plain s)) v b) (sym counted) all)
 
   -- and what is none leaves the tables
   pub behind-grown : is_table lower s (recorded d + length ss) ≡ false → Grown d (puts d (recorded d) (behind ss s)) (length (behind ss s))

@@ -25,13 +25,13 @@ use Rattle.disc.proofs.Recording.{Sound, Recorded, put-recorded, sized-tells, le
 use Rattle.disc.proofs.Found.{newest-table}
 use Rattle.disc.proofs.Save.{save-count, sectors-whole}
 use Rattle.volume.specs.declared.Volume.{Volume}
-use Rattle.volume.specs.Volume.{places, idle, read_only, unpack, pack, map_of, begun, filled, entries_with, wrote, released, closed, committed}
+use Rattle.volume.specs.Volume.{idle, read_only, unpack, pack, map_of, begun, filled, entries_with, wrote, released, closed, committed}
 use Rattle.volume.proofs.State.{recorded-kept, proper-begun, long-unpack}
-use Rattle.recorder.specs.Calls.{Call, begin, mount, write, release, close_packet, commit, close_session, read, look_back, time_of, go_back, stamp_buffer, buffer_of, only_tells, stamp_of}
-use Rattle.recorder.specs.Refusals.{Test, test, first, basic, gate, links, target, ledger_lent, block_lent, stamp_lent, answer_lent, write_tests, commit_tests, closing_tests, go_back_tests, not_in_use, numbered_tests, is_some, walk_tests, time_wrong, tests, block_reached, gone, outcome}
-use Rattle.recorder.specs.Effects.{Effect, saved, closing_first, effect, settled, after, sectors_if, sectors_of, shown_at}
+use Rattle.recorder.specs.Calls.{Call, begin, mount, write, release, close_packet, commit, close_session, read, look_back, time_of, stamp_buffer, buffer_of, only_tells, stamp_of}
+use Rattle.recorder.specs.Refusals.{Test, test, first, basic, gate, links, target, ledger_lent, block_lent, stamp_lent, answer_lent, write_tests, commit_tests, closing_tests, not_in_use, numbered_tests, is_some, walk_tests, time_wrong, tests, outcome}
+use Rattle.recorder.specs.Effects.{Effect, block_reached, saved, closing_first, effect, settled, after, sectors_if, sectors_of, shown_at}
 use Rattle.recorder.proofs.Done.{stop, Fits, mount-done, write_done, release-done, close-done, SaveDone, commit-done, closing-done, read_done, begin-done, look-back-done}
-use Rattle.recorder.proofs.Gone.{walked-table, go-back-done, gone_long}
+use Rattle.recorder.proofs.Answers.{walked-table}
 use Rattle.recorder.proofs.Sectors.{links-whole, behind, length-behind, behind-whole}
 use Rattle.history.specs.Events.{World, Event, calls, cuts, ledger_held, torn_at, cut_disc, next, runs, after_call}
 use Rattle.history.specs.Recorded.{Untouched, WriteOnce, RecordedSame}
@@ -106,7 +106,6 @@ module _ (d : Disc) (l : List ℕ) (wrong : sized d ≡ false) where
   refused-at-once (read n block) = at_once (block_lent l block) (numbered_tests d l n)
   refused-at-once (look_back k) = at_once (ledger_lent l) (walk_tests d k)
   refused-at-once (time_of k answer) = at_once (answer_lent l answer) (walk_tests d k ++ (time_wrong d k ∷ []))
-  refused-at-once (go_back k) = at_once (ledger_lent l) (gate d l ++ go_back_tests d k (unpack l))
 
 -- a call leaves the disc with its sectors
 pub after-disc : (d : Disc) (l : List ℕ) (c : Call) → (after d l c).disc ≡ puts d (recorded d) (sectors_of d l c)
@@ -226,13 +225,14 @@ write-once w (e ∷ es) = untouched-on (event-untouched w e) (write-once (next w
 
 -- ---- what a call that is done has recorded
 
--- a save of a state
-abbrev saved_by : Disc → Volume → List Sector → List ℕ → List ℕ → Effect
-saved_by d v first stamp buffer = saved d v (map_of v) v.last first stamp buffer
+-- a save of the working state
+abbrev saved_by : Disc → List ℕ → List Sector → List ℕ → List ℕ → Effect
+saved_by d l first stamp buffer = saved d (unpack l) (map_of (unpack l)) (unpack l).last first stamp buffer
 
 -- every sector of a save fills its block
-save-whole : (d : Disc) (v : Volume) (first : List Sector) (stamp buffer : List ℕ) → SaveDone d v first stamp → AllWhole (saved_by d v first stamp buffer).sectors
-save-whole d v first stamp buffer f =
+save-whole : (d : Disc) (l : List ℕ) (first : List Sector) (stamp buffer : List ℕ) → SaveDone d l first stamp → AllWhole (saved_by d l first stamp buffer).sectors
+save-whole d l first stamp buffer f =
+    let v : Volume = unpack l in
     let t : List ℕ = table_bytes (map_of v) v.last in
     let b : ℕ = target v + length first in
     let save : List Sector = save_sectors d t v.last stamp b in
@@ -245,13 +245,12 @@ effect-whole d l mount e = tt
 effect-whole d l (write n block) e = behind-whole (replicate (links (unpack l)) link) block (links-whole (links (unpack l))) (write_done d l n block e).block-long
 effect-whole d l (release n) e = tt
 effect-whole d l close_packet e = tt
-effect-whole d l (commit stamp) e = save-whole d (unpack l) [] (stamp_of stamp) (stamp_buffer stamp) (commit-done d l stamp e).saving
+effect-whole d l (commit stamp) e = save-whole d l [] (stamp_of stamp) (stamp_buffer stamp) (commit-done d l stamp e).saving
 effect-whole d l (close_session main reserve start) e =
-    save-whole d (unpack l) (closing_first d (unpack l) main reserve start) no_stamp [] (closing-done d l main reserve start e).saving
+    save-whole d l (closing_first d (unpack l) main reserve start) no_stamp [] (closing-done d l main reserve start e).saving
 effect-whole d l (read n block) e = tt
 effect-whole d l (look_back k) e = tt
 effect-whole d l (time_of k answer) e = tt
-effect-whole d l (go_back k) e = save-whole d (gone d k (unpack l)) [] no_stamp [] (go-back-done d l k e).saving
 
 puts-counted : (ss : List Sector) (d : Disc) → Sound d → recorded d + length ss ≤ length d.kinds → AllWhole ss → recorded (puts d (recorded d) ss) ≡ recorded d + length ss
 unfolding puts
@@ -280,10 +279,11 @@ behind-recorded d ok ss s n long w room =
     let count : length (behind ss s) ≡ n + 1 = length-behind ss s ∙ ap (λ (k : ℕ). k + 1) long in
     puts-counted (behind ss s) d ok (omega (arith, count, leading_le d.kinds)) w ∙ omega (arith, count)
 
-save-left : (d : Disc) (v : Volume) → length v.entries ≡ places → (first : List Sector) (stamp buffer : List ℕ) → SaveDone d v first stamp
-    → (unpack (saved_by d v first stamp buffer).ledger).recorded ≡ recorded (puts d (recorded d) (saved_by d v first stamp buffer).sectors)
+save-left : (d : Disc) (l : List ℕ) (first : List Sector) (stamp buffer : List ℕ) → SaveDone d l first stamp
+    → (unpack (saved_by d l first stamp buffer).ledger).recorded ≡ recorded (puts d (recorded d) (saved_by d l first stamp buffer).sectors)
 unfolding committed
-save-left d v whole first stamp buffer f =
+save-left d l first stamp buffer f =
+    let v : Volume = unpack l in
     let t : List ℕ = table_bytes (map_of v) v.last in
     let at : ℕ = target v + length first in
     let save : List Sector = save_sectors d t v.last stamp at in
@@ -292,9 +292,9 @@ save-left d v whole first stamp buffer f =
     let some-there : length save ≡ length (fresh_of d t v.last) + 1 = save-count d t v.last stamp at in
     let long : length all ≡ links v + (length first + length save) =
     length-append (replicate (links v) link) (first ++ save) ∙ ap₂ ◌+◌ (length-replicate (links v) link) (length-append first save) in
-    recorded-kept (committed b v) whole (omega (arith, f.room, some-there, f.fit.same-recorded, f.sound-disc.few, leading_le d.kinds))
+    recorded-kept (committed b v) (long-unpack l) (omega (arith, f.room, some-there, f.fit.same-recorded, f.sound-disc.few, leading_le d.kinds))
     ∙ omega (arith, f.fit.same-recorded, some-there, long)
-    ∙ sym (puts-counted all d f.sound-disc (omega (arith, f.room, long, leading_le d.kinds)) (save-whole d v first stamp buffer f))
+    ∙ sym (puts-counted all d f.sound-disc (omega (arith, f.room, long, leading_le d.kinds)) (save-whole d l first stamp buffer f))
 
 write-left : (d : Disc) (l : List ℕ) (n : Option ℕ) (block : List ℕ) → outcome d l (write n block) ≡ 0
     → (unpack (pack (wrote n (target (unpack l)) (unpack l)))).recorded ≡ recorded (puts d (recorded d) (behind (replicate (links (unpack l)) link) block))
@@ -330,9 +330,9 @@ effect-left d l (release n) e t =
     let f = release-done d l n e in
     working-left d l (released n (unpack l)) f.0 f.1.fit (length-set (unpack l).entries n unused ∙ long-unpack l) refl
 effect-left d l close_packet e t = let f = close-done d l e in working-left d l (closed (unpack l)) f.0 f.1.fit (long-unpack l) refl
-effect-left d l (commit stamp) e t = save-left d (unpack l) (long-unpack l) [] (stamp_of stamp) (stamp_buffer stamp) (commit-done d l stamp e).saving
+effect-left d l (commit stamp) e t = save-left d l [] (stamp_of stamp) (stamp_buffer stamp) (commit-done d l stamp e).saving
 effect-left d l (close_session main reserve start) e t =
-    save-left d (unpack l) (long-unpack l) (closing_first d (unpack l) main reserve start) no_stamp [] (closing-done d l main reserve start e).saving
+    save-left d l (closing_first d (unpack l) main reserve start) no_stamp [] (closing-done d l main reserve start e).saving
 effect-left d l (read n block) e t = (read_done d l n block e).fit.same-recorded
 effect-left d l (look_back k) e t =
     let f = look-back-done d l k e in
@@ -340,7 +340,6 @@ effect-left d l (look_back k) e t =
     subst (λ (w : Walk). (unpack (pack (shown_at d (block_reached w) read_only))).recorded ≡ recorded d) (sym f.1.1)
     (filled-left d f.0 b read_only (lit< tt) (walked-table d k b f.1.1))
 effect-left d l (time_of k answer) e t = absurd (mathlib.Core.Bool.true≢false t)
-effect-left d l (go_back k) e t = let f = go-back-done d l k e in save-left d (gone d k (unpack l)) (gone_long d l k f) [] no_stamp [] f.saving
 
 -- ---- and so it is after any events
 
@@ -377,7 +376,6 @@ event-counts w (calls (close_session main reserve start) junk) k = settled-count
 event-counts w (calls (read n block) junk) k = settled-counts w (read n block) junk refl k
 event-counts w (calls (look_back n) junk) k = settled-counts w (look_back n) junk refl k
 event-counts w (calls (time_of n answer) junk) k = time-counts w n answer junk k
-event-counts w (calls (go_back n) junk) k = settled-counts w (go_back n) junk refl k
 event-counts w (cuts c junk j tear) k = λ m here. absurd (none-some m here)
 
 all-count : (es : List Event) (w : World) → Counts w → Counts (runs w es)

@@ -6,25 +6,28 @@ use mathlib.Core.Path.{◌≡◌, refl, sym, ap, ap₂, ◌∙◌, subst}
 use mathlib.Core.Bool.{Bool, true, false, ◌||◌, not, or-true}
 use mathlib.Core.List.{List, [], ◌∷◌, ◌++◌}
 use lib.Dec.{eqb, leb}
-use lib.ListN.{length, get_or, replicate}
-use borrow.Author.Tests.{eq-eqb, eqb-true, eqb-false, lt-leb}
-use Rattle.vat.specs.Table.{sector_length, limit, unused}
+use lib.ListN.{length, get_or, drop, replicate}
+use lib.Seq.{drop_at}
+use borrow.Author.Tests.{eq-eqb, eqb-true, eqb-false, le-leb, lt-leb}
+use Rattle.le.specs.Bytes.{every}
+use Rattle.vat.specs.Table.{sector_length, limit, unused, unused_or_below}
 use Rattle.disc.specs.Disc.{Disc, recorded, kind_at, sector_at, readable, content, puts}
 use Rattle.disc.specs.Tables.{table_at, map_at}
 use Rattle.disc.proofs.Recording.{Sound}
+use Rattle.disc.proofs.Told.{few-at}
+use Rattle.disc.proofs.Found.{table-recorded}
 use Rattle.volume.specs.declared.Volume.{Volume}
-use Rattle.volume.specs.Volume.{ledger_length, packet_open, read_only, unpack, pack, fits, filled}
-use Rattle.volume.proofs.State.{Proper, unpack-pack, length-pack}
+use Rattle.volume.specs.Volume.{ledger_length, packet_open, read_only, unpack, pack, map_of, is_unused, fits, filled}
+use Rattle.volume.proofs.State.{Proper, unpack-pack, length-pack, map-filled}
 use Rattle.recorder.specs.Calls.{read}
 use Rattle.recorder.specs.Refusals.{Test, test, first, block_lent, unfit, block_of, not_in_use, tests, outcome}
 use Rattle.recorder.specs.Effects.{effect, after, shown_at}
 use Rattle.recorder.proofs.Done.{skip, stop, none_left, skip-basic}
-use Rattle.recorder.proofs.Gone.{filled-fits, fits_all}
 use Rattle.history.specs.History.{unused_entry}
 use Rattle.history.specs.Events.{shown_if}
 use Rattle.history.specs.Claim.{block_number, reading, Shows}
-use Rattle.history.proofs.Log.{shown_of, page_from, length-page}
-use Rattle.history.proofs.Growth.{F}
+use Rattle.history.proofs.Log.{all-below-more, shown_of, page_from, length-page}
+use Rattle.history.proofs.Growth.{F, names-below, all-below-to}
 use Rattle.history.proofs.Steps.{proper-table}
 
 -- ---- the page of a map, number by number
@@ -52,6 +55,11 @@ used-below : (xs : List ℕ) (n : ℕ) → (get_or xs n unused ≡ unused → �
 used-below [] n u = absurd (u refl)
 used-below (x ∷ xs) zero u = omega arith
 used-below (x ∷ xs) (suc n) u = let h : n < length xs = used-below xs n u in omega arith
+
+all-unused : (k : ℕ) → every is_unused (replicate k unused) ≡ true
+unfolding every
+all-unused zero = refl
+all-unused (suc k) = all-unused k
 
 -- ---- a read
 
@@ -100,9 +108,18 @@ module _ (d : Disc) (l : List ℕ) (n : ℕ) (block : List ℕ) (ok : Sound d) (
 abbrev Filling : ℕ → Type 0
 Filling mode = (leb mode read_only ≡ true) × (eqb mode packet_open ≡ false)
 
-table_fits : (d : Disc) → Sound d → (b mode : ℕ) → Filling mode → table_at d b ≡ true → fits d (shown_at d b mode) ≡ true
-unfolding filled
-table_fits d ok b mode m e = fits_all d (shown_at d b mode) (filled-fits d ok b b (recorded d) mode refl e e) (rw (m.0, m.1))
+filled-fits : (d : Disc) → Sound d → (b mode : ℕ) → Filling mode → table_at d b ≡ true → fits d (shown_at d b mode) ≡ true
+unfolding fits filled
+filled-fits d ok b mode m e =
+    let xs : List ℕ = map_at d b in
+    let r : ℕ = recorded d in
+    let inside : b < r = table-recorded d ok b e in
+    let few : leb (length xs) limit ≡ true = le-leb (length xs) limit (few-at d b e) in
+    let behind : every is_unused (drop (length xs) (xs ++ replicate (limit - length xs) unused)) ≡ true =
+    ap (every is_unused) (drop_at xs (replicate (limit - length xs) unused) (length xs) refl) ∙ all-unused (limit - length xs) in
+    let named : every (unused_or_below r) (map_of (filled xs b r mode)) ≡ true =
+    ap (every (unused_or_below r)) (map-filled xs b r mode) ∙ all-below-to r xs (all-below-more b r xs (omega arith) (names-below d b e)) in
+    rw (few, behind, named, eq-eqb r r refl, e, or-true (eqb b unused), m.0, m.1)
 
 -- a ledger that fits the disc and whose numbers are the map's
 pub record HoldsMap (d : Disc) (l xs : List ℕ) : Type 0 where
@@ -110,16 +127,6 @@ pub record HoldsMap (d : Disc) (l xs : List ℕ) : Type 0 where
   pub fit : fits d (unpack l) ≡ true
   pub size : (unpack l).size ≡ length xs
   pub entry : (n : ℕ) → block_of (unpack l) n ≡ get_or xs n unused
-
-pub shows-held : (d : Disc) → Sound d → (l xs : List ℕ) → HoldsMap d l xs → Shows d l (page_from F d xs)
-shows-held d ok l xs h =
-    record {
-      size = h.size ∙ sym (length-page F d xs);
-      entry = λ n. h.entry n ∙ sym (ap block_number (page-at d xs n) ∙ block-of d (get_or xs n unused));
-      reads = λ n block whole.
-          read_answer d l n block ok h.long whole h.fit (λ used. subst (λ (k : ℕ). n < k) (sym h.size) (used-below xs n (λ z. used (h.entry n ∙ z))))
-          ∙ ap (reading d l block) (ap (shown_of F d) (h.entry n) ∙ sym (page-at d xs n));
-    }
 
 module _ (d : Disc) (ok : Sound d) (b mode : ℕ) (word : mode < 4294967296) (m : Filling mode) (e : table_at d b ≡ true) where
   pub holds-table : HoldsMap d (pack (shown_at d b mode)) (map_at d b)
@@ -130,10 +137,19 @@ module _ (d : Disc) (ok : Sound d) (b mode : ℕ) (word : mode < 4294967296) (m 
       let unpacked : unpack (pack v) ≡ v = unpack-pack v proper in
       record {
         long = length-pack v proper;
-        fit = ap (fits d) unpacked ∙ table_fits d ok b mode m e;
+        fit = ap (fits d) unpacked ∙ filled-fits d ok b mode m e;
         size = ap (λ (u : Volume). u.size) unpacked;
         entry = λ n. ap (λ (u : Volume). block_of u n) unpacked ∙ padded-at (map_at d b) (limit - length (map_at d b)) n;
       }
 
   pub shows-table : Shows d (pack (shown_at d b mode)) (page_from F d (map_at d b))
-  shows-table = shows-held d ok (pack (shown_at d b mode)) (map_at d b) holds-table
+  shows-table =
+      let l : List ℕ = pack (shown_at d b mode) in
+      let h : HoldsMap d l (map_at d b) = holds-table in
+      record {
+        size = h.size ∙ sym (length-page F d (map_at d b));
+        entry = λ n. h.entry n ∙ sym (ap block_number (page-at d (map_at d b) n) ∙ block-of d (get_or (map_at d b) n unused));
+        reads = λ n block whole.
+            read_answer d l n block ok h.long whole h.fit (λ used. subst (λ (k : ℕ). n < k) (sym h.size) (used-below (map_at d b) n (λ z. used (h.entry n ∙ z))))
+            ∙ ap (reading d l block) (ap (shown_of F d) (h.entry n) ∙ sym (page-at d (map_at d b) n));
+      }

@@ -4,33 +4,36 @@ use Prim.Native.Nat.{ℕ, zero, suc, ◌+◌, ◌≤◌, ◌<◌}
 use native.Mathlib.Omega.{arith}
 use mathlib.Core.Path.{◌≡◌, refl, sym, ap, ap₂, ◌∙◌, subst, subst₂}
 use mathlib.Core.Bool.{Bool, true, false, ◌&&◌}
-use mathlib.Core.List.{List, []}
+use mathlib.Core.List.{List, [], ◌∷◌}
+use mathlib.Core.Logic.{inl, inr}
 use mathlib.Core.Option.{Option, none, some}
 use lib.Dec.{eqb, lit<, eqb-suc-zero}
 use lib.ListN.{length, replicate, length-replicate}
 use lib.Arith.{lt_of_le-ne}
 use borrow.Author.Tests.{eqb-true, eqb-false}
+use Rattle.le.proofs.Runs.{Words}
 use Rattle.vat.specs.Table.{limit, unused, Lower, is_table}
+use Rattle.vat.proofs.Theorems.{Named}
 use Rattle.disc.specs.Disc.{Disc, recorded, content, Sector, link, puts}
 use Rattle.disc.specs.Tables.{below, table_at, map_at, newest, block_found}
 use Rattle.disc.proofs.Recording.{Sound, leading_le}
+use Rattle.disc.proofs.Told.{few-at}
 use Rattle.disc.proofs.Save.{NoTables}
 use Rattle.disc.proofs.Found.{table-recorded, newest-table}
 use Rattle.volume.specs.declared.Volume.{Volume}
 use Rattle.volume.specs.Volume.{idle, read_only, unpack, pack, map_of, begun, filled, wrote, released, closed, committed}
-use Rattle.volume.proofs.State.{Proper, unpack-pack, proper-begun, proper-wrote, proper-released, proper-closed, proper-committed, grown_map, map-filled, map-wrote, map-released, length-map}
-use Rattle.recorder.specs.Calls.{Call, begin, mount, write, release, close_packet, commit, close_session, read, look_back, time_of, go_back, restores, saves, only_tells, buffer_of}
-use Rattle.recorder.specs.Refusals.{links, target, walked, block_reached, outcome}
-use Rattle.recorder.specs.Effects.{Effect, saved, effect, settled, after, second_number, sectors_if, sectors_of, shown_at}
+use Rattle.volume.proofs.State.{Proper, unpack-pack, proper-begun, proper-filled, proper-wrote, proper-released, proper-closed, proper-committed, grown_map, map-filled, map-wrote, map-released, length-map}
+use Rattle.recorder.specs.Calls.{Call, begin, mount, write, release, close_packet, commit, close_session, read, look_back, time_of, restores, saves, only_tells, buffer_of}
+use Rattle.recorder.specs.Refusals.{links, target, walked, outcome}
+use Rattle.recorder.specs.Effects.{Effect, block_reached, saved, effect, settled, after, second_number, sectors_if, sectors_of, shown_at}
 use Rattle.recorder.proofs.Done.{Writable, WriteDone, begin-done, mount-done, write_done, release-done, close-done, look-back-done}
-use Rattle.recorder.proofs.Gone.{walked-table, filled-proper}
-use Rattle.history.specs.History.{History, Source, Told, Fed, answered, cut, cut_commit, feed}
-use Rattle.history.specs.Events.{World, Event, calls, cuts, ledger_held, CountsAsDone, Follows, Torn, Allowed, cut_disc, ledger_after, next, told, source_of, kept, cut_short, fed}
-use Rattle.history.proofs.Log.{written_map, View, State, Step, plain-same, at, working}
+use Rattle.recorder.proofs.Answers.{walked-table}
+use Rattle.history.specs.History.{History, Told, Fed, answered, cut, cut_commit, feed}
+use Rattle.history.specs.Events.{World, Event, calls, cuts, ledger_held, CountsAsDone, Follows, Torn, Allowed, cut_disc, ledger_after, next, told, kept, cut_short, fed}
+use Rattle.history.proofs.Log.{AllBelow, written_map, View, State, Step, plain-same, at, working}
 use Rattle.recorder.proofs.Sectors.{links-whole, behind, length-behind}
 use Rattle.history.specs.Times.{saved_stamp}
-use Rattle.history.specs.Back.{saved_state}
-use Rattle.history.proofs.Growth.{F, Grown, links-no-tables, links-below, behind-content, behind-counted, behind-grown, Left, cut-before-left, cut_all, cut-none}
+use Rattle.history.proofs.Growth.{F, names-below, Grown, links-no-tables, links-below, behind-content, behind-counted, behind-grown, Left, cut-before-left, cut_all, cut-none}
 use Rattle.history.proofs.Saving.{Saving, saving-done, enough, table_sector, before_table, before-whole, before-no-tables, room, small, table_block, at_table, leaves-behind, saved_disc, save, save-sound}
 
 -- ---- the world as the log sees it
@@ -68,8 +71,16 @@ module _ (v : Volume) (ok : Proper v) where
   packed-good = subst Proper (sym (unpack-pack v ok)) ok
 
 -- not looking only
-pub working-view : (v : Volume) → eqb v.mode read_only ≡ false → view_is v ≡ working F (map_of v) v.last
+working-view : (v : Volume) → eqb v.mode read_only ≡ false → view_is v ≡ working F (map_of v) v.last
 working-view v e = λ i. record { map = map_of v; last = v.last; looking = e i }
+
+words-below : (b : ℕ) (xs : List ℕ) → b < 4294967296 → AllBelow b xs → Words xs
+words-below b [] h a = tt
+words-below b (x ∷ xs) h a = (go a.0, words-below b xs h a.1)
+  where
+    go : Named b x → x < 4294967296
+    go (inl l) = omega arith
+    go (inr e) = omega arith
 
 few-recorded : (d : Disc) → Sound d → recorded d < 4294967296
 few-recorded d ok = omega (arith, leading_le d.kinds, ok.few)
@@ -77,8 +88,10 @@ few-recorded d ok = omega (arith, leading_le d.kinds, ok.few)
 -- a state filled from a table
 pub proper-table : (d : Disc) → Sound d → (b mode : ℕ) → mode < 4294967296 → table_at d b ≡ true → Proper (shown_at d b mode)
 proper-table d ok b mode hm e =
-    let small : recorded d < 4294967296 = few-recorded d ok in
-    filled-proper d ok b b (recorded d) mode e (omega (arith, table-recorded d ok b e)) small hm
+    let r : ℕ = recorded d in
+    let inside : b < r = table-recorded d ok b e in
+    let small : r < 4294967296 = few-recorded d ok in
+    proper-filled (map_at d b) b r mode (few-at d b e) (words-below b (map_at d b) (omega arith) (names-below d b e)) (omega arith) small hm
 
 -- ---- a call that is done or refused
 
@@ -260,7 +273,7 @@ module _ (d : Disc) (l : List ℕ) (sound : Sound d) (good : Proper (unpack l)) 
       let ok : Proper (wrote n (target v) v) = proper-wrote v good n (target v) f.fit.few (omega arith) in
       let before : view_is v ≡ working F (map_of v) v.last = working-view v f.not-looking in
       let after-view : view_is (unpack (pack (wrote n (target v) v))) ≡ working F (written_map n (map_of v) (target v)) v.last =
-      packed-view (wrote n (target v) v) ok ∙ wrote-view v n (target v) f.writable (enough d v good f.fit) good.long in
+      packed-view (wrote n (target v) v) ok ∙ wrote-view v n (target v) f.writable (enough d l sound good f.fit) good.long in
       record {
         good = record { sound-disc = g.still-sound; ledger-good = packed-good (wrote n (target v) v) ok };
         step =
@@ -272,27 +285,26 @@ module _ (d : Disc) (l : List ℕ) (sound : Sound d) (good : Proper (unpack l)) 
 
   -- a save, whichever call makes it
   save-step : (c : Call) → saves c ≡ true → outcome d l c ≡ 0
-      → GoodStep (record { disc = d; ledger = some l }) (answered (Told.commit (source_of c)) 0 (effect d l c).second) (done_world (record { disc = d; ledger = some l }) l c)
+      → GoodStep (record { disc = d; ledger = some l }) (answered Told.commit 0 (effect d l c).second) (done_world (record { disc = d; ledger = some l }) l c)
   save-step c is-save e =
       let s : Saving d l c = saving-done d l c is-save e in
       let v : Volume = unpack l in
-      let u : Volume = saved_state d l c in
-      let b : ℕ = table_block d l sound c s in
-      let end : ℕ = recorded d + length (before_table d l sound c s) in
-      let d' : Disc = saved_disc d l sound c s in
-      let ok : Proper (committed b u) = proper-committed u (s.still-proper good) b (omega (arith, at_table d l sound c s, small d l sound c s)) in
-      let before : view_is v ≡ working F (map_of v) v.last = working-view v s.began in
-      let records : (saved d u (map_of u) u.last s.first (saved_stamp c) (buffer_of c)).sectors ≡ behind (before_table d l sound c s) (table_sector d l sound c s) =
-      ap (λ (x : Effect). x.sectors) (sym s.leaves) ∙ leaves-behind d l sound c s in
-      let after-view : view_is (unpack (pack (committed b u))) ≡ working F (map_of u) end =
-      packed-view (committed b u) ok ∙ committed-view u b ∙ ap (working F (map_of u)) (at_table d l sound c s) in
-      subst (λ (x : Effect). GoodStep (record { disc = d; ledger = some l }) (answered (Told.commit (source_of c)) 0 x.second) (record { disc = puts d (recorded d) x.sectors; ledger = some x.ledger })) (sym s.leaves)
-      (subst (λ (ss : List Sector). GoodStep (record { disc = d; ledger = some l }) (answered (Told.commit (source_of c)) 0 b) (record { disc = puts d (recorded d) ss; ledger = some (pack (committed b u)) })) (sym records)
+      let b : ℕ = table_block d l sound good c s in
+      let end : ℕ = recorded d + length (before_table d l sound good c s) in
+      let d' : Disc = saved_disc d l sound good c s in
+      let ok : Proper (committed b v) = proper-committed v good b (omega (arith, at_table d l sound good c s, small d l sound good c s)) in
+      let before : view_is v ≡ working F (map_of v) v.last = working-view v s.done.not-looking in
+      let records : (saved d v (map_of v) v.last s.first (saved_stamp c) (buffer_of c)).sectors ≡ behind (before_table d l sound good c s) (table_sector d l sound good c s) =
+      ap (λ (x : Effect). x.sectors) (sym s.leaves) ∙ leaves-behind d l sound good c s in
+      let after-view : view_is (unpack (pack (committed b v))) ≡ working F (map_of v) end =
+      packed-view (committed b v) ok ∙ committed-view v b ∙ ap (working F (map_of v)) (at_table d l sound good c s) in
+      subst (λ (x : Effect). GoodStep (record { disc = d; ledger = some l }) (answered Told.commit 0 x.second) (record { disc = puts d (recorded d) x.sectors; ledger = some x.ledger })) (sym s.leaves)
+      (subst (λ (ss : List Sector). GoodStep (record { disc = d; ledger = some l }) (answered Told.commit 0 b) (record { disc = puts d (recorded d) ss; ledger = some (pack (committed b v)) })) (sym records)
       (record {
-        good = record { sound-disc = save-sound d l sound c s; ledger-good = packed-good (committed b u) ok };
+        good = record { sound-disc = save-sound d l sound good c s; ledger-good = packed-good (committed b v) ok };
         step =
-            subst₂ (λ (x y : View). Step F (at F d (some x)) (answered (Told.commit (source_of c)) 0 b) (at F d' (some y))) (sym before) (sym after-view)
-            (Step.committed (source_of c) (map_of v) (map_of u) v.last u.last end b s.source (save d l sound c s));
+            subst₂ (λ (x y : View). Step F (at F d (some x)) (answered Told.commit 0 b) (at F d' (some y))) (sym before) (sym after-view)
+            (Step.committed (map_of v) v.last end b (save d l sound good c s));
       }))
 
 done-step : (d : Disc) (o : Option (List ℕ)) (c : Call) (junk : List ℕ) → only_tells c ≡ false → Good (record { disc = d; ledger = o }) → Follows (record { disc = d; ledger = o }) c junk
@@ -309,14 +321,12 @@ done-step d none close_packet junk t g f e = absurd (mathlib.Core.Bool.false≢t
 done-step d none (commit stamp) junk t g f e = absurd (mathlib.Core.Bool.false≢true (f refl (e, refl)))
 done-step d none (close_session main reserve start) junk t g f e = absurd (mathlib.Core.Bool.false≢true (f refl (e, refl)))
 done-step d none (read n block) junk t g f e = absurd (mathlib.Core.Bool.false≢true (f refl (e, refl)))
-done-step d none (go_back k) junk t g f e = absurd (mathlib.Core.Bool.false≢true (f refl (e, refl)))
 done-step d (some l) (write n block) junk t g f e = write_step d l g.sound-disc g.ledger-good n block e
 done-step d (some l) (release n) junk t g f e = release-step d l g.sound-disc g.ledger-good n e
 done-step d (some l) close_packet junk t g f e = close-step d l g.sound-disc g.ledger-good e
 done-step d (some l) (commit stamp) junk t g f e = save-step d l g.sound-disc g.ledger-good (commit stamp) refl e
 done-step d (some l) (close_session main reserve start) junk t g f e = save-step d l g.sound-disc g.ledger-good (close_session main reserve start) refl e
 done-step d (some l) (read n block) junk t g f e = read_step d l g.sound-disc g.ledger-good n 0
-done-step d (some l) (go_back k) junk t g f e = save-step d l g.sound-disc g.ledger-good (go_back k) refl e
 
 settled-step : (w : World) (c : Call) (junk : List ℕ) → only_tells c ≡ false → Good w → Follows w c junk → GoodStep w (fed w (calls c junk)) (next w (calls c junk))
 settled-step w c junk t g f = go (outcome w.disc (ledger_held w.ledger junk) c) refl
@@ -351,7 +361,6 @@ call_step w (close_session main reserve start) junk g f = settled-step w (close_
 call_step w (read n block) junk g f = settled-step w (read n block) junk refl g f
 call_step w (look_back k) junk g f = settled-step w (look_back k) junk refl g f
 call_step w (time_of k answer) junk g f = time-step w k answer junk g
-call_step w (go_back k) junk g f = settled-step w (go_back k) junk refl g f
 
 -- ---- a call that is cut
 
@@ -359,7 +368,7 @@ abbrev cut_world : Disc → World
 cut_world d = record { disc = d; ledger = none }
 
 abbrev Clears : Fed → Type 0
-Clears f = (h : History) → feed h f ≡ record { pages = h.pages; draft = none; older = h.older }
+Clears f = (h : History) → feed h f ≡ record { pages = h.pages; draft = none }
 
 lost-step : (w : World) (f : Fed) (d' : Disc) → Clears f → Left w.disc d' → GoodStep w f (cut_world d')
 lost-step w f d' clears left = record { good = record { sound-disc = left.still-sound; ledger-good = tt }; step = Step.lost f clears left.plainly }
@@ -368,9 +377,9 @@ cut-clears : (c : Told) → Clears (cut c)
 unfolding feed
 cut-clears c h = refl
 
-unsaved-clears : (source : Source) → Clears (cut_commit source false)
+unsaved-clears : Clears (cut_commit false)
 unfolding feed
-unsaved-clears source h = refl
+unsaved-clears h = refl
 
 -- nothing was recorded
 nothing_left : (d : Disc) → Sound d → (ss : List Sector) (j : ℕ) (tear : Option (List ℕ)) → ss ≡ [] → j ≤ length ss → Left d (cut_disc d ss j tear)
@@ -433,48 +442,47 @@ no-save-follows d l (close_session main reserve start) s f e = mathlib.Core.Bool
 no-save-follows d l (read n block) s f e = mathlib.Core.Bool.false≢true (f (e, refl))
 no-save-follows d l (look_back k) s f e = mathlib.Core.Bool.false≢true s
 no-save-follows d l (time_of k answer) s f e = mathlib.Core.Bool.false≢true s
-no-save-follows d l (go_back k) s f e = mathlib.Core.Bool.false≢true (f (e, refl))
 
 -- a save that would have been done, cut after j of its sectors
 module _ (d : Disc) (l : List ℕ) (g : Good (record { disc = d; ledger = some l })) (c : Call) (s : Saving d l c) (e : outcome d l c ≡ 0) where
   abbrev firsts : List Sector
-  firsts = before_table d l g.sound-disc c s
+  firsts = before_table d l g.sound-disc g.ledger-good c s
 
   abbrev table : List ℕ
-  table = table_sector d l g.sound-disc c s
+  table = table_sector d l g.sound-disc g.ledger-good c s
 
   all-records : sectors_of d l c ≡ behind firsts table
-  all-records = done-records d l c e ∙ leaves-behind d l g.sound-disc c s
+  all-records = done-records d l c e ∙ leaves-behind d l g.sound-disc g.ledger-good c s
 
   cut-done-step : (j : ℕ) (tear : Option (List ℕ)) → j ≤ length (sectors_of d l c) → Torn tear → (t : Bool) → eqb j (length (sectors_of d l c)) ≡ t
-      → GoodStep (record { disc = d; ledger = some l }) (cut_commit (source_of c) (kept d l c j)) (cut_world (cut_disc d (sectors_of d l c) j tear))
+      → GoodStep (record { disc = d; ledger = some l }) (cut_commit (kept d l c j)) (cut_world (cut_disc d (sectors_of d l c) j tear))
   cut-done-step j tear h t true z =
       let is-kept : kept d l c j ≡ true = ap₂ (λ (x : ℕ) (y : Bool). eqb x 0 && y) e z in
-      let all : cut_disc d (sectors_of d l c) j tear ≡ saved_disc d l g.sound-disc c s =
+      let all : cut_disc d (sectors_of d l c) j tear ≡ saved_disc d l g.sound-disc g.ledger-good c s =
       cut_all (sectors_of d l c) d tear j (eqb-true j (length (sectors_of d l c)) z) ∙ ap (puts d (recorded d)) all-records in
-      subst₂ (λ (x : Bool) (y : Disc). GoodStep (record { disc = d; ledger = some l }) (cut_commit (source_of c) x) (cut_world y)) (sym is-kept) (sym all)
+      subst₂ (λ (x : Bool) (y : Disc). GoodStep (record { disc = d; ledger = some l }) (cut_commit x) (cut_world y)) (sym is-kept) (sym all)
       (record {
-        good = record { sound-disc = save-sound d l g.sound-disc c s; ledger-good = tt };
+        good = record { sound-disc = save-sound d l g.sound-disc g.ledger-good c s; ledger-good = tt };
         step =
-            subst (λ (v : View). Step F (at F d (some v)) (cut_commit (source_of c) true) (at F (saved_disc d l g.sound-disc c s) none)) (sym (working-view (unpack l) s.began))
-            (Step.lost-saved (source_of c) (map_of (unpack l)) (map_of (saved_state d l c)) (unpack l).last (saved_state d l c).last (recorded d + length firsts) s.source (save d l g.sound-disc c s));
+            subst (λ (v : View). Step F (at F d (some v)) (cut_commit true) (at F (saved_disc d l g.sound-disc g.ledger-good c s) none)) (sym (working-view (unpack l) s.done.not-looking))
+            (Step.lost-saved (map_of (unpack l)) (unpack l).last (recorded d + length firsts) (save d l g.sound-disc g.ledger-good c s));
       })
   cut-done-step j tear h t false z =
       let not-kept : kept d l c j ≡ false = ap₂ (λ (x : ℕ) (y : Bool). eqb x 0 && y) e z in
       let fewer : j ≤ length firsts = not-all j (length (sectors_of d l c)) (length firsts) h (eqb-false j (length (sectors_of d l c)) z) (ap length all-records ∙ length-behind firsts table) in
-      subst₂ (λ (x : Bool) (y : List Sector). GoodStep (record { disc = d; ledger = some l }) (cut_commit (source_of c) x) (cut_world (cut_disc d y j tear))) (sym not-kept) (sym all-records)
-      (lost-step (record { disc = d; ledger = some l }) (cut_commit (source_of c) false) (cut_disc d (behind firsts table) j tear) (unsaved-clears (source_of c))
-      (cut-before-left firsts table d j tear g.sound-disc (before-whole d l g.sound-disc c s) (before-no-tables d l g.sound-disc c s) (room d l g.sound-disc c s) fewer t))
+      subst₂ (λ (x : Bool) (y : List Sector). GoodStep (record { disc = d; ledger = some l }) (cut_commit x) (cut_world (cut_disc d y j tear))) (sym not-kept) (sym all-records)
+      (lost-step (record { disc = d; ledger = some l }) (cut_commit false) (cut_disc d (behind firsts table) j tear) unsaved-clears
+      (cut-before-left firsts table d j tear g.sound-disc (before-whole d l g.sound-disc g.ledger-good c s) (before-no-tables d l g.sound-disc g.ledger-good c s) (room d l g.sound-disc g.ledger-good c s) fewer t))
 
 cut-save-step : (d : Disc) (o : Option (List ℕ)) (c : Call) → saves c ≡ true → (junk : List ℕ) (j : ℕ) (tear : Option (List ℕ)) → Good (record { disc = d; ledger = o })
     → Follows (record { disc = d; ledger = o }) c junk → j ≤ length (sectors_of d (ledger_held o junk) c) → Torn tear
     → (m : ℕ) → outcome d (ledger_held o junk) c ≡ m
-    → GoodStep (record { disc = d; ledger = o }) (cut_commit (source_of c) (kept d (ledger_held o junk) c j)) (cut_world (cut_disc d (sectors_of d (ledger_held o junk) c) j tear))
+    → GoodStep (record { disc = d; ledger = o }) (cut_commit (kept d (ledger_held o junk) c j)) (cut_world (cut_disc d (sectors_of d (ledger_held o junk) c) j tear))
 cut-save-step d o c is-save junk j tear g f h t (suc m) e =
     let l : List ℕ = ledger_held o junk in
     let unsaved : kept d l c j ≡ false = ap (λ (x : ℕ). eqb x 0 && eqb j (length (sectors_of d l c))) e ∙ ap (λ (x : Bool). x && eqb j (length (sectors_of d l c))) (eqb-suc-zero m) in
-    subst (λ (x : Bool). GoodStep (record { disc = d; ledger = o }) (cut_commit (source_of c) x) (cut_world (cut_disc d (sectors_of d l c) j tear))) (sym unsaved)
-    (lost-step (record { disc = d; ledger = o }) (cut_commit (source_of c) false) (cut_disc d (sectors_of d l c) j tear) (unsaved-clears (source_of c))
+    subst (λ (x : Bool). GoodStep (record { disc = d; ledger = o }) (cut_commit x) (cut_world (cut_disc d (sectors_of d l c) j tear))) (sym unsaved)
+    (lost-step (record { disc = d; ledger = o }) (cut_commit false) (cut_disc d (sectors_of d l c) j tear) unsaved-clears
     (nothing_left d g.sound-disc (sectors_of d l c) j tear (refused-records-none d l c m e) h))
 cut-save-step d none c is-save junk j tear g f h t zero e = absurd (no-save-follows d junk c is-save (f refl) e)
 cut-save-step d (some l) c is-save junk j tear g f h t zero e =
@@ -492,7 +500,6 @@ Idle (close_session main reserve start) = ⊥
 Idle (read n block) = Unit
 Idle (look_back k) = Unit
 Idle (time_of k answer) = Unit
-Idle (go_back k) = ⊥
 
 pub records-nothing : (d : Disc) (l : List ℕ) (c : Call) → Idle c → sectors_of d l c ≡ []
 unfolding sectors_of effect
@@ -506,7 +513,6 @@ records-nothing d l (close_session main reserve start) i = absurd i
 records-nothing d l (read n block) i = records-none (outcome d l (read n block))
 records-nothing d l (look_back k) i = records-none (outcome d l (look_back k))
 records-nothing d l (time_of k answer) i = records-none (outcome d l (time_of k answer))
-records-nothing d l (go_back k) i = absurd i
 
 idle-cut : (d : Disc) (o : Option (List ℕ)) (c : Call) (junk : List ℕ) (j : ℕ) (tear : Option (List ℕ)) → Good (record { disc = d; ledger = o })
     → j ≤ length (sectors_of d (ledger_held o junk) c) → sectors_of d (ledger_held o junk) c ≡ []
@@ -531,7 +537,6 @@ cut_step d o (close_session main reserve start) junk j tear g f h t =
 cut_step d o (read n block) junk j tear g f h t = idle-cut d o (read n block) junk j tear g h (records-nothing d (ledger_held o junk) (read n block) tt)
 cut_step d o (look_back k) junk j tear g f h t = idle-cut d o (look_back k) junk j tear g h (records-nothing d (ledger_held o junk) (look_back k) tt)
 cut_step d o (time_of k answer) junk j tear g f h t = idle-cut d o (time_of k answer) junk j tear g h (records-nothing d (ledger_held o junk) (time_of k answer) tt)
-cut_step d o (go_back k) junk j tear g f h t = cut-save-step d o (go_back k) refl junk j tear g f h t (outcome d (ledger_held o junk) (go_back k)) refl
 
 -- every event is a step
 pub event-step : (w : World) (e : Event) → Good w → Allowed w e → GoodStep w (fed w e) (next w e)

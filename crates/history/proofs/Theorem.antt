@@ -2,9 +2,10 @@
 --     power-cuts         the claim of specs/Claim.antt
 --     begun_kept, mounted-kept, all-kept  what holds of disc, ledger and history after a begin or a mount, and after any events that follow
 --     all-extends, all-since  these only add to the disc, and leave each save where it was, further back by the saves that they make
---     save-then-mount    a save that is done, then a mount or a look back on the disc that it leaves
+--     remounts           a save that is done, then a mount or a look back on the disc that it leaves
+--     save-then-mount    the same of any 16,364 bytes as ledger
 -- Assumes nothing.
-use Prim.Native.Nat.{ℕ, zero, suc, ◌+◌, ◌*◌, ◌<◌}
+use Prim.Native.Nat.{ℕ, suc, ◌+◌, ◌*◌, ◌<◌}
 use native.Mathlib.Omega.{arith}
 use mathlib.Core.Path.{◌≡◌, refl, sym, ap, ◌∙◌, subst, subst₂}
 use mathlib.Core.Bool.{Bool, true, false, ◌||◌, not}
@@ -17,28 +18,28 @@ use lib.ListN.{length, get_or}
 use Rattle.vat.specs.Table.{unused}
 use Rattle.disc.specs.Disc.{Disc, recorded, puts}
 use Rattle.disc.specs.declared.Walk.{Walk}
-use Rattle.disc.specs.declared.Walk.TheVariants.{Reached, Broken, Ended}
+use Rattle.disc.specs.declared.Walk.TheVariants.{Reached, Ended}
 use Rattle.disc.specs.Tables.{table_at, map_at, previous_at, newest, walk, block_found}
 use Rattle.disc.proofs.Recording.{Sound}
 use Rattle.disc.proofs.Found.{newest-table, table-recorded}
+use Rattle.le.proofs.Runs.{AllBytes}
 use Rattle.volume.specs.declared.Volume.{Volume}
 use Rattle.volume.specs.Volume.{ledger_length, idle, read_only, unpack, pack, map_of, filled}
-use Rattle.volume.proofs.State.{Proper, unpack-pack, map-filled, length-map}
+use Rattle.volume.proofs.State.{Proper, unpack-pack, proper-unpack, map-filled, length-map}
 use Rattle.recorder.specs.Calls.{Call, begin, mount, look_back, saves, only_tells}
-use Rattle.recorder.specs.Refusals.{test, ledger_lent, is_some, walk_from, walked, block_reached, is_broken, is_ended, walk_tests, tests, outcome}
-use Rattle.recorder.specs.Effects.{effect, clean_number, after, shown_at}
-use Rattle.recorder.proofs.Done.{skip, stop, none_left, skip-basic, skip-walk, begin-done, mount-done, look-back-done, SaveDone}
-use Rattle.recorder.proofs.Gone.{walked-table}
-use Rattle.history.specs.History.{Snapshot, History, Told, page_back, made, saved, done, feed}
-use Rattle.history.specs.Events.{World, Event, calls, ledger_held, AllAllowed, next, told, source_of, fed, runs, remembers, shown, page_of, older_than, after_call, begun_history, mounted_history}
+use Rattle.recorder.specs.Refusals.{test, ledger_lent, is_some, walk_from, walked, is_broken, is_ended, walk_tests, tests, outcome}
+use Rattle.recorder.specs.Effects.{effect, block_reached, clean_number, after, shown_at}
+use Rattle.recorder.proofs.Done.{skip, stop, none_left, skip-basic, skip-walk, begin-done, mount-done, SaveDone}
+use Rattle.recorder.proofs.Answers.{walked-table}
+use Rattle.history.specs.History.{Snapshot, History, Told, saved, done, feed}
+use Rattle.history.specs.Events.{World, Event, calls, ledger_held, AllAllowed, next, told, fed, runs, remembers, shown, page_of, after_call, begun_history, mounted_history}
 use Rattle.history.specs.Times.{saved_stamp}
-use Rattle.history.specs.Back.{saved_state}
 use Rattle.history.specs.Claim.{Shows, DoneShowing, Mounts, Claim, PowerCuts}
-use Rattle.history.proofs.Log.{Extends, extends-same, extends-on, View, at, way_from, walk_of, Reaches, Inv, Pages, Saved, page_from, newest-saved, kept, head-link, working, source-page}
+use Rattle.history.proofs.Log.{Extends, extends-same, extends-on, HeldIf, Inv, Pages, Saved, page_from, newest-saved, kept, head-link, working}
 use Rattle.history.proofs.Back.{step-extends, way-walk, Behind, page-behind, Since, since-kept}
 use Rattle.history.proofs.Growth.{F, names-below}
-use Rattle.history.proofs.Steps.{Good, GoodStep, state_of, working-view, event-step, proper-table}
-use Rattle.history.proofs.Saving.{told-save, same-walk, Saving, saving-done, before_table, table_block, at_table, leaves-behind, saved_disc, save, save-sound}
+use Rattle.history.proofs.Steps.{Good, GoodStep, state_of, event-step, proper-table}
+use Rattle.history.proofs.Saving.{told-save, Saving, saving-done, before_table, table_block, at_table, leaves-behind, saved_disc, save, save-sound}
 use Rattle.history.proofs.Shown.{shows-table}
 
 -- ---- the invariant over a list
@@ -67,7 +68,7 @@ unfolding AllAllowed runs remembers
 all-since [] w h r a s = s
 all-since (e ∷ es) w h r a s =
     let step : GoodStep w (fed w e) (next w e) = event-step w e r.good a.0 in
-    all-since es (next w e) (feed h (fed w e)) (all-kept (e ∷ []) w h r (a.0, tt)) a.1 (since-kept F names-below h step.step r.inv s)
+    all-since es (next w e) (feed h (fed w e)) (all-kept (e ∷ []) w h r (a.0, tt)) a.1 (since-kept F h step.step r.inv s)
 
 pub walked-behind : (d : Disc) (k t : ℕ) → Behind F d k t → walked d k ≡ Reached t
 unfolding walked
@@ -102,7 +103,7 @@ module _ (d : Disc) (l : List ℕ) (ok : Sound d) (long : length l ≡ ledger_le
             (shows-table d ok b idle (lit< tt) (refl, refl) (newest-table (table_at d) (recorded d) b n));
       }
 
-  pub look-back-some : (k b t : ℕ) → newest d ≡ some b → walked d k ≡ Reached t → outcome d l (look_back k) ≡ 0
+  look-back-some : (k b t : ℕ) → newest d ≡ some b → walked d k ≡ Reached t → outcome d l (look_back k) ≡ 0
   unfolding outcome tests
   look-back-some k b t n e =
       skip-basic d (ledger_lent l) (walk_tests d k) ok (eq-eqb (length l) ledger_length long) ∙ skip-walk d k b t [] n e ∙ none_left
@@ -140,15 +141,6 @@ module _ (d : Disc) (l : List ℕ) (ok : Sound d) (long : length l ≡ ledger_le
 
 -- ---- the claim
 
--- what is reached is reached from the newest table
-pub found-newest : (d : Disc) (k t : ℕ) → walked d k ≡ Reached t → (b : ℕ) × (newest d ≡ some b)
-unfolding walked
-found-newest d k t e = go (newest d) refl e
-  where
-    go : (o : Option ℕ) → newest d ≡ o → walk_from d k o ≡ Reached t → (b : ℕ) × (newest d ≡ some b)
-    go none n e = absurd (let y : ◌≡◌ {A = ℕ} 0 1 = cc in omega arith)
-    go (some b) n e = (b, n)
-
 mounts-pages : (d : Disc) (l : List ℕ) → Sound d → length l ≡ ledger_length → (ps : List Snapshot) → Pages F d ps → Mounts d l ps
 mounts-pages d l ok long [] n = mount-none d l ok long n
 mounts-pages d l ok long (p ∷ ps) n =
@@ -161,21 +153,11 @@ looks-pages d l ok long ps n k h =
     subst (λ (q : Snapshot). DoneShowing d l (look_back k) q) (sym page.2.page)
     (look-back-shows d l ok long k page.1.newest page.0 page.1.is-newest (walked-behind d k page.0 page.1))
 
-shows-older : (d : Disc) (l : List ℕ) → Sound d → length l ≡ ledger_length → (h : History) → Reaches F d h.pages h.older → (k : ℕ) → outcome d l (look_back k) ≡ 0
-    → DoneShowing d l (look_back k) (page_back h.pages h.older k)
-shows-older d l ok long h r k e =
-    let facts = look-back-done d l k e in
-    let t : ℕ = facts.1.0 in
-    let reached : walked d k ≡ Reached t = facts.1.1 in
-    let there = found-newest d k t reached in
-    subst (λ (q : Snapshot). DoneShowing d l (look_back k) q) (sym (r k t (same-walk d k ∙ reached))) (look-back-shows d l ok long k there.0 t there.1 reached)
-
 pub claimed : (w : World) (h : History) → Kept w h → Claim w.disc h
 claimed w h r =
     record {
       mounts = λ l long. mounts-pages w.disc l r.good.sound-disc long h.pages r.inv.pages;
       looks = λ l long k below. looks-pages w.disc l r.good.sound-disc long h.pages r.inv.pages k below;
-      shows-back = λ l long k e. shows-older w.disc l r.good.sound-disc long h r.inv.reached k e;
     }
 
 -- ---- the start
@@ -189,33 +171,16 @@ pub started : (w : World) (l : List ℕ) (c : Call) → only_tells c ≡ false �
 unfolding next
 started w l c t e = rw (t, e)
 
--- without a table nothing is reached
-none-reached : (d : Disc) (k t : ℕ) → newest d ≡ none → walk_of F d k ≡ Reached t → ⊥
-none-reached d k t n w =
-    let z : Broken ≡ Reached t = sym (ap (way_from F d k) n) ∙ w in
-    let y : ◌≡◌ {A = ℕ} 0 1 = cc in
-    omega arith
-
 pub begun_kept : (d : Disc) (l : List ℕ) → outcome d l begin ≡ 0 → Kept (after_call d l begin) begun_history
 unfolding feed fed
 begun_kept d l e =
     let facts = begin-done d l e in
     let g : Good (lost_world d) = record { sound-disc = facts.0; ledger-good = tt } in
     let s : GoodStep (lost_world d) (fed (lost_world d) (calls begin l)) (next (lost_world d) (calls begin l)) = event-step (lost_world d) (calls begin l) g (λ z y. refl) in
-    let h : History = record { pages = []; draft = none; older = λ k. [] } in
-    let i : Inv F (state_of (lost_world d)) h = record { pages = facts.1; draft = refl; reached = λ k t w. absurd (none-reached d k t facts.1 w) } in
+    let h : History = record { pages = []; draft = none } in
+    let i : Inv F (state_of (lost_world d)) h = record { pages = facts.1; draft = refl } in
     let fed-begin : feed h (fed (lost_world d) (calls begin l)) ≡ begun_history = rw e in
     subst₂ (λ (w : World) (k : History). Kept w k) (started (lost_world d) l begin refl e) fed-begin (record { good = s.good; inv = kept F names-below h s.step i })
-
--- at the start the walk reaches the newest table, and behind it what a look back shows
-start-reached : (d : Disc) (b : ℕ) (p : Snapshot) → p ≡ page_from F d (map_at d b) → newest d ≡ some b → Reaches F d (p ∷ []) (older_than d)
-unfolding walk shown
-start-reached d b p same n zero t w =
-    let here : Reached b ≡ Reached t = sym (ap (way_from F d 0) n) ∙ w in
-    let there : b ≡ t = cc in
-    same ∙ ap (λ (x : ℕ). page_from F d (map_at d x)) there
-start-reached d b p same n (suc k) t w =
-    ap (λ (x : Walk). page_from F d (map_at d (block_reached x))) (sym (same-walk d (suc k)) ∙ w)
 
 pub mounted-kept : (d : Disc) (l : List ℕ) → outcome d l mount ≡ 0 → Kept (after_call d l mount) (mounted_history d)
 unfolding feed fed shown
@@ -228,9 +193,9 @@ mounted-kept d l e =
     let s : GoodStep (lost_world d) (fed (lost_world d) (calls mount l)) (next (lost_world d) (calls mount l)) = event-step (lost_world d) (calls mount l) g (λ z y. refl) in
     let p : Snapshot = page_of d (map_at d (block_found (newest d))) in
     let same : p ≡ page_from F d (map_at d b) = ap (λ (o : Option ℕ). page_from F d (map_at d (block_found o))) n in
-    let h : History = record { pages = p ∷ []; draft = none; older = older_than d } in
+    let h : History = record { pages = p ∷ []; draft = none } in
     let i : Inv F (state_of (lost_world d)) h =
-    record { pages = (b, n, record { is-table = table; inside = table-recorded d facts.0 b table; page = same }); draft = refl; reached = start-reached d b p same n } in
+    record { pages = (b, n, record { is-table = table; inside = table-recorded d facts.0 b table; page = same }); draft = refl } in
     let fed-mount : feed h (fed (lost_world d) (calls mount l)) ≡ mounted_history d = rw e in
     subst₂ (λ (w : World) (k : History). Kept w k) (started (lost_world d) l mount refl e) fed-mount (record { good = s.good; inv = kept F names-below h s.step i })
 
@@ -243,40 +208,38 @@ power-cuts =
           claimed (runs (after_call d l mount) es) (remembers (after_call d l mount) (mounted_history d) es) (all-kept es (after_call d l mount) (mounted_history d) (mounted-kept d l e) a);
     }
 
--- ---- a save makes a page
+-- ---- a save makes the draft a page
 
 module _ (d : Disc) (l : List ℕ) (h : History) (k : Kept (record { disc = d; ledger = some l }) h) (c : Call) (is-save : saves c ≡ true) (e : outcome d l c ≡ 0) where
-  -- a save that is done has something to make its page of
-  pub drafted : (p : Snapshot) × (made (source_of c) h ≡ some p)
+  -- a save that is done has a draft
+  pub drafted : (p : Snapshot) × (h.draft ≡ some p)
   drafted =
-      let s : Saving d l c = saving-done d l c is-save e in
       let v : Volume = unpack l in
-      let u : Volume = saved_state d l c in
-      let inv : Inv F (at F d (some (working F (map_of v) v.last))) h = subst (λ (x : View). Inv F (at F d (some x)) h) (working-view v s.began) k.inv in
-      (_, source-page F names-below (source_of c) (map_of v) (map_of u) v.last u.last s.source h inv)
+      let held = subst (λ (t : Bool). HeldIf F t d (map_of v) v.last h.draft) (saving-done d l c is-save e).done.not-looking k.inv.draft in
+      (_, held.shown)
 
   pub saved-page : (second : ℕ) → (done (told c) second h).pages ≡ drafted.0 ∷ h.pages
   saved-page second = ap (λ (t : Told). (done t second h).pages) (told-save c is-save) ∙ ap (λ (o : Option Snapshot). saved o h.pages) drafted.1
 
 -- ---- a save, then a mount
 
--- what mount and look back 1 say of the disc that a save left, lent any 16,364 bytes: the map and size of the state that was saved, that block as last
--- table, clean; and one step back the table that was that state's last, if there was one
+-- what mount and look back 1 say of the disc that a save left, lent any 16,364 bytes: the same map and size, that block as last table, clean; and one
+-- step back the table that was the ledger's last, if there was one
 pub record Remounted (d : Disc) (l : List ℕ) (c : Call) (m : List ℕ) : Type 0 where
   pub clean : (after (after d l c).disc m mount).answer ≡ 1
-  pub same_map : map_of (unpack (after (after d l c).disc m mount).ledger) ≡ map_of (saved_state d l c)
-  pub same_size : (unpack (after (after d l c).disc m mount).ledger).size ≡ (saved_state d l c).size
+  pub same_map : map_of (unpack (after (after d l c).disc m mount).ledger) ≡ map_of (unpack l)
+  pub same_size : (unpack (after (after d l c).disc m mount).ledger).size ≡ (unpack l).size
   pub that-block : (unpack (after (after d l c).disc m mount).ledger).last ≡ (after d l c).answer
-  pub one-back : ((saved_state d l c).last ≡ unused → ⊥) → (after (after d l c).disc m (look_back 1)).answer ≡ (saved_state d l c).last
-  pub none-back : (saved_state d l c).last ≡ unused → (after (after d l c).disc m (look_back 1)).answer ≡ 9 * 4294967296
+  pub one-back : ((unpack l).last ≡ unused → ⊥) → (after (after d l c).disc m (look_back 1)).answer ≡ (unpack l).last
+  pub none-back : (unpack l).last ≡ unused → (after (after d l c).disc m (look_back 1)).answer ≡ 9 * 4294967296
 
-pub saved-disc : (d : Disc) (l : List ℕ) (ok : Sound d) (c : Call) (s : Saving d l c) → outcome d l c ≡ 0 → (after d l c).disc ≡ saved_disc d l ok c s
+pub saved-disc : (d : Disc) (l : List ℕ) (ok : Sound d) (good : Proper (unpack l)) (c : Call) (s : Saving d l c) → outcome d l c ≡ 0 → (after d l c).disc ≡ saved_disc d l ok good c s
 unfolding after
-saved-disc d l ok c s e = rw e (ap (puts d (recorded d)) (leaves-behind d l ok c s))
+saved-disc d l ok good c s e = rw e (ap (puts d (recorded d)) (leaves-behind d l ok good c s))
 
-saved-block : (d : Disc) (l : List ℕ) (ok : Sound d) (c : Call) (s : Saving d l c) → outcome d l c ≡ 0 → (after d l c).answer ≡ table_block d l ok c s
+saved-block : (d : Disc) (l : List ℕ) (ok : Sound d) (good : Proper (unpack l)) (c : Call) (s : Saving d l c) → outcome d l c ≡ 0 → (after d l c).answer ≡ table_block d l ok good c s
 unfolding after
-saved-block d l ok c s e = rw e (ap (λ x. x.second) s.leaves)
+saved-block d l ok good c s e = rw e (ap (λ x. x.second) s.leaves)
 
 mount-clean : (d : Disc) (m : List ℕ) → Sound d → length m ≡ ledger_length → (b : ℕ) → newest d ≡ some b → recorded d ≡ suc b → (after d m mount).answer ≡ 1
 unfolding after effect
@@ -294,31 +257,31 @@ module _ (d : Disc) (b t : ℕ) (n : newest d ≡ some b) (named : previous_at d
   unfolding walked walk
   steps-off none-there = ap (walk_from d 1) n ∙ rw (named, eq-eqb t unused none-there)
 
-pub save-then-mount : (d : Disc) (l : List ℕ) (c : Call) → saves c ≡ true → outcome d l c ≡ 0 → (m : List ℕ) → length m ≡ ledger_length → Remounted d l c m
+pub remounts : (d : Disc) (l : List ℕ) → Proper (unpack l) → (c : Call) → saves c ≡ true → outcome d l c ≡ 0 → (m : List ℕ) → length m ≡ ledger_length → Remounted d l c m
 unfolding filled
-save-then-mount d l c is-save e m long =
-    let v : Volume = saved_state d l c in
+remounts d l good c is-save e m long =
+    let v : Volume = unpack l in
     let s : Saving d l c = saving-done d l c is-save e in
-    let f : SaveDone d v s.first (saved_stamp c) = s.done in
+    let f : SaveDone d l s.first (saved_stamp c) = s.done in
     let ok : Sound d = f.sound-disc in
-    let b : ℕ = recorded d + length (before_table d l ok c s) in
-    let d' : Disc = saved_disc d l ok c s in
-    let same : (after d l c).disc ≡ d' = saved-disc d l ok c s e in
-    let ok' : Sound d' = save-sound d l ok c s in
-    let made : Saved F d d' (map_of v) v.last b = save d l ok c s in
-    let n : newest d' ≡ some b = newest-saved F (map_of v) v.last b made in
+    let b : ℕ = recorded d + length (before_table d l ok good c s) in
+    let d' : Disc = saved_disc d l ok good c s in
+    let same : (after d l c).disc ≡ d' = saved-disc d l ok good c s e in
+    let ok' : Sound d' = save-sound d l ok good c s in
+    let made : Saved F d d' (working F (map_of v) v.last) b = save d l ok good c s in
+    let n : newest d' ≡ some b = newest-saved F (working F (map_of v) v.last) b made in
     let state : Volume = shown_at d' b idle in
     let proper : Proper state = proper-table d' ok' b idle (lit< tt) made.a-table in
     let left : unpack (after d' m mount).ledger ≡ state = ap unpack (mount-leaves d' m ok' long b n) ∙ unpack-pack state proper in
     let map : map_of state ≡ map_of v = map-filled (map_at d' b) b (recorded d') idle ∙ made.its_map in
-    let counted : length (map_of v) ≡ v.size = length-map v (omega (arith, f.fit.few, s.long)) in
+    let counted : length (map_of v) ≡ v.size = length-map v (omega (arith, f.fit.few, good.long)) in
     let old-table : (v.last ≡ unused → ⊥) → table_at d v.last ≡ true = λ used. ap (λ (t : Bool). t || table_at d v.last) (sym (ne_eqb v.last unused used)) ∙ f.fit.last-known in
     let all : (e : Disc) → e ≡ d' → unpack (after e m mount).ledger ≡ state = λ e p. ap (λ (x : Disc). unpack (after x m mount).ledger) p ∙ left in
     record {
       clean = ap (λ (x : Disc). (after x m mount).answer) same ∙ mount-clean d' m ok' long b n made.last-sector;
       same_map = ap map_of (all (after d l c).disc same) ∙ map;
       same_size = ap (λ (x : Volume). x.size) (all (after d l c).disc same) ∙ ap length made.its_map ∙ counted;
-      that-block = ap (λ (x : Volume). x.last) (all (after d l c).disc same) ∙ sym (saved-block d l ok c s e ∙ at_table d l ok c s);
+      that-block = ap (λ (x : Volume). x.last) (all (after d l c).disc same) ∙ sym (saved-block d l ok good c s e ∙ at_table d l ok good c s);
       one-back = λ used.
           let inside : v.last < recorded d = table-recorded d ok v.last (old-table used) in
           ap (λ (x : Disc). (after x m (look_back 1)).answer) same
@@ -326,3 +289,6 @@ save-then-mount d l c is-save e m long =
       none-back = λ none-there.
           ap (λ (x : Disc). (after x m (look_back 1)).answer) same ∙ look-back-ends d' m ok' long 1 b n (steps-off d' b v.last n made.its-previous none-there);
     }
+
+pub save-then-mount : (d : Disc) (l : List ℕ) → AllBytes l → (c : Call) → saves c ≡ true → outcome d l c ≡ 0 → (m : List ℕ) → length m ≡ ledger_length → Remounted d l c m
+save-then-mount d l bytes = remounts d l (proper-unpack l bytes)

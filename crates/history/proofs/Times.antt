@@ -1,5 +1,5 @@
 -- The time of each save, proved: a call's time is told of its save, k saves back when k saves have followed it.
---     save-then-time              of the disc that a save leaves, right away
+--     retells, save-then-time     of the disc that a save leaves, right away
 --     save-times                  the claim of specs/Times.antt
 -- Assumes nothing.
 use Prim.Native.Nat.{ℕ, zero, suc, ◌+◌, ◌<◌}
@@ -12,6 +12,7 @@ use lib.Dec.{eqb}
 use lib.ListN.{length}
 use borrow.Author.Tests.{eq-eqb, eqb-true}
 use Rattle.le.proofs.Rows.{and_left, and_right}
+use Rattle.le.proofs.Runs.{AllBytes}
 use Rattle.timestamp.specs.Timestamp as stamps
 use Rattle.timestamp.specs.Timestamp.{told_length, valid}
 use Rattle.disc.specs.Disc.{Disc, Sector, recorded, puts}
@@ -19,16 +20,16 @@ use Rattle.disc.specs.declared.Walk.{Walk}
 use Rattle.disc.specs.declared.Walk.TheVariants.{Reached}
 use Rattle.disc.specs.Tables.{time_at, newest}
 use Rattle.disc.proofs.Recording.{Sound}
-use Rattle.volume.specs.Volume.{ledger_length, map_of}
+use Rattle.volume.specs.Volume.{ledger_length, unpack, map_of}
+use Rattle.volume.proofs.State.{Proper, proper-unpack}
 use Rattle.recorder.specs.Calls.{Call, begin, mount, time_of, saves}
 use Rattle.recorder.specs.Refusals.{Test, test, first, answer_lent, walked, walk_tests, time_reached, time_back, tests, outcome}
 use Rattle.recorder.specs.Effects.{effect, After, after, sectors_of}
 use Rattle.recorder.proofs.Done.{skip, stop, none_left, skip-basic, skip-walk}
 use Rattle.history.specs.History.{History, Fed, feed}
-use Rattle.history.specs.Events.{World, Event, calls, cuts, ledger_held, Follows, Allowed, AllAllowed, cut_disc, next, told, source_of, kept, cut_if, fed, runs, remembers, after_call, begun_history, mounted_history}
+use Rattle.history.specs.Events.{World, Event, calls, cuts, ledger_held, Follows, Allowed, AllAllowed, cut_disc, next, told, kept, cut_if, fed, runs, remembers, after_call, begun_history, mounted_history}
 use Rattle.history.specs.Times.{telling, TellsTime, call_of, saved_stamp, Saves, ToldLater, EachTold, SaveTimes}
-use Rattle.history.specs.Back.{saved_state}
-use Rattle.history.proofs.Log.{newest-saved}
+use Rattle.history.proofs.Log.{newest-saved, working}
 use Rattle.history.proofs.Growth.{F, cut_all}
 use Rattle.history.proofs.Steps.{Good, refused-fed, done-fed, done-records, no-save-follows}
 use Rattle.history.proofs.Saving.{unsaved, Saving, saving-done, before_table, leaves-behind, saved_disc, save, save-sound, save-time}
@@ -69,23 +70,26 @@ behind-tells d ok k b r l answer long whole = tells-time d l answer ok long whol
 abbrev Made : Disc → List ℕ → Type 0
 Made d stamp = (b : ℕ) × Behind F d 0 b × (b < recorded d) × (time_at d b ≡ stamp)
 
-saved-made : (d : Disc) (l : List ℕ) (ok : Sound d) (c : Call) (s : Saving d l c) → Made (saved_disc d l ok c s) (saved_stamp c)
-saved-made d l ok c s =
-    let t = save d l ok c s in
-    let b : ℕ = recorded d + length (before_table d l ok c s) in
-    let inside : b < recorded (saved_disc d l ok c s) = omega (arith, t.last-sector) in
-    let behind : Behind F (saved_disc d l ok c s) 0 b =
-    record { newest = b; is-newest = newest-saved F (map_of (saved_state d l c)) (saved_state d l c).last b t; way = (refl, inside) } in
-    (b, behind, inside, save-time d l ok c s)
+saved-made : (d : Disc) (l : List ℕ) (ok : Sound d) (good : Proper (unpack l)) (c : Call) (s : Saving d l c) → Made (saved_disc d l ok good c s) (saved_stamp c)
+saved-made d l ok good c s =
+    let t = save d l ok good c s in
+    let b : ℕ = recorded d + length (before_table d l ok good c s) in
+    let inside : b < recorded (saved_disc d l ok good c s) = omega (arith, t.last-sector) in
+    let behind : Behind F (saved_disc d l ok good c s) 0 b =
+    record { newest = b; is-newest = newest-saved F (working F (map_of (unpack l)) (unpack l).last) b t; way = (refl, inside) } in
+    (b, behind, inside, save-time d l ok good c s)
 
--- of the disc that a save leaves
-pub save-then-time : (d : Disc) (l : List ℕ) (c : Call) → saves c ≡ true → outcome d l c ≡ 0 → TellsTime (after d l c).disc 0 (saved_stamp c)
-save-then-time d l c is-save e =
+-- of the disc that a save leaves, on a ledger whose state is proper; and on any that holds bytes
+pub retells : (d : Disc) (l : List ℕ) → Proper (unpack l) → (c : Call) → saves c ≡ true → outcome d l c ≡ 0 → TellsTime (after d l c).disc 0 (saved_stamp c)
+retells d l good c is-save e =
     let s : Saving d l c = saving-done d l c is-save e in
     let ok : Sound d = s.done.sound-disc in
-    let made = saved-made d l ok c s in
-    subst₂ (λ (x : Disc) (stamp : List ℕ). TellsTime x 0 stamp) (sym (saved-disc d l ok c s e)) made.3
-    (behind-tells (saved_disc d l ok c s) (save-sound d l ok c s) 0 made.0 made.1)
+    let made = saved-made d l ok good c s in
+    subst₂ (λ (x : Disc) (stamp : List ℕ). TellsTime x 0 stamp) (sym (saved-disc d l ok good c s e)) made.3
+    (behind-tells (saved_disc d l ok good c s) (save-sound d l ok good c s) 0 made.0 made.1)
+
+pub save-then-time : (d : Disc) (l : List ℕ) → AllBytes l → (c : Call) → saves c ≡ true → outcome d l c ≡ 0 → TellsTime (after d l c).disc 0 (saved_stamp c)
+save-then-time d l bytes = retells d l (proper-unpack l bytes)
 
 -- ---- an event that makes a save
 
@@ -98,7 +102,7 @@ held-made : (d : Disc) (o : Option (List ℕ)) (c : Call) (junk : List ℕ) → 
 held-made d none c junk g f is e = absurd (no-save-follows d junk c is (f refl) e)
 held-made d (some l) c junk g f is e =
     let s : Saving d l c = saving-done d l c is e in
-    subst (λ (ss : List Sector). Made (puts d (recorded d) ss) (saved_stamp c)) (sym (leaves-behind d l g.sound-disc c s)) (saved-made d l g.sound-disc c s)
+    subst (λ (ss : List Sector). Made (puts d (recorded d) ss) (saved_stamp c)) (sym (leaves-behind d l g.sound-disc g.ledger-good c s)) (saved-made d l g.sound-disc g.ledger-good c s)
 
 module _ (d : Disc) (o : Option (List ℕ)) (h : History) (c : Call) (junk : List ℕ) (g : Good (record { disc = d; ledger = o })) (f : Follows (record { disc = d; ledger = o }) c junk) where
   abbrev w : World
@@ -118,9 +122,9 @@ module _ (d : Disc) (o : Option (List ℕ)) (h : History) (c : Call) (junk : Lis
   cut-made : (j : ℕ) (tear : Option (List ℕ)) → Saves w h (cuts c junk j tear) → (t : Bool) → saves c ≡ t → (k : Bool) → kept d held c j ≡ k → Made (next w (cuts c junk j tear)).disc (saved_stamp c)
   unfolding next fed feed
   cut-made j tear more false is k z =
-      not_more (length h.pages) (ap (λ (t : Bool). length (feed h (cut_if t (source_of c) (told c) (kept d held c j))).pages) (sym is) ∙ more)
+      not_more (length h.pages) (ap (λ (t : Bool). length (feed h (cut_if t (told c) (kept d held c j))).pages) (sym is) ∙ more)
   cut-made j tear more true is false z =
-      not_more (length h.pages) (ap₂ (λ (t x : Bool). length (feed h (cut_if t (source_of c) (told c) x)).pages) (sym is) (sym z) ∙ more)
+      not_more (length h.pages) (ap₂ (λ (t x : Bool). length (feed h (cut_if t (told c) x)).pages) (sym is) (sym z) ∙ more)
   cut-made j tear more true is true z =
       let out : Bool = eqb (outcome d held c) 0 in
       let all : Bool = eqb j (length (sectors_of d held c)) in

@@ -7,7 +7,7 @@ use Rattle.volume.specs.Volume.{ledger_length, unpack}
 use Rattle.recorder.specs.Calls.{Call, begin, mount, read, look_back}
 use Rattle.recorder.specs.Refusals.{outcome}
 use Rattle.recorder.specs.Effects.{After, after}
-use Rattle.history.specs.History.{Entry, unused_entry, shows, Snapshot, History, page_back}
+use Rattle.history.specs.History.{Entry, unused_entry, shows, Snapshot, History}
 use Rattle.history.specs.Events.{Event, AllAllowed, runs, remembers, after_call, begun_history, mounted_history}
 
 -- The block number of an entry.
@@ -37,12 +37,10 @@ abbrev pub Mounts : Disc → List ℕ → List Snapshot → Type 0
 Mounts d l [] = outcome d l mount ≡ 7
 Mounts d l (p ∷ ps) = DoneShowing d l mount p
 
--- "Look back k, for every k below the number of pages, is done with the page k before the newest, and reads likewise." A look back further than that, where it
--- is done, shows the older save that going back to it makes its page of.
+-- "Look back k, for every k below the number of pages, is done with the page k before the newest, and reads likewise."
 pub record Claim (d : Disc) (h : History) : Type 0 where
   pub mounts : (l : List ℕ) → length l ≡ ledger_length → Mounts d l h.pages
   pub looks : (l : List ℕ) → length l ≡ ledger_length → (k : ℕ) → k < length h.pages → DoneShowing d l (look_back k) (get_or h.pages k [])
-  pub shows-back : (l : List ℕ) → length l ≡ ledger_length → (k : ℕ) → outcome d l (look_back k) ≡ 0 → DoneShowing d l (look_back k) (page_back h.pages h.older k)
 
 -- Demand 3: whatever disc and state a begin or a mount was done on, and whatever list of events follows.
 pub record PowerCuts : Type 0 where

@@ -4,10 +4,10 @@ use Rattle.std.proofs.Math.Option.{Option, none, some}
 use Rattle.vat.specs.Table.{sector_length, unused}
 use Rattle.disc.specs.Disc.{Disc, Sector, torn, recorded, content, put, puts}
 use Rattle.disc.specs.Tables.{map_at, newest, block_found}
-use Rattle.recorder.specs.Calls.{Call, begin, mount, write, release, close_packet, commit, close_session, read, look_back, time_of, go_back, restores, saves, only_tells}
-use Rattle.recorder.specs.Refusals.{walked, block_reached, outcome}
+use Rattle.recorder.specs.Calls.{Call, begin, mount, write, release, close_packet, commit, close_session, read, look_back, time_of, restores, saves, only_tells}
+use Rattle.recorder.specs.Refusals.{outcome}
 use Rattle.recorder.specs.Effects.{after, second_number, sectors_of}
-use Rattle.history.specs.History.{Entry, unused_entry, shows, Snapshot, History, Source, of_draft, of_save, Told, Fed, answered, cut, cut_commit, feed}
+use Rattle.history.specs.History.{Entry, unused_entry, shows, Snapshot, History, Told, Fed, answered, cut, cut_commit, feed}
 
 -- The disc and the ledger "as the one before left them"; none: "The ledger is lost: it may hold anything".
 pub record World : Type 0 where
@@ -66,44 +66,29 @@ next w (calls c junk) =
 next w (cuts c junk j tear) =
     record { disc = cut_disc w.disc (sectors_of w.disc (ledger_held w.ledger junk) c) j tear; ledger = none }
 
--- What the history is told of a call: "a closing counts as a commit", and going back as one of an earlier save.
+-- What the history is told of a call: "a closing counts as a commit".
 abbrev pub told : Call → Told
 told begin = Told.begin
 told mount = Told.mount
 told (write n block) = Told.write n block
 told (release n) = Told.release n
 told close_packet = Told.close_packet
-told (commit stamp) = Told.commit of_draft
-told (close_session main reserve start) = Told.commit of_draft
+told (commit stamp) = Told.commit
+told (close_session main reserve start) = Told.commit
 told (read n block) = Told.read n
 told (look_back k) = Told.look_back k
 told (time_of k answer) = Told.time_of k
-told (go_back k) = Told.commit (of_save k)
 
 -- The table sector of a save is kept if it would have been done and all of its sectors are there.
 abbrev pub kept : Disc → List ℕ → Call → ℕ → Bool
 kept d l c j = eqb (outcome d l c) 0 && eqb j (length (sectors_of d l c))
 
--- What a save makes its page of. The other calls make no save.
-abbrev pub source_of : Call → Source
-source_of begin = of_draft
-source_of mount = of_draft
-source_of (write n block) = of_draft
-source_of (release n) = of_draft
-source_of close_packet = of_draft
-source_of (commit stamp) = of_draft
-source_of (close_session main reserve start) = of_draft
-source_of (read n block) = of_draft
-source_of (look_back k) = of_draft
-source_of (time_of k answer) = of_draft
-source_of (go_back k) = of_save k
-
-abbrev pub cut_if : Bool → Source → Told → Bool → Fed
-cut_if true source c kept = cut_commit source kept
-cut_if false source c kept = cut c
+abbrev pub cut_if : Bool → Told → Bool → Fed
+cut_if true c kept = cut_commit kept
+cut_if false c kept = cut c
 
 abbrev pub cut_short : Disc → List ℕ → Call → ℕ → Fed
-cut_short d l c j = cut_if (saves c) (source_of c) (told c) (kept d l c j)
+cut_short d l c j = cut_if (saves c) (told c) (kept d l c j)
 
 unfoldable pub fed : World → Event → Fed
 fed w (calls c junk) =
@@ -140,13 +125,9 @@ abbrev pub after_call : Disc → List ℕ → Call → World
 after_call d l c = record { disc = (after d l c).disc; ledger = some (after d l c).ledger }
 
 abbrev pub begun_history : History
-begun_history = record { pages = []; draft = some []; older = λ k. [] }
-
--- The older saves of a mounted disc: "as a look back at the start shows it", one step further than the table that the mount found.
-abbrev pub older_than : Disc → ℕ → Snapshot
-older_than d k = page_of d (map_at d (block_reached (walked d (suc k))))
+begun_history = record { pages = []; draft = some [] }
 
 abbrev pub mounted_history : Disc → History
 mounted_history d =
     let p : Snapshot = page_of d (map_at d (block_found (newest d))) in
-    record { pages = p ∷ []; draft = some p; older = older_than d }
+    record { pages = p ∷ []; draft = some p }

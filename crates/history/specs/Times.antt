@@ -4,7 +4,7 @@ use Rattle.timestamp.specs.Timestamp.{told_length, valid, told}
 use Rattle.disc.specs.Disc.{Disc}
 use Rattle.volume.specs.Volume.{ledger_length}
 use Rattle.vat.specs.Sector.{no_stamp}
-use Rattle.recorder.specs.Calls.{Call, begin, mount, write, release, close_packet, commit, close_session, read, look_back, time_of, go_back, stamp_of}
+use Rattle.recorder.specs.Calls.{Call, begin, mount, write, release, close_packet, commit, close_session, read, look_back, time_of, stamp_of}
 use Rattle.recorder.specs.Refusals.{outcome}
 use Rattle.recorder.specs.Effects.{After, after}
 use Rattle.history.specs.History.{History, feed}
@@ -25,7 +25,7 @@ abbrev pub call_of : Event → Call
 call_of (calls c junk) = c
 call_of (cuts c junk j tear) = c
 
--- The timestamp that a save's table has: a commit's; a closing and going back have none. The other calls make no save.
+-- The timestamp that a save's table has: a commit's; a closing has none. The other calls make no save.
 abbrev pub saved_stamp : Call → List ℕ
 saved_stamp begin = no_stamp
 saved_stamp mount = no_stamp
@@ -37,7 +37,6 @@ saved_stamp (close_session main reserve start) = no_stamp
 saved_stamp (read n block) = no_stamp
 saved_stamp (look_back k) = no_stamp
 saved_stamp (time_of k answer) = no_stamp
-saved_stamp (go_back k) = no_stamp
 
 -- The event makes a save: the history has one page more.
 abbrev pub Saves : World → History → Event → Type 0

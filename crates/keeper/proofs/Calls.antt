@@ -24,17 +24,17 @@ use Rattle.disc.proofs.Recording.{Sound, leading_le}
 use Rattle.disc.proofs.Told.{few-at}
 use Rattle.disc.proofs.Found.{newest-table, newest-below, none-recorded, none-newer}
 use Rattle.disc.proofs.Save.{save-count}
-use Rattle.volume.specs.Volume.{ledger_length, idle, read_only, unpack, pack, map_of, begun, filled, wrote, released, committed}
+use Rattle.volume.specs.Volume.{ledger_length, idle, read_only, unpack, pack, map_of, begun, filled, wrote, released}
 use Rattle.volume.specs.declared.Volume.{Volume}
 use Rattle.volume.proofs.State.{proper-begun, long-unpack, long_filled, size-kept, recorded-kept, last-kept}
-use Rattle.recorder.specs.Calls.{Call, begin, mount, write, release, commit, close_session, look_back, go_back, stamp_of}
-use Rattle.recorder.specs.Refusals.{first, links, target, block_of, block_reached, gone, outcome}
-use Rattle.recorder.specs.Effects.{commits, closing_first, effect, After, left, after, shown_at}
+use Rattle.recorder.specs.Calls.{Call, begin, mount, write, release, commit, close_session, look_back, stamp_of}
+use Rattle.recorder.specs.Refusals.{first, links, target, block_of, outcome}
+use Rattle.recorder.specs.Effects.{closing_first, effect, block_reached, After, left, after, shown_at}
 use Rattle.recorder.proofs.Done.{Fits, ledger-accepted, begin-done, mount-done, size_fits, WriteDone, write_done, release-done, save_of, SaveDone, commit-done, closing-done, look-back-done}
-use Rattle.recorder.proofs.Gone.{walked-table, gone-links, GoneDone, go-back-done, gone_long}
+use Rattle.recorder.proofs.Answers.{walked-table}
 use Rattle.recorder.proofs.Sectors.{length-closing, own-few}
-use Rattle.roles.specs.Roles.{in_use, unnumbered, table_role, blank_role, names}
-use Rattle.roles.specs.Keeping.{scanned, supersede_if, let_go, marked, marked_save, renamed, kept_up, roles_tests}
+use Rattle.roles.specs.Roles.{in_use, unnumbered, blank_role, names}
+use Rattle.roles.specs.Keeping.{scanned, supersede_if, let_go, marked, marked_save, kept_up, roles_tests}
 use Rattle.keeper.proofs.Kept.{lengths-told}
 
 -- ---- the numbers of the ledger
@@ -75,14 +75,6 @@ module _ (d : Disc) (l : List ℕ) where
   pub release-few : (n : ℕ) → outcome d l (release n) ≡ 0 → (unpack (effect d l (release n)).ledger).size ≤ limit
   unfolding effect released
   release-few n z = size-kept (released n (unpack l)) (length-set (unpack l).entries n unused ∙ long-unpack l) (release-done d l n z).1.fit.few
-
-  -- the map that is saved
-  pub go-back-few : (k : ℕ) → outcome d l (go_back k) ≡ 0 → (unpack (effect d l (go_back k)).ledger).size ≤ limit
-  unfolding effect committed
-  go-back-few k z =
-      let f : GoneDone d l k = go-back-done d l k z in
-      let v : Volume = gone d k (unpack l) in
-      size-kept (committed (commits d v no_stamp []).second v) (gone_long d l k f) f.saving.fit.few
 
 -- ---- what is asked behind the log
 
@@ -162,13 +154,13 @@ module _ (d : Disc) (l : List ℕ) where
         few = ok.few;
       }
 
-  -- a save of the ledger's state, or of another that begins at the same block
-  save-placed : (v : Volume) → Fits d (unpack l) → links v ≡ links (unpack l) → (first : List Sector) (stamp : List ℕ) (a : ℕ) → SaveDone d v first stamp
-      → a ≡ last_block (target v + length first) (save_of d v first stamp) → Placed d l (length first) (length (save_of d v first stamp)) a
-  save-placed v fit same first stamp a f at =
-      let count : length (save_of d v first stamp) ≡ length (fresh_of d (table_bytes (map_of v) v.last) v.last) + 1 =
+  save-placed : (first : List Sector) (stamp : List ℕ) (a : ℕ) → SaveDone d l first stamp → a ≡ last_block (target (unpack l) + length first) (save_of d l first stamp)
+      → Placed d l (length first) (length (save_of d l first stamp)) a
+  save-placed first stamp a f at =
+      let v : Volume = unpack l in
+      let count : length (save_of d l first stamp) ≡ length (fresh_of d (table_bytes (map_of v) v.last) v.last) + 1 =
       save-count d (table_bytes (map_of v) v.last) v.last stamp (target v + length first) in
-      placed (length first) (length (save_of d v first stamp)) a f.sound-disc fit (omega (arith, f.room, same)) (omega (arith, at, count, same, f.fit.same-recorded, fit.same-recorded))
+      placed (length first) (length (save_of d l first stamp)) a f.sound-disc f.fit f.room (omega (arith, at, count))
 
   module _ {a : ℕ} {i k m b : List ℕ} where
     pub write-placed : (n : Option ℕ) (block : List ℕ) → outcome d l (write n block) ≡ 0 → left a i k m b ≡ after d l (write n block) → Placed d l 0 1 a
@@ -178,25 +170,15 @@ module _ (d : Disc) (l : List ℕ) where
         let at : a ≡ target (unpack l) = answered d l (write n block) z e in
         placed 0 1 a f.sound-disc f.fit (omega (arith, f.room)) (omega (arith, at))
 
-    pub commit-placed : (stamp : Option (List ℕ)) → outcome d l (commit stamp) ≡ 0 → left a i k m b ≡ after d l (commit stamp) → Placed d l 0 (length (save_of d (unpack l) [] (stamp_of stamp))) a
+    pub commit-placed : (stamp : Option (List ℕ)) → outcome d l (commit stamp) ≡ 0 → left a i k m b ≡ after d l (commit stamp) → Placed d l 0 (length (save_of d l [] (stamp_of stamp))) a
     unfolding effect
-    commit-placed stamp z e =
-        let f : SaveDone d (unpack l) [] (stamp_of stamp) = (commit-done d l stamp z).saving in
-        save-placed (unpack l) f.fit refl [] (stamp_of stamp) a f (answered d l (commit stamp) z e)
-
-    pub go-back-placed : (j : ℕ) → outcome d l (go_back j) ≡ 0 → left a i k m b ≡ after d l (go_back j) → Placed d l 0 (length (save_of d (gone d j (unpack l)) [] no_stamp)) a
-    unfolding effect
-    go-back-placed j z e =
-        let f : GoneDone d l j = go-back-done d l j z in
-        save-placed (gone d j (unpack l)) f.fit (gone-links d j (unpack l)) [] no_stamp a f.saving (answered d l (go_back j) z e)
+    commit-placed stamp z e = save-placed [] (stamp_of stamp) a (commit-done d l stamp z).saving (answered d l (commit stamp) z e)
 
     pub closing-placed : (main reserve : Extent) (start : ℕ) → outcome d l (close_session main reserve start) ≡ 0 → left a i k m b ≡ after d l (close_session main reserve start)
-        → let first : List Sector = closing_first d (unpack l) main reserve start in Placed d l (length first) (length (save_of d (unpack l) first no_stamp)) a
+        → let first : List Sector = closing_first d (unpack l) main reserve start in Placed d l (length first) (length (save_of d l first no_stamp)) a
     unfolding effect
     closing-placed main reserve start z e =
-        let first : List Sector = closing_first d (unpack l) main reserve start in
-        let f : SaveDone d (unpack l) first no_stamp = (closing-done d l main reserve start z).saving in
-        save-placed (unpack l) f.fit refl first no_stamp a f (answered d l (close_session main reserve start) z e)
+        save-placed (closing_first d (unpack l) main reserve start) no_stamp a (closing-done d l main reserve start z).saving (answered d l (close_session main reserve start) z e)
 
   -- of a closing, by the own sectors that it records
   pub closing-own : (main reserve : Extent) (start : ℕ) → outcome d l (close_session main reserve start) ≡ 0
@@ -207,7 +189,7 @@ module _ (d : Disc) (l : List ℕ) where
 
   pub closing-counts : (main reserve : Extent) (start own : ℕ) → outcome d l (close_session main reserve start) ≡ 0
       → own ≡ length (fresh_of d (table_bytes (map_of (unpack l)) (unpack l).last) (unpack l).last)
-      → let first : List Sector = closing_first d (unpack l) main reserve start in (closing_length - own ≡ length first) × (own + 1 ≡ length (save_of d (unpack l) first no_stamp))
+      → let first : List Sector = closing_first d (unpack l) main reserve start in (closing_length - own ≡ length first) × (own + 1 ≡ length (save_of d l first no_stamp))
   closing-counts main reserve start own z is =
       let v : Volume = unpack l in
       let t : List ℕ = table_bytes (map_of v) v.last in
@@ -279,14 +261,3 @@ module _ (d : Disc) (roles l : List ℕ) {rs : List ℕ} where
   pub closing-kept : (main reserve : Extent) (start : ℕ) → rs ≡ marked_save d (unpack l) (closing_first d (unpack l) main reserve start) no_stamp roles → rs ≡ kept_up d roles l (close_session main reserve start)
   unfolding kept_up
   closing-kept main reserve start q = q
-
--- going back: the sectors of its save, and then the map of the ledger that is left decides which blocks are in use
-pub go-back-kept : (d : Disc) (roles l : List ℕ) (j : ℕ) {a : ℕ} {i k m b rs ss : List ℕ} → left a i k m b ≡ after d l (go_back j)
-    → ss ≡ marked (recorded d) (links (unpack l)) 0 (length (save_of d (gone d j (unpack l)) [] no_stamp)) table_role roles → rs ≡ renamed (map_of (unpack m)) ss
-    → rs ≡ kept_up d roles l (go_back j)
-unfolding kept_up
-go-back-kept d roles l j {m = m} e r q =
-    let v : Volume = gone d j (unpack l) in
-    q
-    ∙ ap (renamed (map_of (unpack m))) (r ∙ ap (λ (n : ℕ). marked (recorded d) n 0 (length (save_of d v [] no_stamp)) table_role roles) (sym (gone-links d j (unpack l))))
-    ∙ ap (λ (x : After). renamed (map_of (unpack x.ledger)) (marked_save d v [] no_stamp roles)) e

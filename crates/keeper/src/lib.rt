@@ -9,7 +9,7 @@ ghost use Rattle.disc.specs.Disc.{lent, sized};
 ghost use Rattle.disc.specs.Tables.{table_at};
 ghost use Rattle.disc.specs.Again.{fresh_of};
 ghost use Rattle.volume.specs.Volume.{places, ledger_length, unpack, map_of};
-ghost use Rattle.recorder.specs.Calls.{begin, mount, write, release, close_packet, commit, close_session, look_back, go_back};
+ghost use Rattle.recorder.specs.Calls.{begin, mount, write, release, close_packet, commit, close_session, look_back};
 ghost use Rattle.recorder.specs.Refusals.{first, links, block_of};
 ghost use Rattle.roles.specs.Keeping.{roles_tests, left_roles, after_roles};
 
@@ -232,31 +232,6 @@ pub fn commit_at(
     }
     let before = at + links;
     roles::mark(roles, at, links, 0, (answer as u32) + 1 - before, TABLE);
-    answer
-}
-
-pub fn go_back(
-    image: &mut [u8],
-    kinds: &mut [u8],
-    roles: &mut [u8],
-    ledger: &mut [u8],
-    k: u32,
-) -> u64
-    ensures { left_roles result image.new kinds.new roles.new ledger.new [] ≡ after_roles (lent image.old kinds.old) roles.old ledger.old (go_back k) }
-{
-    let outcome = lengths(image, kinds, roles);
-    if outcome != 0 {
-        return sector_log::refusal(outcome);
-    }
-    let at = recorded_ahead(ledger);
-    let links = links_ahead(ledger);
-    let answer = sector_log::go_back(image, kinds, ledger, k);
-    if REFUSED <= answer {
-        return answer;
-    }
-    let before = at + links;
-    roles::mark(roles, at, links, 0, (answer as u32) + 1 - before, TABLE);
-    roles::rename(roles, ledger);
     answer
 }
 

@@ -30,14 +30,14 @@ use Rattle.disc.proofs.Found.{sector-end, table-within}
 use Rattle.disc.proofs.Save.{save-count}
 use Rattle.volume.specs.declared.Volume.{Volume}
 use Rattle.volume.specs.Volume.{ledger_length, idle, packet_open, read_only, map_of, unpack, is_unused, fits, grown, size_with}
-use Rattle.recorder.specs.Calls.{Call, begin, mount, write, release, close_packet, commit, close_session, read, look_back, time_of, go_back, stamp_of}
-use Rattle.recorder.specs.Refusals.{Test, test, or_else, first, link_count, links_if, links, target, reserve, basic, ledger_lent, block_lent, stamp_long, stamp_lent, answer_lent, unfit, gate, forbidden_at, number_tests, write_tests, stamp_wrong, no_commit_room, commit_tests, closing_tests, go_back_tests, block_of, not_in_use, numbered_tests, is_some, walked, is_broken, is_ended, walk_tests, time_back, time_wrong, tests, outcome}
+use Rattle.recorder.specs.Calls.{Call, begin, mount, write, release, close_packet, commit, close_session, read, look_back, time_of, stamp_of}
+use Rattle.recorder.specs.Refusals.{Test, test, or_else, first, link_count, links_if, links, target, reserve, basic, ledger_lent, block_lent, stamp_long, stamp_lent, answer_lent, unfit, gate, forbidden_at, number_tests, write_tests, stamp_wrong, commit_tests, closing_tests, block_of, not_in_use, numbered_tests, is_some, walked, is_broken, is_ended, walk_tests, time_back, time_wrong, tests, outcome}
 use Rattle.recorder.specs.Effects.{closing_first}
 use Rattle.recorder.proofs.Sectors.{closing-whole, length-closing, own-few}
 
 -- ---- lists of tests
 
-pub passed : (n : ℕ) (a : Bool) (ts : List Test) → first (test (suc n) a ∷ ts) ≡ 0 → a ≡ false
+passed : (n : ℕ) (a : Bool) (ts : List Test) → first (test (suc n) a ∷ ts) ≡ 0 → a ≡ false
 unfolding first
 passed n true ts e = absurd (omega arith)
 passed n false ts e = refl
@@ -258,7 +258,6 @@ ledger-accepted d l (read n block) e =
     (numbered_tests d l n) e
 ledger-accepted d l (look_back k) e = alone-long d l (walk_tests d k) e
 ledger-accepted d l (time_of k answer) e = lent-long d l (eqb (length answer) told_length) (walk_tests d k ++ (time_wrong d k ∷ [])) e
-ledger-accepted d l (go_back k) e = alone-long d l (gate d l ++ go_back_tests d k (unpack l)) e
 
 pub record ReadDone (d : Disc) (l : List ℕ) (n : ℕ) (block : List ℕ) : Type 0 where
   pub sound-disc : Sound d
@@ -296,7 +295,7 @@ none_found (some b) e = absurd (true-false e)
     true-false : true ≡ false → ⊥
     true-false e = mathlib.Core.Bool.true≢false e
 
-pub some-found : (o : Option ℕ) → not (is_some o) ≡ false → (b : ℕ) × (o ≡ some b)
+some-found : (o : Option ℕ) → not (is_some o) ≡ false → (b : ℕ) × (o ≡ some b)
 some-found none e = absurd (mathlib.Core.Bool.true≢false e)
 some-found (some b) e = (b, refl)
 
@@ -426,24 +425,20 @@ close-done d l e =
     let b : Basic d (ledger_lent l) (gate d l) = basic-passed d (ledger_lent l) (gate d l) e in
     (b.sound-disc, working-passed d l [] b.rest-passed)
 
--- the sectors of a save of a state, behind its links and what it puts first
-abbrev pub save_of : Disc → Volume → List Sector → List ℕ → List Sector
-save_of d v first stamp = save_sectors d (table_bytes (map_of v) v.last) v.last stamp (target v + length first)
+-- the sectors of a save of the working state, behind its links and what it puts first
+abbrev pub save_of : Disc → List ℕ → List Sector → List ℕ → List Sector
+save_of d l first stamp =
+    let v : Volume = unpack l in
+    save_sectors d (table_bytes (map_of v) v.last) v.last stamp (target v + length first)
 
--- a save of a state, with what it puts first, and the timestamp of the table
-pub record SaveDone (d : Disc) (v : Volume) (first : List Sector) (stamp : List ℕ) : Type 0 where
+-- a save, with what it puts first, and the timestamp of the table
+pub record SaveDone (d : Disc) (l : List ℕ) (first : List Sector) (stamp : List ℕ) : Type 0 where
   pub sound-disc : Sound d
   pub timely : length stamp ≡ stamp_length
-  pub fit : Fits d v
-  pub not-looking : eqb v.mode read_only ≡ false
+  pub fit : Fits d (unpack l)
+  pub not-looking : eqb (unpack l).mode read_only ≡ false
   pub whole : AllWhole first
-  pub room : links v + (length first + length (save_of d v first stamp)) ≤ blanks d
-
--- 14 of a commit of the state does not apply
-pub commit-room : (d : Disc) (v : Volume) (stamp : List ℕ) → (no_commit_room d v stamp).applies ≡ false → links v + (0 + length (save_of d v [] stamp)) ≤ blanks d
-commit-room d v stamp e =
-    let save : List Sector = save_sectors d (table_bytes (map_of v) v.last) v.last stamp (target v) in
-    rw (add-zero (target v), zero-add (length save)) (ltb-false (blanks d) (links v + length save) e)
+  pub room : links (unpack l) + (length first + length (save_of d l first stamp)) ≤ blanks d
 
 stamp-long : (stamp : Option (List ℕ)) → stamp_long stamp ≡ true → length (stamp_of stamp) ≡ stamp_length
 stamp-long none e = refl
@@ -451,19 +446,21 @@ stamp-long (some stamp) e = eqb-true (length stamp) stamp_length e
 
 pub record CommitDone (d : Disc) (l : List ℕ) (stamp : Option (List ℕ)) : Type 0 where
   pub right-stamp : stamp_wrong stamp ≡ false
-  pub saving : SaveDone d (unpack l) [] (stamp_of stamp)
+  pub saving : SaveDone d l [] (stamp_of stamp)
 
 pub commit-done : (d : Disc) (l : List ℕ) (stamp : Option (List ℕ)) → outcome d l (commit stamp) ≡ 0 → CommitDone d l stamp
 unfolding outcome tests
 commit-done d l stamp e =
     let v : Volume = unpack l in
+    let save : List Sector = save_sectors d (table_bytes (map_of v) v.last) v.last (stamp_of stamp) (target v) in
+    let needed : ℕ = links v + length save in
     let sixteen : Bool = stamp_wrong stamp in
-    let fourteen : Test = no_commit_room d v (stamp_of stamp) in
-    let rest : List Test = commit_tests d v stamp in
+    let fourteen : Bool = ltb (blanks d) needed in
+    let rest : List Test = commit_tests d (unpack l) stamp in
     let b : Basic d (stamp_lent l stamp) (gate d l ++ rest) = basic-passed d (stamp_lent l stamp) (gate d l ++ rest) e in
     let w : Working d l rest = working-passed d l rest b.rest-passed in
     record {
-      right-stamp = passed 15 sixteen (fourteen ∷ []) w.rest-passed;
+      right-stamp = passed 15 sixteen (test 14 fourteen ∷ []) w.rest-passed;
       saving =
           record {
             sound-disc = b.sound-disc;
@@ -471,13 +468,15 @@ commit-done d l stamp e =
             fit = w.fit;
             not-looking = w.not-looking;
             whole = tt;
-            room = commit-room d v (stamp_of stamp) (passed 13 fourteen.applies [] (later 15 sixteen (fourteen ∷ []) w.rest-passed));
+            room =
+                rw (add-zero (target v), zero-add (length save))
+                (ltb-false (blanks d) needed (passed 13 fourteen [] (later 15 sixteen (test 14 fourteen ∷ []) w.rest-passed)));
           };
     }
 
 pub record ClosingDone (d : Disc) (l : List ℕ) (main reserve : Extent) (start : ℕ) : Type 0 where
   pub near : start ≤ farthest_start
-  pub saving : SaveDone d (unpack l) (closing_first d (unpack l) main reserve start) no_stamp
+  pub saving : SaveDone d l (closing_first d (unpack l) main reserve start) no_stamp
 
 pub closing-done : (d : Disc) (l : List ℕ) (main reserve : Extent) (start : ℕ) → outcome d l (close_session main reserve start) ≡ 0 → ClosingDone d l main reserve start
 unfolding outcome tests
@@ -518,7 +517,7 @@ pub record Walked (d : Disc) (k : ℕ) (rest : List Test) : Type 0 where
   pub reached : walked d k ≡ Reached block
   pub rest-passed : first rest ≡ 0
 
-pub walk-passed : (d : Disc) (k : ℕ) (rest : List Test) → first (walk_tests d k ++ rest) ≡ 0 → Walked d k rest
+walk-passed : (d : Disc) (k : ℕ) (rest : List Test) → first (walk_tests d k ++ rest) ≡ 0 → Walked d k rest
 walk-passed d k rest e =
     let seven : Bool = not (is_some (newest d)) in
     let eight : Bool = is_broken (walked d k) in

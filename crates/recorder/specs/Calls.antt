@@ -15,7 +15,6 @@ pub data Call : Type 0 where
   read : ℕ → List ℕ → Call
   look_back : ℕ → Call
   time_of : ℕ → List ℕ → Call
-  go_back : ℕ → Call  -- "One call records the map of k saves back as a new save"
 
 -- The timestamp that a commit records: "as access, modification and attribute time", or zeros without one.
 abbrev pub stamp_of : Option (List ℕ) → List ℕ
@@ -38,13 +37,12 @@ buffer_of (close_session main reserve start) = []
 buffer_of (read v block) = block
 buffer_of (look_back k) = []
 buffer_of (time_of k answer) = answer
-buffer_of (go_back k) = []
 
 -- What the rules about lists of calls ask of a call.
 pub record Manner : Type 0 where
   pub restores : Bool  -- "until a begin, mount or look back is done"
-  pub may_record : Bool  -- what 17 turns away: "write, release, commit, close packet or closing", and going back
-  pub saves : Bool  -- "In the cut rule a closing counts as a commit", and so does going back
+  pub may_record : Bool  -- what 17 turns away: "write, release, commit, close packet or closing"
+  pub saves : Bool  -- "In the cut rule a closing counts as a commit."
   pub only_tells : Bool  -- "this and any later call that only tells counts as a refused one"
 
 abbrev pub manner : Bool → Bool → Bool → Bool → Manner
@@ -61,7 +59,6 @@ manner_of (close_session main reserve start) = manner false true true false
 manner_of (read v block) = manner false false false false
 manner_of (look_back k) = manner true false false false
 manner_of (time_of k answer) = manner false false false true
-manner_of (go_back k) = manner false true true false
 
 abbrev pub restores : Call → Bool
 restores c = (manner_of c).restores

@@ -5,14 +5,16 @@ use Rattle.extent.specs.declared.Extent.{Extent}
 use Rattle.timestamp.specs.Timestamp.{told}
 use Rattle.vat.specs.Sector.{no_stamp, table_bytes}
 use Rattle.disc.specs.Disc.{Disc, lent, Sector, link, plain, recorded, sector_at, puts}
+use Rattle.disc.specs.declared.Walk.{Walk}
+use Rattle.disc.specs.declared.Walk.TheVariants.{Reached, Broken, Ended}
 use Rattle.disc.specs.Tables.{map_at, newest, block_found}
 use Rattle.disc.specs.Session.{closing}
 use Rattle.disc.specs.Again.{fresh_of}
 use Rattle.disc.specs.Save.{save_sectors, last_block}
 use Rattle.volume.specs.declared.Volume.{Volume}
 use Rattle.volume.specs.Volume.{idle, read_only, unpack, pack, map_of, begun, filled, wrote, released, closed, committed}
-use Rattle.recorder.specs.Calls.{Call, begin, mount, write, release, close_packet, commit, close_session, read, look_back, time_of, go_back, stamp_of, stamp_buffer, buffer_of}
-use Rattle.recorder.specs.Refusals.{links, target, block_of, walked, block_reached, gone, time_back, outcome}
+use Rattle.recorder.specs.Calls.{Call, begin, mount, write, release, close_packet, commit, close_session, read, look_back, time_of, stamp_of, stamp_buffer, buffer_of}
+use Rattle.recorder.specs.Refusals.{links, target, block_of, walked, time_back, outcome}
 
 pub record Effect : Type 0 where
   pub second : ℕ
@@ -23,6 +25,12 @@ pub record Effect : Type 0 where
 -- Nothing is recorded and no buffer changes.
 abbrev pub settles : ℕ → List ℕ → Effect
 settles second ledger = record { second = second; sectors = []; ledger = ledger; buffer = [] }
+
+-- The block that look back k reaches; 0 where it fails, which no call that is done meets.
+abbrev pub block_reached : Walk → ℕ
+block_reached (Reached b) = b
+block_reached Broken = 0
+block_reached Ended = 0
 
 -- "Clean means that it is the last recorded sector": 1 if clean and 0 if dirty.
 abbrev pub clean_number : Bool → ℕ
@@ -82,7 +90,6 @@ effect d l (look_back k) =
     let b : ℕ = block_reached (walked d k) in
     settles b (pack (shown_at d b read_only))
 effect d l (time_of k answer) = record { second = 0; sectors = []; ledger = l; buffer = told (time_back d k) }
-effect d l (go_back k) = commits d (gone d k (unpack l)) no_stamp []
 
 -- All that a call leaves: the answer, "outcome × 4,294,967,296 + second number", and every lent byte.
 pub record After : Type 0 where

@@ -5,17 +5,17 @@ use Rattle.std.specs.Prelude.{ℕ, ◌+◌, Bool, true, false, ◌&&◌, ◌||�
 use Rattle.std.proofs.Math.Option.{Option, none, some}
 use Rattle.timestamp.specs.Timestamp.{stamp_length, told_length, valid}
 use Rattle.vat.specs.Table.{sector_length, limit, unused, is_table}
-use Rattle.vat.specs.Sector.{no_stamp, table_bytes}
+use Rattle.vat.specs.Sector.{table_bytes}
 use Rattle.anchor.specs.Anchor.{farthest_start, anchor_tagged}
 use Rattle.disc.specs.Disc.{Disc, sized, in_order, blanks, kind_at}
 use Rattle.disc.specs.declared.Walk.{Walk}
 use Rattle.disc.specs.declared.Walk.TheVariants.{Reached, Broken, Ended}
-use Rattle.disc.specs.Tables.{below, table_at, map_at, previous_at, time_at, newest, block_found, walk}
+use Rattle.disc.specs.Tables.{below, table_at, previous_at, time_at, newest, walk}
 use Rattle.disc.specs.Session.{closing_length, session_closed}
 use Rattle.disc.specs.Save.{save_sectors}
 use Rattle.volume.specs.declared.Volume.{Volume}
-use Rattle.volume.specs.Volume.{ledger_length, idle, read_only, unpack, map_of, fits, filled}
-use Rattle.recorder.specs.Calls.{Call, begin, mount, write, release, close_packet, commit, close_session, read, look_back, time_of, go_back, stamp_of}
+use Rattle.volume.specs.Volume.{ledger_length, idle, read_only, unpack, map_of, fits}
+use Rattle.recorder.specs.Calls.{Call, begin, mount, write, release, close_packet, commit, close_session, read, look_back, time_of, stamp_of}
 
 pub record Test : Type 0 where
   pub number : ℕ
@@ -32,7 +32,7 @@ unfoldable pub first : List Test → ℕ
 first [] = 0
 first (t ∷ ts) = let later : ℕ = first ts in or_else t.applies t.number later
 
--- "an underrun costs seven blocks": the links that a write and every save record first, "in mode 0 with recorded above 0".
+-- "an underrun costs seven blocks": the links that write, commit and closing record first, "in mode 0 with recorded above 0".
 abbrev pub link_count : ℕ
 link_count = 7
 
@@ -82,7 +82,7 @@ abbrev pub unfit : Disc → List ℕ → Test
 unfit d l = test 4 (not (fits d (unpack l)))
 
 -- What every call that may record is asked behind 1, 2 and 3: the ledger fits; 5, looking only; and 17, "write, release, commit, close packet or closing
--- on a closed disc, tested directly after 5", and going back: "a closed disc gives 17".
+-- on a closed disc, tested directly after 5".
 abbrev pub gate : Disc → List ℕ → List Test
 gate d l = unfit d l ∷ test 5 (eqb (unpack l).mode read_only) ∷ test 17 (session_closed d) ∷ []
 
@@ -113,13 +113,12 @@ stamp_wrong (some stamp) = not (valid stamp)
 abbrev pub no_room : Disc → Volume → ℕ → Test
 no_room d v recording = test 14 (ltb (blanks d) (links v + recording))
 
--- 14 of a commit of this state: it "needs blank sectors for what it records".
-abbrev pub no_commit_room : Disc → Volume → List ℕ → Test
-no_commit_room d v stamp = no_room d v (length (save_sectors d (table_bytes (map_of v) v.last) v.last stamp (target v)))
-
--- A commit's own tests: the timestamp, if it has one, and the room.
+-- A commit's own tests: the timestamp, if it has one, and the room for the sectors of its save: "commit needs blank sectors for what it records".
 abbrev pub commit_tests : Disc → Volume → Option (List ℕ) → List Test
-commit_tests d v stamp = test 16 (stamp_wrong stamp) ∷ no_commit_room d v (stamp_of stamp) ∷ []
+commit_tests d v stamp =
+    test 16 (stamp_wrong stamp)
+    ∷ no_room d v (length (save_sectors d (table_bytes (map_of v) v.last) v.last (stamp_of stamp) (target v)))
+    ∷ []
 
 -- A closing's: 18, "the partition start exceeds 400,000", and the room: it "needs links + 257", own sectors of its table among them.
 abbrev pub closing_tests : Disc → Volume → ℕ → List Test
@@ -165,21 +164,6 @@ is_ended Ended = true
 abbrev pub walk_tests : Disc → ℕ → List Test
 walk_tests d k = test 7 (not (is_some (newest d))) ∷ test 8 (is_broken (walked d k)) ∷ test 9 (is_ended (walked d k)) ∷ []
 
--- The block that a walk reaches; 0 where it fails, which no call that is done meets.
-abbrev pub block_reached : Walk → ℕ
-block_reached (Reached b) = b
-block_reached Broken = 0
-block_reached Ended = 0
-
--- Going back k (document 02, R-9) is the commit of this state, without a timestamp: it has "the map of k saves back", and as its last table, which the save
--- names as previous, "the one mount would find", whatever the ledger's last is; "unsaved entries are dropped". What is recorded and the mode are the ledger's.
-unfoldable pub gone : Disc → ℕ → Volume → Volume
-gone d k v = filled (map_at d (block_reached (walked d k))) (block_found (newest d)) v.recorded v.mode
-
--- Its own tests: "7, 8, 9 and 14 apply, in that order", after 17.
-abbrev pub go_back_tests : Disc → ℕ → Volume → List Test
-go_back_tests d k v = walk_tests d k ++ (no_commit_room d (gone d k v) no_stamp ∷ [])
-
 -- The modification time of the table k saves back; none where the walk fails, which no call that is done meets.
 abbrev pub time_reached : Disc → Walk → List ℕ
 time_reached d (Reached b) = time_at d b
@@ -204,7 +188,6 @@ tests d l (close_session main reserve start) = basic d (ledger_lent l) ++ (gate 
 tests d l (read n block) = basic d (block_lent l block) ++ numbered_tests d l n
 tests d l (look_back k) = basic d (ledger_lent l) ++ walk_tests d k
 tests d l (time_of k answer) = basic d (answer_lent l answer) ++ (walk_tests d k ++ (time_wrong d k ∷ []))
-tests d l (go_back k) = basic d (ledger_lent l) ++ (gate d l ++ go_back_tests d k (unpack l))
 
 -- The outcome: 0 done, else the refusal.
 unfoldable pub outcome : Disc → List ℕ → Call → ℕ

@@ -15,15 +15,13 @@ use borrow.Author.Tests.{eqb-true, eq-eqb}
 use Rattle.vat.specs.Sector.{no_stamp}
 use Rattle.disc.specs.Disc.{Disc, Sector, link, plain, torn, sized, recorded, puts}
 use Rattle.disc.proofs.Recording.{length-stored, leading_le}
-use Rattle.volume.specs.declared.Volume.{Volume}
 use Rattle.volume.specs.Volume.{unpack, map_of}
-use Rattle.recorder.specs.Calls.{Call, begin, mount, write, release, close_packet, commit, close_session, read, look_back, time_of, go_back, stamp_of, buffer_of, restores, may_record}
-use Rattle.recorder.specs.Refusals.{Test, test, first, links, block_of, gone, tests, outcome}
+use Rattle.recorder.specs.Calls.{Call, begin, mount, write, release, close_packet, commit, close_session, read, look_back, time_of, stamp_of, buffer_of, restores, may_record}
+use Rattle.recorder.specs.Refusals.{Test, test, first, links, block_of, tests, outcome}
 use Rattle.recorder.specs.Effects.{closing_first, effect, settled, after}
 use Rattle.recorder.proofs.Done.{write_done, save_of, SaveDone, commit-done, closing-done}
-use Rattle.recorder.proofs.Gone.{go-back-done}
 use Rattle.roles.specs.Roles.{in_use, superseded, unnumbered, table_role, link_role, blank_role, names}
-use Rattle.roles.specs.Keeping.{supersede_if, let_go, marked, marked_save, renamed, written_role, named_before, scanned, kept_up, roles_tests, outcome_roles, AfterRoles, roles_if, after_roles}
+use Rattle.roles.specs.Keeping.{supersede_if, let_go, marked, marked_save, written_role, named_before, scanned, kept_up, roles_tests, outcome_roles, AfterRoles, roles_if, after_roles}
 use Rattle.roles.proofs.Roles.{length-tabulate}
 
 -- ---- the tests
@@ -57,7 +55,6 @@ module _ (d : Disc) (roles l : List ℕ) where
   fit_same (read n block) h = refl
   fit_same (look_back k) h = twice (not (sized d)) fit _ (eq-eqb (length roles) (length d.kinds) h)
   fit_same (time_of k answer) h = refl
-  fit_same (go_back k) h = twice (not (sized d)) fit _ (eq-eqb (length roles) (length d.kinds) h)
 
   module _ (c : Call) where
     pub done-fit : (restores c || may_record c) ≡ true → outcome_roles d roles l c ≡ 0 → length roles ≡ length d.kinds
@@ -116,10 +113,6 @@ length_marked at links between count role roles room =
     ∙ rw (length-replicate links link_role, length-append (replicate between unnumbered) (replicate count role), length-replicate between unnumbered, length-replicate count role) refl in
     length-stored roles at marks (omega (arith, n))
 
-length-renamed : (map roles : List ℕ) → length (renamed map roles) ≡ length roles
-unfolding renamed
-length-renamed map roles = length-tabulate _ (length roles)
-
 length-put : (ss : List Sector) (d : Disc) (b : ℕ) → length (puts d b ss).kinds ≡ length d.kinds
 unfolding puts
 length-put [] d b = refl
@@ -136,9 +129,9 @@ length-after d l c = go (outcome d l c)
     go (suc n) = refl
 
 module _ (d : Disc) (roles l : List ℕ) (h : length roles ≡ length d.kinds) where
-  save-length : (v : Volume) (first : List Sector) (stamp : List ℕ) → SaveDone d v first stamp → length (marked_save d v first stamp roles) ≡ length d.kinds
-  save-length v first stamp f =
-      length_marked (recorded d) (links v) (length first) (length (save_of d v first stamp)) table_role roles (omega (arith, f.room, leading_le d.kinds, h)) ∙ h
+  save-length : (first : List Sector) (stamp : List ℕ) → SaveDone d l first stamp → length (marked_save d (unpack l) first stamp roles) ≡ length d.kinds
+  save-length first stamp f =
+      length_marked (recorded d) (links (unpack l)) (length first) (length (save_of d l first stamp)) table_role roles (omega (arith, f.room, leading_le d.kinds, h)) ∙ h
 
   length-kept : (c : Call) → outcome d l c ≡ 0 → length (kept_up d roles l c) ≡ length d.kinds
   unfolding kept_up scanned
@@ -149,14 +142,11 @@ module _ (d : Disc) (roles l : List ℕ) (h : length roles ≡ length d.kinds) w
       ∙ length_marked (recorded d) (links (unpack l)) 0 1 (written_role n) roles (omega (arith, (write_done d l n block e).room, leading_le d.kinds, h)) ∙ h
   length-kept (release n) e = length-let-go (after d l (release n)).ledger (block_of (unpack l) n) roles ∙ h
   length-kept close_packet e = h
-  length-kept (commit stamp) e = save-length (unpack l) [] (stamp_of stamp) (commit-done d l stamp e).saving
-  length-kept (close_session main reserve start) e = save-length (unpack l) (closing_first d (unpack l) main reserve start) no_stamp (closing-done d l main reserve start e).saving
+  length-kept (commit stamp) e = save-length [] (stamp_of stamp) (commit-done d l stamp e).saving
+  length-kept (close_session main reserve start) e = save-length (closing_first d (unpack l) main reserve start) no_stamp (closing-done d l main reserve start e).saving
   length-kept (read n block) e = h
   length-kept (look_back k) e = length-tabulate _ (length (after d l (look_back k)).disc.kinds) ∙ length-after d l (look_back k)
   length-kept (time_of k answer) e = h
-  length-kept (go_back k) e =
-      length-renamed (map_of (unpack (after d l (go_back k)).ledger)) (marked_save d (gone d k (unpack l)) [] no_stamp roles)
-      ∙ save-length (gone d k (unpack l)) [] no_stamp (go-back-done d l k e).saving
 
   -- done or refused
   pub kept-fit : (c : Call) → length (after_roles d roles l c).roles ≡ length (after d l c).disc.kinds

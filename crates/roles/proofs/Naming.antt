@@ -4,8 +4,8 @@ use Prim.Native.Nat.{ℕ, zero, suc, ◌+◌, ◌≤◌, ◌<◌}
 use native.Mathlib.Nat.{not-suc-le-zero}
 use native.Mathlib.Numerals.{add-one}
 use native.Mathlib.Omega.{arith}
-use mathlib.Core.Path.{◌≡◌, refl, sym, ap, ap₂, ◌∙◌}
-use mathlib.Core.Bool.{Bool, true, false, ◌||◌, not}
+use mathlib.Core.Path.{◌≡◌, refl, sym, ap, ◌∙◌}
+use mathlib.Core.Bool.{Bool, true, false, not}
 use mathlib.Core.List.{List, [], ◌∷◌, ◌++◌}
 use lib.Dec.{eqb}
 use lib.ListN.{length, get_or, take, set, replicate, length-replicate, get_or-eq_default}
@@ -18,9 +18,9 @@ use Rattle.le.proofs.Halves.{and-false}
 use Rattle.disc.proofs.Recording.{length-stored}
 use Rattle.volume.specs.Volume.{unpack, map_of}
 use Rattle.volume.proofs.State.{long-unpack}
-use Rattle.roles.specs.Roles.{in_use, superseded, unnumbered, link_role, blank_role, names, of_table, role_of_kind, role_of_data, role_at, tabulate, roles_of}
-use Rattle.roles.specs.Keeping.{supersede_if, let_go, marked, renamed_if, renamed_role, renamed}
-use Rattle.roles.proofs.Roles.{length-tabulate, get_d_tabulate, tabulate-same, set-tabulate, names-none, names-last, names-other, stored-append}
+use Rattle.roles.specs.Roles.{in_use, superseded, unnumbered, link_role, blank_role, names, of_table, role_of_kind, role_of_data, role_at, roles_of}
+use Rattle.roles.specs.Keeping.{supersede_if, let_go, marked}
+use Rattle.roles.proofs.Roles.{length-tabulate, get_d_tabulate, tabulate-same, set-tabulate, names-last, names-other, role-names, stored-append}
 
 -- within a list the default is not told
 inside-same : (xs : List ℕ) (i x y : ℕ) → i < length xs → get_or xs i x ≡ get_or xs i y
@@ -42,117 +42,55 @@ map-suc l n h =
 
 -- ---- one entry more of the map
 
--- the role of block b, that the map named anew
-abbrev pub role_named : List ℕ → List ℕ → ℕ → ℕ
-role_named map before b = renamed_role (names map b) (get_or before b blank_role)
+comes-in-use : (k : ℕ) (table named : Bool) → role_of_kind k (role_of_data table named false) ≡ superseded → role_of_kind k (role_of_data table true false) ≡ in_use
+comes-in-use zero table named e = absurd (omega arith)
+comes-in-use (suc zero) true named e = absurd (omega arith)
+comes-in-use (suc zero) false named e = refl
+comes-in-use (suc (suc zero)) table named e = absurd (omega arith)
+comes-in-use (suc (suc (suc k))) table named e = absurd (omega arith)
 
-comes-in-use : (t named : Bool) (role : ℕ) → (eqb role in_use || eqb role superseded) ≡ t → renamed_if t named role ≡ superseded → renamed_if t true role ≡ in_use
-comes-in-use true named role is e = refl
-comes-in-use false named role is e = absurd (mathlib.Core.Bool.true≢false (sym (ap (λ (r : ℕ). eqb r in_use || eqb r superseded) e) ∙ is))
+stays : (k : ℕ) (table named : Bool) → (role_of_kind k (role_of_data table named false) ≡ superseded → ⊥)
+    → role_of_kind k (role_of_data table named false) ≡ role_of_kind k (role_of_data table true false)
+stays zero table named h = refl
+stays (suc zero) true named h = refl
+stays (suc zero) false true h = refl
+stays (suc zero) false false h = absurd (h refl)
+stays (suc (suc zero)) table named h = refl
+stays (suc (suc (suc k))) table named h = refl
 
-stays : (t named : Bool) (role : ℕ) → (renamed_if t named role ≡ superseded → ⊥) → renamed_if t named role ≡ renamed_if t true role
-stays true true role h = refl
-stays true false role h = absurd (h refl)
-stays false named role h = refl
+module _ (d : Disc) (map : List ℕ) (b : ℕ) (roles : List ℕ) (e : roles ≡ roles_of d map []) where
+  long : length roles ≡ length d.kinds
+  long = ap length e ∙ length-tabulate (role_at d map []) (length d.kinds)
 
-module _ (before map : List ℕ) (b : ℕ) (roles : List ℕ) (e : roles ≡ renamed map before) where
-  long : length roles ≡ length before
-  unfolding renamed
-  long = ap length e ∙ length-tabulate (role_named map before) (length before)
+  told : b < length d.kinds → get_or roles b 0 ≡ role_at d map [] b
+  told h = ap (λ (l : List ℕ). get_or l b 0) e ∙ get_d_tabulate (role_at d map []) (length d.kinds) b 0 h
 
-  told : b < length before → get_or roles b 0 ≡ role_named map before b
-  unfolding renamed
-  told h = ap (λ (l : List ℕ). get_or l b 0) e ∙ get_d_tabulate (role_named map before) (length before) b 0 h
+  elsewhere : (i : ℕ) → (i ≡ b → ⊥) → role_at d map [] i ≡ role_at d (map ++ (b ∷ [])) [] i
+  elsewhere i h = role-names d map (map ++ (b ∷ [])) [] [] i (sym (names-other map b i h)) refl
 
-  elsewhere : (i : ℕ) → (i ≡ b → ⊥) → role_named map before i ≡ role_named (map ++ (b ∷ [])) before i
-  elsewhere i h = ap (λ (t : Bool). renamed_role t (get_or before i blank_role)) (sym (names-other map b i h))
-
-  here : renamed_role true (get_or before b blank_role) ≡ role_named (map ++ (b ∷ [])) before b
-  here = ap (λ (t : Bool). renamed_role t (get_or before b blank_role)) (sym (names-last map b))
-
-  -- it is in use or superseded
-  numbered : Bool
-  numbered = eqb (get_or before b blank_role) in_use || eqb (get_or before b blank_role) superseded
-
-  pub named-now : b < length roles → get_or roles b 0 ≡ superseded → set roles b in_use ≡ renamed (map ++ (b ∷ [])) before
-  unfolding renamed numbered
+  pub named-now : b < length roles → get_or roles b 0 ≡ superseded → set roles b in_use ≡ roles_of d (map ++ (b ∷ [])) []
+  unfolding role_at names
   named-now h was =
-      let inside : b < length before = omega (arith, long) in
-      let now : renamed_role true (get_or before b blank_role) ≡ in_use = comes-in-use numbered (names map b) (get_or before b blank_role) refl (sym (told inside) ∙ was) in
+      let inside : b < length d.kinds = omega (arith, long) in
+      let here : role_at d (map ++ (b ∷ [])) [] b ≡ in_use =
+      ap (λ (t : Bool). role_of_kind (kind_at d b) (role_of_data (of_table d b) t false)) (names-last map b)
+      ∙ comes-in-use (kind_at d b) (of_table d b) (names map b) (sym (told inside) ∙ was) in
       ap (λ (l : List ℕ). set l b in_use) e
-      ∙ set-tabulate (role_named map before) (role_named (map ++ (b ∷ [])) before) (length before) b in_use inside (sym here ∙ now) (λ i low other. elsewhere i other)
+      ∙ set-tabulate (role_at d map []) (role_at d (map ++ (b ∷ [])) []) (length d.kinds) b in_use inside here (λ i low other. elsewhere i other)
 
-  pub named-already : (b < length roles → get_or roles b 0 ≡ superseded → ⊥) → roles ≡ renamed (map ++ (b ∷ [])) before
-  unfolding renamed numbered
-  named-already h = e ∙ tabulate-same (role_named map before) (role_named (map ++ (b ∷ [])) before) (length before) (λ i low. go i low (eqb i b) refl)
+  pub named-already : (b < length roles → get_or roles b 0 ≡ superseded → ⊥) → roles ≡ roles_of d (map ++ (b ∷ [])) []
+  unfolding role_at names
+  named-already h = e ∙ tabulate-same (role_at d map []) (role_at d (map ++ (b ∷ [])) []) (length d.kinds) (λ i low. go i low (eqb i b) refl)
     where
-      go : (i : ℕ) → i < length before → (t : Bool) → eqb i b ≡ t → role_named map before i ≡ role_named (map ++ (b ∷ [])) before i
+      go : (i : ℕ) → i < length d.kinds → (t : Bool) → eqb i b ≡ t → role_at d map [] i ≡ role_at d (map ++ (b ∷ [])) [] i
       go i low true eq =
           let same : b ≡ i = sym (eqb-true i b eq) in
-          let inside : b < length before = omega arith in
-          ap (role_named map before) (sym same)
-          ∙ stays numbered (names map b) (get_or before b blank_role) (λ was. h (omega (arith, long)) (told inside ∙ was))
-          ∙ here
-          ∙ ap (role_named (map ++ (b ∷ [])) before) same
+          let inside : b < length d.kinds = omega arith in
+          ap (role_at d map []) (sym same)
+          ∙ stays (kind_at d b) (of_table d b) (names map b) (λ was. h (omega (arith, long)) (told inside ∙ was))
+          ∙ ap (λ (t : Bool). role_of_kind (kind_at d b) (role_of_data (of_table d b) t false)) (sym (names-last map b))
+          ∙ ap (role_at d (map ++ (b ∷ [])) []) same
       go i low false other = elsewhere i (eqb-false i b other)
-
--- ---- roles that a map names anew
-
--- where nothing is named, what is not in use stays
-pub unnamed-role : (role : ℕ) → (role ≡ in_use → ⊥) → renamed_role false role ≡ role
-unnamed-role role h = rw (ne_eqb role in_use h) (go (eqb role superseded) refl)
-  where
-    go : (t : Bool) → eqb role superseded ≡ t → renamed_if t false role ≡ role
-    go true e = sym (eqb-true role superseded e)
-    go false e = refl
-
--- one more role of a list that no map names
-pub unnamed-at : (before roles : List ℕ) (b : ℕ) → b < length roles → get_or roles b blank_role ≡ get_or before b blank_role → renamed_role false (get_or roles b 0) ≡ role_named [] before b
-unnamed-at before roles b h same = ap₂ renamed_role (sym (names-none b)) (inside-same roles b 0 blank_role h ∙ same)
-
-renamed-twice : (t named before : Bool) (role : ℕ) → (eqb role in_use || eqb role superseded) ≡ t → renamed_role named (renamed_if t before role) ≡ renamed_if t named role
-renamed-twice true true true role is = refl
-renamed-twice true true false role is = refl
-renamed-twice true false true role is = refl
-renamed-twice true false false role is = refl
-renamed-twice false named before role is = ap (λ (t : Bool). renamed_if t named role) is
-
--- the last map alone decides
-pub renamed-again : (map before roles : List ℕ) → renamed map (renamed before roles) ≡ renamed map roles
-unfolding renamed
-renamed-again map before roles =
-    let n : ℕ = length roles in
-    ap (tabulate (role_named map (renamed before roles))) (length-tabulate (role_named before roles) n)
-    ∙ tabulate-same (role_named map (renamed before roles)) (role_named map roles) n
-    (λ b h. ap (renamed_role (names map b)) (get_d_tabulate (role_named before roles) n b blank_role h) ∙ renamed-twice (eqb (get_or roles b blank_role) in_use || eqb (get_or roles b blank_role) superseded) (names map b) (names before b) (get_or roles b blank_role) refl)
-
-renamed-data : (kind : ℕ) (t n n' x : Bool) → (x ≡ true → n ≡ false) → (x ≡ true → n' ≡ false) → renamed_role n' (role_of_kind kind (role_of_data t n x)) ≡ role_of_kind kind (role_of_data t n' x)
-renamed-data zero t n n' x p q = refl
-renamed-data (suc zero) true n n' x p q = refl
-renamed-data (suc zero) false true true x p q = refl
-renamed-data (suc zero) false true false true p q = absurd (mathlib.Core.Bool.true≢false (p refl))
-renamed-data (suc zero) false true false false p q = refl
-renamed-data (suc zero) false false true true p q = absurd (mathlib.Core.Bool.true≢false (q refl))
-renamed-data (suc zero) false false true false p q = refl
-renamed-data (suc zero) false false false true p q = refl
-renamed-data (suc zero) false false false false p q = refl
-renamed-data (suc (suc zero)) t n n' x p q = refl
-renamed-data (suc (suc (suc kind))) t n n' x p q = refl
-
--- a disc's roles with one map, named anew by another, are those with the other, where neither names a block without a number
-pub renamed-roles : (d : Disc) (m m' a : List ℕ) → ((b : ℕ) → names a b ≡ true → names m b ≡ false) → ((b : ℕ) → names a b ≡ true → names m' b ≡ false)
-    → renamed m' (roles_of d m a) ≡ roles_of d m' a
-unfolding renamed role_at
-renamed-roles d m m' a p q =
-    let count : ℕ = length d.kinds in
-    ap (tabulate (role_named m' (roles_of d m a))) (length-tabulate (role_at d m a) count)
-    ∙ tabulate-same (role_named m' (roles_of d m a)) (role_at d m' a) count
-    (λ b h. ap (renamed_role (names m' b)) (get_d_tabulate (role_at d m a) count b blank_role h)
-    ∙ renamed-data (kind_at d b) (of_table d b) (names m b) (names m' b) (names a b) (p b) (q b))
-
--- so of a scan, which knows of none without a number
-pub renamed-scan : (d : Disc) (map : List ℕ) → renamed map (roles_of d [] []) ≡ roles_of d map []
-renamed-scan d map = renamed-roles d [] map [] (λ b h. names-none b) (λ b h. absurd (mathlib.Core.Bool.true≢false (sym h ∙ names-none b)))
 
 -- ---- a number lets go of a block
 

@@ -8,10 +8,10 @@ use Rattle.disc.specs.Disc.{Disc, sized, recorded, Sector, stored}
 use Rattle.disc.specs.Save.{save_sectors}
 use Rattle.volume.specs.declared.Volume.{Volume}
 use Rattle.volume.specs.Volume.{unpack, map_of}
-use Rattle.recorder.specs.Calls.{Call, begin, mount, write, release, close_packet, commit, close_session, read, look_back, time_of, go_back, stamp_of, buffer_of, restores, may_record}
-use Rattle.recorder.specs.Refusals.{Test, test, first, links, target, block_of, gone, tests}
+use Rattle.recorder.specs.Calls.{Call, begin, mount, write, release, close_packet, commit, close_session, read, look_back, time_of, stamp_of, buffer_of, restores, may_record}
+use Rattle.recorder.specs.Refusals.{Test, test, first, links, target, block_of, tests}
 use Rattle.recorder.specs.Effects.{closing_first, effect, After, left, settled, after}
-use Rattle.roles.specs.Roles.{in_use, superseded, unnumbered, table_role, link_role, blank_role, names, tabulate, roles_of}
+use Rattle.roles.specs.Roles.{in_use, superseded, unnumbered, table_role, link_role, blank_role, names, roles_of}
 
 -- Begin, mount and look back: "a scan then gives the start", of the disc with the ledger's map.
 unfoldable pub scanned : Disc → List ℕ → List ℕ
@@ -37,19 +37,6 @@ abbrev pub marked_save : Disc → Volume → List Sector → List ℕ → List �
 marked_save d v first stamp roles =
     let save : List Sector = save_sectors d (table_bytes (map_of v) v.last) v.last stamp (target v + length first) in
     marked (recorded d) (links v) (length first) (length save) table_role roles
-
--- Going back (document 02, R-9): of each block that is in use or superseded the map that is now the ledger's decides again which it is. A block without a
--- number, a sector that a table names and what is no data stay what they are.
-abbrev pub renamed_if : Bool → Bool → ℕ → ℕ
-renamed_if true true role = in_use
-renamed_if true false role = superseded
-renamed_if false named role = role
-
-abbrev pub renamed_role : Bool → ℕ → ℕ
-renamed_role named role = renamed_if (eqb role in_use || eqb role superseded) named role
-
-unfoldable pub renamed : List ℕ → List ℕ → List ℕ
-renamed map roles = tabulate (λ b. renamed_role (names map b) (get_or roles b blank_role)) (length roles)
 
 -- A write with a number and without one: the role of its block, and the block that its number named before.
 abbrev pub written_role : Option ℕ → ℕ
@@ -77,8 +64,6 @@ kept_up d roles l (close_session main reserve start) =
 kept_up d roles l (read n block) = roles
 kept_up d roles l (look_back k) = let a : After = after d l (look_back k) in scanned a.disc a.ledger
 kept_up d roles l (time_of k answer) = roles
-kept_up d roles l (go_back k) =
-    renamed (map_of (unpack (after d l (go_back k)).ledger)) (marked_save d (gone d k (unpack l)) [] no_stamp roles)
 
 -- 2: "a lent role buffer of another length than the kinds", tested as every lent length is, behind 1.
 abbrev pub roles_tests : Bool → Disc → List ℕ → List Test

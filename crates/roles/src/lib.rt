@@ -1,11 +1,11 @@
 // The role of each sector.
-ghost use Rattle.std.specs.Prelude.{◌≡◌, true, false, List, [], ◌∷◌, ◌++◌, ℕ, ◌+◌, ◌≤◌, ◌<◌, length, get_or, replicate};
+ghost use Rattle.std.specs.Prelude.{◌≡◌, true, false, List, [], ◌∷◌, ◌++◌, ℕ, ◌+◌, ◌≤◌, ◌<◌, eqb, length, get_or, replicate};
 ghost use Rattle.vat.specs.Table.{limit};
-ghost use Rattle.disc.specs.Disc.{lent, sized, leading, stored};
+ghost use Rattle.disc.specs.Disc.{Disc, lent, sized, leading, stored};
 ghost use Rattle.disc.specs.Tables.{table_at, named_by};
 ghost use Rattle.volume.specs.Volume.{ledger_length, unpack, map_of};
 ghost use Rattle.roles.specs.Roles.{superseded, names, role_of_kind, tabulate, roles_of, marked_at};
-ghost use Rattle.roles.specs.Keeping.{scanned, let_go, marked, renamed_role, renamed};
+ghost use Rattle.roles.specs.Keeping.{scanned, let_go, marked};
 
 pub const IN_USE: u8 = 0;
 
@@ -100,7 +100,7 @@ fn mark_tables(image: &[u8], kinds: &[u8], roles: &mut [u8], end: u32, known: bo
 
 // One entry more of the map: what it names is in use, if it is data and no table.
 fn name_block(roles: &mut [u8], b: u32)
-    ensures { (before map : List ℕ) → roles.old ≡ renamed map before → roles.new ≡ renamed (map ++ (b ∷ [])) before }
+    ensures { (d : Disc) (map : List ℕ) → roles.old ≡ roles_of d map [] → roles.new ≡ roles_of d (map ++ (b ∷ [])) [] }
 {
     let place = b as usize;
     if place < roles.len() {
@@ -110,10 +110,10 @@ fn name_block(roles: &mut [u8], b: u32)
     }
 }
 
-// All entries of the map, where none is in use yet.
+// All entries of the map.
 fn name_blocks(roles: &mut [u8], ledger: &[u8])
-    requires { (length ledger.now ≡ ledger_length) × ((unpack ledger.now).size ≤ limit) × (roles.old ≡ renamed [] roles.old) }
-    ensures { roles.new ≡ renamed (map_of (unpack ledger.now)) roles.old }
+    requires { (length ledger.now ≡ ledger_length) × ((unpack ledger.now).size ≤ limit) }
+    ensures { (d : Disc) → roles.old ≡ roles_of d [] [] → roles.new ≡ roles_of d (map_of (unpack ledger.now)) [] }
 {
     let size = volume::ledger::size(ledger);
     let mut n = 0;
@@ -167,37 +167,6 @@ pub fn let_go(roles: &mut [u8], ledger: &[u8], b: u32)
             }
         }
     }
-}
-
-// The role where nothing is named: with no early exit, so that the pass over all roles takes many at a time.
-fn unnamed(role: u8) -> u8
-    ensures { result ≡ renamed_role false role }
-{
-    let mut left = role;
-    if role == IN_USE {
-        left = SUPERSEDED;
-    }
-    left
-}
-
-// All that is in use is superseded.
-fn supersede(roles: &mut [u8])
-    ensures { roles.new ≡ renamed [] roles.old }
-{
-    let mut place = 0;
-    while place < roles.len() {
-        roles[place] = unnamed(roles[place]);
-        place += 1;
-    }
-}
-
-// Going back: the ledger's map decides again which blocks are in use, in one pass over the roles and one over the map.
-pub fn rename(roles: &mut [u8], ledger: &[u8])
-    requires { (length ledger.now ≡ ledger_length) × ((unpack ledger.now).size ≤ limit) }
-    ensures { roles.new ≡ renamed (map_of (unpack ledger.now)) roles.old }
-{
-    supersede(roles);
-    name_blocks(roles, ledger);
 }
 
 fn fill(roles: &mut [u8], at: usize, n: usize, role: u8)

@@ -4,7 +4,7 @@
 ghost use Rattle.std.specs.Prelude.{◌≡◌, [], ◌*◌};
 ghost use Rattle.std.proofs.Math.Option.{none, some};
 ghost use Rattle.disc.specs.Disc.{lent};
-ghost use Rattle.recorder.specs.Calls.{begin, mount, write, release, close_packet, commit, close_session, read, look_back, time_of, go_back};
+ghost use Rattle.recorder.specs.Calls.{begin, mount, write, release, close_packet, commit, close_session, read, look_back, time_of};
 ghost use Rattle.recorder.specs.Effects.{left, after};
 
 use extent::Extent;
@@ -36,7 +36,7 @@ pub fn mount(image: &[u8], kinds: &[u8], ledger: &mut [u8]) -> u64
     if plan.outcome != 0 {
         return refusal(plan.outcome);
     }
-    calls::effects::show(image, kinds, ledger, plan, plan.block, 0);
+    calls::effects::show(image, kinds, ledger, plan, 0);
     if plan.block + 1 == plan.recorded {
         return 1;
     }
@@ -114,20 +114,6 @@ pub fn commit_at(image: &mut [u8], kinds: &mut [u8], ledger: &mut [u8], stamp: &
     calls::effects::save(image, kinds, ledger, stamp) as u64
 }
 
-// A commit of the state that shows the save k back.
-pub fn go_back(image: &mut [u8], kinds: &mut [u8], ledger: &mut [u8], k: u32) -> u64
-    ensures { left result image.new kinds.new ledger.new [] ≡ after (lent image.old kinds.old) ledger.old (go_back k) }
-{
-    let plan = calls::admit::go_back(image, kinds, ledger, k);
-    if plan.outcome != 0 {
-        return refusal(plan.outcome);
-    }
-    let mode = volume::ledger::mode(ledger);
-    calls::effects::show(image, kinds, ledger, plan, plan.newest, mode);
-    let untimed = [0u8; 12];
-    calls::effects::save(image, kinds, ledger, &untimed) as u64
-}
-
 pub fn close_session(
     image: &mut [u8],
     kinds: &mut [u8],
@@ -165,7 +151,7 @@ pub fn look_back(image: &[u8], kinds: &[u8], ledger: &mut [u8], k: u32) -> u64
     if plan.outcome != 0 {
         return refusal(plan.outcome);
     }
-    calls::effects::show(image, kinds, ledger, plan, plan.block, 2);
+    calls::effects::show(image, kinds, ledger, plan, 2);
     plan.block as u64
 }
 

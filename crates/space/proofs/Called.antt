@@ -11,7 +11,7 @@ use lib.Dec.{eqb}
 use lib.ListN.{length}
 use borrow.Author.Tests.{eqb-true}
 use Rattle.disc.specs.Disc.{Disc, sized}
-use Rattle.recorder.specs.Calls.{Call, begin, mount, write, release, close_packet, commit, close_session, read, look_back, time_of, go_back, buffer_of, restores, may_record, only_tells}
+use Rattle.recorder.specs.Calls.{Call, begin, mount, write, release, close_packet, commit, close_session, read, look_back, time_of, buffer_of, restores, may_record, only_tells}
 use Rattle.recorder.specs.Refusals.{Test, test, first, tests, outcome}
 use Rattle.recorder.specs.Effects.{effect, settled, after}
 use Rattle.roles.specs.Keeping.{roles_tests, outcome_roles, AfterRoles, roles_if, kept_up, after_roles}
@@ -82,7 +82,6 @@ only-tells d l (close_session main reserve start) t = absurd (mathlib.Core.Bool.
 only-tells d l (read n block) t = absurd (mathlib.Core.Bool.false≢true t)
 only-tells d l (look_back k) t = absurd (mathlib.Core.Bool.false≢true t)
 only-tells d l (time_of k answer) t = refl
-only-tells d l (go_back k) t = absurd (mathlib.Core.Bool.false≢true t)
 
 module _ (s : Lent) (c : Call) (fit : length s.roles ≡ length s.disc.kinds) where
   same-call : (after_roles s.disc s.roles s.ledger c).call ≡ after s.disc s.ledger c

@@ -5,20 +5,18 @@ use native.Mathlib.Omega.{arith}
 use mathlib.Core.Path.{◌≡◌, refl, sym, ap, ap₂, ◌∙◌, subst}
 use mathlib.Core.Bool.{Bool, true, false, ◌||◌}
 use mathlib.Core.List.{List, [], ◌∷◌, ◌++◌}
-use mathlib.Core.Logic.{◌⊎◌, inl, inr}
 use mathlib.Core.Option.{Option, none, some}
-use lib.Dec.{eqb, ltb}
+use lib.Dec.{eqb}
 use lib.ListN.{length, get_or, drop, replicate, length-replicate}
 use lib.Seq.{get_or-take, get_or-drop}
 use lib.Arith.{lt_of_le-ne}
-use borrow.Author.Tests.{eq-eqb, ne_eqb, eqb-true, eqb-false, ltb-true, ltb-false}
+use borrow.Author.Tests.{eq-eqb, ne_eqb, eqb-true, eqb-false}
 use Rattle.le.specs.Bytes.{every}
 use Rattle.le.proofs.Rows.{and_left}
 use Rattle.vat.specs.Table.{limit, unused, Lower, is_table}
 use Rattle.disc.specs.Disc.{Disc, recorded, Sector, link, plain, stored, puts}
-use Rattle.disc.specs.Tables.{below, table_at, map_at}
+use Rattle.disc.specs.Tables.{below}
 use Rattle.disc.proofs.Recording.{Sound, leading_le}
-use Rattle.disc.proofs.Found.{table-recorded}
 use Rattle.volume.specs.declared.Volume.{Volume}
 use Rattle.volume.specs.Volume.{unpack, pack, map_of, is_unused, wrote, released, closed}
 use Rattle.volume.proofs.State.{Proper, unpack-pack, proper-wrote, proper-released, proper-closed, grown_map, map-wrote, map-released, length-map}
@@ -31,8 +29,8 @@ use Rattle.roles.specs.Roles.{in_use, unnumbered, link_role, names, of_table, ro
 use Rattle.roles.specs.Keeping.{let_go, marked, written_role, kept_up}
 use Rattle.roles.proofs.Roles.{names-snoc, names-last, names-other}
 use Rattle.history.specs.Events.{World, calls}
-use Rattle.history.proofs.Log.{none-some, Plain}
-use Rattle.history.proofs.Growth.{F, names-below, all-below-of, Grown, links-no-tables, links-below, behind-counted, behind-grown}
+use Rattle.history.proofs.Log.{none-some}
+use Rattle.history.proofs.Growth.{all-below-of, Grown, links-no-tables, links-below, behind-counted, behind-grown}
 use Rattle.history.proofs.Saving.{enough}
 use Rattle.history.proofs.Steps.{Good, event-step}
 use Rattle.history.proofs.Theorem.{started}
@@ -41,38 +39,11 @@ use Rattle.space.proofs.Named.{names-entry, names-above, names-set, names-grown}
 use Rattle.space.proofs.Owned.{plain-below, plain-since}
 use Rattle.space.proofs.Sectors.{role_of_sector, roles_from, recorded-roles, roles-append, links-roles, same_roles, lets_go}
 
--- no table's map names a block without a number: going back, none comes in use
-abbrev pub Untabled : Disc → List ℕ → Type 0
-Untabled d apart = (t b : ℕ) → table_at d t ≡ true → names apart b ≡ true → names (map_at d t) b ≡ false
-
--- the blocks of `apart` are recorded, and neither a number nor a table names them
+-- the blocks of `apart` are recorded, and no number names them
 pub record Kept (d : Disc) (l roles apart : List ℕ) : Type 0 where
   pub good : Good (record { disc = d; ledger = some l })
   pub free : (b : ℕ) → names apart b ≡ true → (b < recorded d) × (names (map_of (unpack l)) b ≡ false)
   pub roles-are : roles ≡ roles_of d (map_of (unpack l)) apart
-  pub untabled : Untabled d apart
-
--- one of the blocks before, or one that was recorded since
-abbrev pub Since : Disc → List ℕ → ℕ → Type 0
-Since d apart b = (names apart b ≡ true) ⊎ ((recorded d ≤ b) × (b < unused))
-
-pub since_of : (d : Disc) (apart : List ℕ) (b : ℕ) (t : Bool) → (t || names apart b) ≡ true → (t ≡ true → (recorded d ≤ b) × (b < unused)) → Since d apart b
-since_of d apart b true h new = inr (new refl)
-since_of d apart b false h new = inl h
-
--- recorded on without a table, and with blocks since that are apart
-pub untabled-plain : {d d' : Disc} → Sound d' → Plain F d d' → (a a' : List ℕ) → ((b : ℕ) → names a' b ≡ true → Since d a b) → Untabled d a → Untabled d' a'
-untabled-plain {d} {d'} ok p a a' from u t b e h = go (ltb t (recorded d)) refl
-  where
-    known : t < recorded d → Since d a b → names (map_at d t) b ≡ false
-    known low (inl x) = u t b (sym (p.extends.tables t low) ∙ e) x
-    known low (inr x) = names-above t (map_at d t) b (names-below d t (sym (p.extends.tables t low) ∙ e)).0 (omega (arith, x.0)) x.1
-
-    go : (q : Bool) → ltb t (recorded d) ≡ q → names (map_at d' t) b ≡ false
-    go true z =
-        let low : t < recorded d = ltb-true t (recorded d) z in
-        ap (λ (xs : List ℕ). names xs b) (p.extends.maps t low) ∙ known low (from b h)
-    go false z = absurd (mathlib.Core.Bool.true≢false (sym e ∙ p.no_table t (ltb-false t (recorded d) z) (table-recorded d' ok t e)))
 
 -- ---- what a call that is done leaves
 
@@ -119,7 +90,7 @@ module _ (d : Disc) (l roles apart : List ℕ) (k : Kept d l roles apart) where
     entry = get_or-take (unpack l).size (unpack l).entries n unused inside
 
     within : n < length (map_of (unpack l))
-    within = omega (arith, length-map (unpack l) (enough d (unpack l) k.good.ledger-good f))
+    within = omega (arith, length-map (unpack l) (enough d l k.good.sound-disc k.good.ledger-good f))
 
     entry_named : names (map_of (unpack l)) (block_of (unpack l) n) ≡ true
     entry_named = ap (names (map_of (unpack l))) (sym entry) ∙ names-entry (map_of (unpack l)) n unused within
@@ -216,9 +187,6 @@ module _ (d : Disc) (l roles apart : List ℕ) (k : Kept d l roles apart) where
         roles-are =
             lets_go d' l' m (b ∷ apart) (marked (recorded d) (links v) 0 1 unnumbered roles) unused (marks none block e m (b ∷ apart) same its-role)
             (λ i low other. ap (λ (x : List ℕ). names x i) (sym map)) (λ low. absurd (omega (arith, good.sound-disc.few)));
-        untabled =
-            untabled-plain good.sound-disc (grown none block e).plainly apart (b ∷ apart)
-            (λ i h. since_of d apart i (eqb b i) h (λ z. let at : b ≡ i = eqb-true b i z in (omega arith, omega arith))) k.untabled;
       })
 
   module _ (n : ℕ) (block : List ℕ) (e : outcome d l (write (some n) block) ≡ 0) where
@@ -281,7 +249,6 @@ module _ (d : Disc) (l roles apart : List ℕ) (k : Kept d l roles apart) where
               (λ low.
               let is-named : names m old ≡ true = named-before t refl (omega (arith, good.sound-disc.few)) in
               (names-snoc m b old ∙ ap (λ (x : Bool). x || eqb b old) is-named, not-apart old is-named));
-          untabled = untabled-plain good.sound-disc (grown (some n) block e).plainly apart apart (λ i h. inl h) k.untabled;
         })
 
   -- ---- the calls that record nothing
@@ -310,7 +277,6 @@ module _ (d : Disc) (l roles apart : List ℕ) (k : Kept d l roles apart) where
             (λ i low other.
             sym (ap (λ (x : List ℕ). names x i) map ∙ entry_set facts.1.fit n inside unused i other ∙ names-other m unused i (λ z. omega arith)))
             (λ low. (is-named, not-apart old is-named));
-        untabled = k.untabled;
       })
 
   pub close-kept : outcome d l close_packet ≡ 0 → DoneKept d l roles apart close_packet
@@ -322,5 +288,4 @@ module _ (d : Disc) (l roles apart : List ℕ) (k : Kept d l roles apart) where
         good = good-after d l close_packet k.good refl e;
         free = λ i h. ((k.free i h).0, ap (λ (x : List ℕ). names x i) map ∙ (k.free i h).1);
         roles-are = k.roles-are ∙ ap (λ (x : List ℕ). roles_of d x apart) (sym map);
-        untabled = k.untabled;
       })

@@ -12,11 +12,11 @@ use lib.ListN.{length}
 use Rattle.disc.specs.Disc.{Disc, recorded, puts}
 use Rattle.disc.proofs.Recording.{Sound}
 use Rattle.volume.specs.Volume.{unpack, map_of}
-use Rattle.recorder.specs.Calls.{Call, begin, mount, write, release, close_packet, commit, close_session, read, look_back, time_of, go_back, restores, only_tells}
+use Rattle.recorder.specs.Calls.{Call, begin, mount, write, release, close_packet, commit, close_session, read, look_back, time_of, restores, only_tells}
 use Rattle.recorder.specs.Refusals.{outcome}
 use Rattle.recorder.specs.Effects.{effect, After, after}
 use Rattle.recorder.proofs.Done.{begin-done, mount-done, look-back-done}
-use Rattle.roles.specs.Roles.{names, role_at}
+use Rattle.roles.specs.Roles.{role_at}
 use Rattle.roles.specs.Keeping.{scanned, kept_up, outcome_roles, AfterRoles, roles_if, after_roles}
 use Rattle.roles.proofs.Roles.{length-tabulate, names-none}
 use Rattle.roles.proofs.Lent.{fit_same, done-same, all_same}
@@ -26,16 +26,14 @@ use Rattle.history.proofs.Theorem.{lost_world, started}
 use Rattle.space.specs.Space.{Lent, leaves_all, apart_if, afresh, recorded_roles, Space}
 use Rattle.space.proofs.Counts.{roles-counted}
 use Rattle.space.proofs.Calls.{Kept, DoneKept, after_is, unnumbered-kept, numbered-kept, release-kept, close-kept}
-use Rattle.space.proofs.Saves.{commit-kept, closing-kept, gone-kept}
+use Rattle.space.proofs.Saves.{commit-kept, closing-kept}
 
 -- ---- begin, mount and look back
 
 -- they scan what they leave
 scan-kept : (d : Disc) (l : List ℕ) → Good (record { disc = d; ledger = some l }) → Kept d l (scanned d l) []
 unfolding scanned
-scan-kept d l g =
-    let none_apart : (b : ℕ) → names [] b ≡ true → ⊥ = λ b e. mathlib.Core.Bool.false≢true (sym (names-none b) ∙ e) in
-    record { good = g; free = λ b e. absurd (none_apart b e); roles-are = refl; untabled = λ t b e h. absurd (none_apart b h) }
+scan-kept d l g = record { good = g; free = λ b e. absurd (mathlib.Core.Bool.false≢true (sym (names-none b) ∙ e)); roles-are = refl }
 
 start-good : (d : Disc) (l : List ℕ) (c : Call) → Sound d → restores c ≡ true → only_tells c ≡ false → outcome d l c ≡ 0 → Good (after_call d l c)
 start-good d l c ok r t e =
@@ -53,7 +51,6 @@ start-kept d l (close_session main reserve start) r e roles apart = absurd (math
 start-kept d l (read n block) r e roles apart = absurd (mathlib.Core.Bool.false≢true r)
 start-kept d l (look_back k) r e roles apart = scan-kept (after d l (look_back k)).disc (after d l (look_back k)).ledger (start-good d l (look_back k) (look-back-done d l k e).0 r refl e)
 start-kept d l (time_of k answer) r e roles apart = absurd (mathlib.Core.Bool.false≢true r)
-start-kept d l (go_back k) r e roles apart = absurd (mathlib.Core.Bool.false≢true r)
 
 -- ---- every call
 
@@ -79,7 +76,6 @@ module _ (d : Disc) (l roles apart : List ℕ) (k : Kept d l roles apart) where
   done-kept (time_of j answer) e =
       let left = after_is d l (time_of j answer) 0 e in
       still (after d l (time_of j answer)) (ap (λ (a : After). a.disc) left) (ap (λ (a : After). a.ledger) left)
-  done-kept (go_back j) e = gone-kept d l roles apart k j e
 
   pub kept_on : (c : Call) (n : ℕ) → outcome d l c ≡ n → Kept (after d l c).disc (after d l c).ledger (roles_if n roles (kept_up d roles l c)) (apart_if n c (after d l c).answer apart)
   kept_on c zero e = done-kept c e

@@ -6,7 +6,7 @@ use Rattle.std.proofs.Math.Option.{none, some}
 use Rattle.disc.specs.Disc.{Disc, recorded}
 use Rattle.disc.specs.Session.{closing_length}
 use Rattle.volume.specs.Volume.{unpack, map_of, grown}
-use Rattle.recorder.specs.Calls.{Call, begin, mount, write, release, close_packet, commit, close_session, read, look_back, time_of, go_back, restores}
+use Rattle.recorder.specs.Calls.{Call, begin, mount, write, release, close_packet, commit, close_session, read, look_back, time_of, restores}
 use Rattle.recorder.specs.Refusals.{outcome}
 use Rattle.recorder.specs.Effects.{after}
 use Rattle.roles.specs.Roles.{in_use, superseded, unnumbered, table_role, link_role, unreadable, roles_of}
@@ -45,7 +45,6 @@ apart_after (close_session main reserve start) second apart = blocks_from (secon
 apart_after (read n block) second apart = apart
 apart_after (look_back k) second apart = []
 apart_after (time_of k answer) second apart = apart
-apart_after (go_back k) second apart = apart  -- going back is no start
 
 abbrev pub apart_if : ℕ → Call → ℕ → List ℕ → List ℕ
 apart_if zero c second apart = apart_after c second apart

@@ -4,7 +4,7 @@ ghost use Rattle.std.specs.Prelude.{◌≡◌, []};
 ghost use Rattle.std.proofs.Math.Option.{none, some};
 ghost use Rattle.extent.specs.Extents.{extent};
 ghost use Rattle.disc.specs.Disc.{lent};
-ghost use Rattle.recorder.specs.Calls.{begin, mount, write, release, close_packet, commit, close_session, read, look_back, time_of, go_back};
+ghost use Rattle.recorder.specs.Calls.{begin, mount, write, release, close_packet, commit, close_session, read, look_back, time_of};
 ghost use Rattle.recorder.specs.Effects.{left, after};
 ghost use Rattle.roles.specs.Keeping.{left_roles, after_roles};
 ghost use Rattle.run.specs.View.{view};
@@ -110,19 +110,6 @@ pub extern "C" fn station_commit_at_roles(
     ensures { left_roles result image.new kinds.new roles.new ledger.new stamp.now ≡ after_roles (lent image.old kinds.old) roles.old ledger.old (commit (some stamp.now)) }
 {
     keeper::commit_at(image, kinds, roles, ledger, stamp)
-}
-
-#[unsafe(no_mangle)]
-pub extern "C" fn station_go_back_roles(
-    image: &mut [u8],
-    kinds: &mut [u8],
-    roles: &mut [u8],
-    ledger: &mut [u8],
-    k: u32,
-) -> u64
-    ensures { left_roles result image.new kinds.new roles.new ledger.new [] ≡ after_roles (lent image.old kinds.old) roles.old ledger.old (go_back k) }
-{
-    keeper::go_back(image, kinds, roles, ledger, k)
 }
 
 #[unsafe(no_mangle)]

@@ -1,14 +1,14 @@
 -- The working state and its 16,364 bytes are inverse to each other, each call's state is well formed, and what it makes of the map.
 -- Assumes nothing.
-use Prim.Native.Nat.{ℕ, zero, suc, ◌+◌, ◌-◌, ◌*◌, ◌≤◌, ◌<◌}
-use native.Mathlib.Nat.{add-zero}
+use Prim.Native.Nat.{ℕ, zero, suc, ◌+◌, ◌-◌, ◌*◌, ◌^◌, ◌≤◌, ◌<◌}
+use native.Mathlib.Nat.{add-zero, pow-suc}
 use native.Mathlib.Omega.{arith}
-use mathlib.Core.Path.{◌≡◌, refl, sym, ap, ap₂, ◌∙◌}
+use mathlib.Core.Path.{◌≡◌, refl, sym, ap, ap₂, ◌∙◌, subst}
 use mathlib.Core.Bool.{Bool, true, false}
 use mathlib.Core.Option.{Option, none, some}
 use mathlib.Core.List.{List, [], ◌∷◌, ◌++◌, append-nil}
 use lib.Dec.{eqb, lit<}
-use lib.ListN.{length, take, drop, set, replicate, length-set, length-append, length-replicate, length-drop, take-append-drop}
+use lib.ListN.{length, get_or, take, drop, set, replicate, length-set, length-append, length-replicate, length-drop, take-append-drop}
 use lib.Seq.{sets, drop-drop, take_at, take_all, take-set-lt, take-suc-set, length-take-le}
 use lib.Arith.{lt_of_le-ne}
 use native.Mathlib.Numerals.{add-one}
@@ -16,7 +16,7 @@ use borrow.Author.Tests.{eqb-true, eqb-false}
 use Rattle.le.specs.Field.{le, read_le, words, le_words}
 use Rattle.le.proofs.Bytes.{sets-append}
 use Rattle.le.proofs.Fields.{length-le, read-le}
-use Rattle.le.proofs.Runs.{sets-all, Words, words-read, length-words, length-le_words, words-none, words_step, drop-on, AllBytes, le_read, le_words-words}
+use Rattle.le.proofs.Runs.{sets-all, Words, words-read, length-words, length-le_words, words-none, words_step, drop-on, AllBytes, byte_at, le_read, le_words-words}
 use Rattle.vat.specs.Table.{limit, unused}
 use Rattle.volume.specs.declared.Volume.{Volume}
 use Rattle.volume.specs.Volume.{places, entries_length, ledger_length, unpack, pack, map_of, begun, filled, grown, wrote, released, closed, committed}
@@ -159,6 +159,31 @@ proper-filled map b r mode few ok hb hr hm =
       recorded-word = hr;
       last_word = hb;
       mode-word = hm;
+    }
+
+-- any bytes unpack to a well-formed state
+read-lt : (n : ℕ) (s : List ℕ) (at : ℕ) → AllBytes s → read_le n s at < 256 ^ n
+unfolding read_le
+read-lt zero s at a = lit< tt
+read-lt (suc n) s at a =
+    let low : get_or s at 0 < 256 = byte_at s a at in
+    let high : read_le n s (at + 1) < 256 ^ n = read-lt n s (at + 1) a in
+    rw (pow-suc 256 n) (omega arith)
+
+words-of-bytes : (n : ℕ) (s : List ℕ) (at : ℕ) → AllBytes s → Words (words n s at)
+words-of-bytes zero s at a = subst Words (sym (words-none s at)) tt
+words-of-bytes (suc n) s at a = subst Words (sym (words_step n s at)) (read-lt 4 s at a, words-of-bytes n s (at + 4) a)
+
+pub proper-unpack : (l : List ℕ) → AllBytes l → Proper (unpack l)
+unfolding unpack
+proper-unpack l a =
+    record {
+      long = long-unpack l;
+      entry-words = words-of-bytes places l 0 a;
+      size_word = read-lt 4 l entries_length a;
+      recorded-word = read-lt 4 l (entries_length + 4) a;
+      last_word = read-lt 4 l (entries_length + 8) a;
+      mode-word = read-lt 4 l (entries_length + 12) a;
     }
 
 grown-le : (t : Bool) (n : ℕ) → grown t n ≤ n + 1

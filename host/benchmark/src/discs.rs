@@ -99,17 +99,6 @@ pub fn two_large_vats(buffers: &mut Buffers) {
     two_of(buffers, LIMIT);
 }
 
-/// The same, mounted, with a packet open.
-pub fn open_two_vats(buffers: &mut Buffers) {
-    two_vats(buffers);
-    buffers.mount(1);
-}
-
-pub fn open_two_large_vats(buffers: &mut Buffers) {
-    two_large_vats(buffers);
-    buffers.mount(1);
-}
-
 fn two_of(buffers: &mut Buffers, numbers: usize) {
     let half = buffers.sectors() / 2;
     buffers.record_plain(half);

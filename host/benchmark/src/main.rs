@@ -1,4 +1,4 @@
-//! The recording core side by side with a tuned Rust version of the same fourteen
+//! The recording core side by side with a tuned Rust version of the same thirteen
 //! calls, on discs of 1,000, 36,000 and 360,000 sectors.
 //!
 //! `station-benchmark` prints Markdown; `--quick` leaves out the largest disc.
@@ -39,8 +39,7 @@ last table has 458 entries, so that its CRC of 2,028 bytes is part of each call 
 the ledger has no last table. `4,087 numbers`: ledger and last table have so many, all in use but on the disc of 1,000 sectors, where 491
 are; the table lies in eight own sectors before its ICB. A commit of them names seven again and records the eighth; `all
 recorded`: before each call one entry in each own sector is set, within the measured time, so that none is named again. `all
-saves of 4,087 numbers`: the disc is full of such commits. A go back of a batch takes the map of the other of two tables in turn; of 4,087 numbers
-all own sectors are then recorded, and on the disc of 1,000 sectors two of them. A number written was in use, so that a write and a release let its block go; `named twice`:
+saves of 4,087 numbers`: the disc is full of such commits. A number written was in use, so that a write and a release let its block go; `named twice`:
 another number has that block too; `unused`: the number had none. `image swept`: the whole image was read since the round before, ending at block 0. Before
 each write with links, four bytes of the ledger are set to mode 0 within the measured time. Tables of `dirty by all`, `all
 tables` and `look back to the first` have no entries: a CRC of 196 bytes. A view is of a number whose block is a run's entry; it fills

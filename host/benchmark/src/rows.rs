@@ -4,8 +4,7 @@ use crate::buffers::{Buffers, BATCH, HIGHEST, STAMP};
 use crate::discs::{
     all_plain, all_saves, all_vats, blank, clean, clean_large, clean_swept, dirty_by_all,
     dirty_by_one, long_run, many_extents, one_extent, open, open_empty, open_large, open_twice,
-    open_two_large_vats, open_two_vats, open_unused, open_without_vat, short_run, swept,
-    two_large_vats, two_vats,
+    open_unused, open_without_vat, short_run, swept, two_large_vats, two_vats,
 };
 use crate::tuned::{MOST_VIEWED, SECTOR};
 use crate::version::Version;
@@ -92,7 +91,7 @@ pub const CLOSE_PACKET: &str = "close packet, no table yet";
 pub const MOUNT: &str = "mount, clean";
 pub const TIME_OF: &str = "time of 0";
 
-pub static ROWS: [Row; 47] = [
+pub static ROWS: [Row; 45] = [
     row("begin, blank disc", blank, begin),
     row("begin, all data, no table", all_plain, begin).over_every_sector(),
     row(MOUNT, clean, mount).over_half_of_them(),
@@ -128,8 +127,6 @@ pub static ROWS: [Row; 47] = [
     row("look back 1", two_vats, look_back_one).over_half_of_them(),
     row("look back 1, 4,087 numbers", two_large_vats, look_back_one).over_half_of_them(),
     row("look back to the first", all_vats, look_back_all).over_every_sector(),
-    row("go back 1", open_two_vats, go_back_one).recording(1),
-    row("go back 1, 4,087 numbers", open_two_large_vats, go_back_one).recording(9),
     row(TIME_OF, clean, time_of_newest),
     row("time of 0, 4,087 numbers", clean_large, time_of_newest),
     row("close session", open, close_session).recording(257),
@@ -220,11 +217,6 @@ fn read(version: &Version, b: &mut Buffers, i: usize) -> u64 {
 
 fn look_back_one(version: &Version, b: &mut Buffers, _: usize) -> u64 {
     (version.look_back)(&b.image, &b.kinds, &mut b.roles, &mut b.ledger, 1)
-}
-
-/// To the other of two maps each time: the one before is always one back.
-fn go_back_one(version: &Version, b: &mut Buffers, _: usize) -> u64 {
-    (version.go_back)(&mut b.image, &mut b.kinds, &mut b.roles, &mut b.ledger, 1)
 }
 
 /// "follows the previous entry k times", as far as it goes.

@@ -1,4 +1,4 @@
-//! The two versions of the fourteen calls, with the same signatures.
+//! The two versions of the thirteen calls, with the same signatures.
 
 use crate::tuned;
 use station::raw;
@@ -7,14 +7,13 @@ type Scanning = fn(&[u8], &[u8], &mut [u8], &mut [u8]) -> u64;
 type Plain = fn(&[u8], &[u8], &[u8], &mut [u8]) -> u64;
 type Numbered = fn(&[u8], &[u8], &mut [u8], &mut [u8], u32) -> u64;
 type Committing = fn(&mut [u8], &mut [u8], &mut [u8], &mut [u8]) -> u64;
-type Going = fn(&mut [u8], &mut [u8], &mut [u8], &mut [u8], u32) -> u64;
 type Lending = fn(&mut [u8], &mut [u8], &mut [u8], &mut [u8], &[u8]) -> u64;
 type Writing = fn(&mut [u8], &mut [u8], &mut [u8], &mut [u8], u32, &[u8]) -> u64;
 type Closing = fn(&mut [u8], &mut [u8], &mut [u8], &mut [u8], u32, u32, u32, u32, u32) -> u64;
 type Reading = fn(&[u8], &[u8], &[u8], u32, &mut [u8]) -> u64;
 type Viewing = fn(&[u8], &[u8], &[u8], u32, u64, &mut [u8]) -> u64;
 
-/// Fourteen functions. They are called through pointers, so that neither version
+/// Thirteen functions. They are called through pointers, so that neither version
 /// is compiled into the loop that measures it.
 pub struct Version {
     pub begin: Scanning,
@@ -27,7 +26,6 @@ pub struct Version {
     pub commit_at: Lending,
     pub read: Reading,
     pub look_back: Numbered,
-    pub go_back: Going,
     pub time_of: Reading,
     pub close_session: Closing,
     pub view: Viewing,
@@ -45,7 +43,6 @@ pub const CORE: Version = Version {
     commit_at: raw::commit_at,
     read: raw::read,
     look_back: raw::look_back,
-    go_back: raw::go_back,
     time_of: raw::time_of,
     close_session: raw::close_session,
     view: raw::view,
@@ -63,7 +60,6 @@ pub const TUNED: Version = Version {
     commit_at: tuned::commit_at,
     read: tuned::read,
     look_back: tuned::look_back,
-    go_back: tuned::go_back,
     time_of: tuned::time_of,
     close_session: tuned::close_session,
     view: tuned::view,

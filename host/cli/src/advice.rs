@@ -47,9 +47,9 @@ pub fn of(refusal: Refusal) -> &'static str {
             "Commit what is written here and not saved yet; if there is nothing, begin the disc, with --anyway if something was recorded on it before the first save; leave another deck's disc as it is."
         }
         Refusal::ChainBroken => {
-            "Go fewer steps back: the saves before the broken one cannot be reached."
+            "Look back fewer steps: the saves before the broken one cannot be reached."
         }
-        Refusal::ChainEnded => "Go fewer steps back: list shows how many saves there are.",
+        Refusal::ChainEnded => "Look back fewer steps: list shows how many saves there are.",
         Refusal::NotInUse => {
             "Choose a number that is in use: contents tells them, and contents --back those of an earlier save."
         }

@@ -8,7 +8,6 @@ use crate::beginning;
 use crate::closing::{self, Closing};
 use crate::failure::Done;
 use crate::form::counted;
-use crate::going_back::GoingBack;
 use crate::ledger::Map;
 use crate::making::make_disc;
 use crate::reasons::{refused, Asked};
@@ -57,7 +56,7 @@ pub fn mount(given: &Arguments, around: &mut Surroundings) -> Done {
     say_done(around, text)
 }
 
-/// What the ledger that is replaced had and the save that is shown has not.
+/// What the ledger that is replaced had and the newest save has not.
 fn left_out(session: &Session, save: Option<&Map>) -> String {
     let Some(before) = session.kept_map() else {
         return match session.ledger_file {
@@ -169,26 +168,6 @@ pub fn look_back(given: &Arguments, around: &mut Surroundings) -> Done {
     session.keep_ledger()?;
     let text = format!("looking only, {k} back, table at block {table}\n{map}\n{left_out}");
     say_done(around, text)
-}
-
-/// Tells what it leaves out, as a mount does, and how it is undone: what was saved comes
-/// back, and what was written and not saved is gone.
-pub fn go_back(given: &Arguments, around: &mut Surroundings) -> Done {
-    let going = GoingBack::of(given)?;
-    let mut session = Session::open(given.path(0), Lent::Kept, around)?;
-    let table = going.record(&mut session)?;
-    let map = Map::of(&session.ledger);
-    let gone = going.told(&session, table);
-    // The call was done, so the ledger that it was lent is this disc's.
-    let before = session.kept_map();
-    let unsaved = before.map(|before| Unsaved::of(&session.disc, &before).not_in(&before, &map));
-    let lost = unsaved
-        .as_ref()
-        .is_some_and(|left| !left.written.is_empty());
-    let left_out = unsaved.map_or(String::new(), |left| left.left_out());
-    let undo = going.undo(&session, table, lost);
-    session.keep_both()?;
-    say_done(around, format!("{gone}{map}\n{left_out}{undo}"))
 }
 
 /// Roles and ledger are the command's own, and no file is changed.

@@ -33,7 +33,7 @@ const fn command(
     Command { syntax, run }
 }
 
-static COMMANDS: [Command; 24] = [
+static COMMANDS: [Command; 23] = [
     command(&syntax::NEW, calls::new),
     command(&syntax::BEGIN, calls::begin),
     command(&syntax::MOUNT, calls::mount),
@@ -46,7 +46,6 @@ static COMMANDS: [Command; 24] = [
     command(&syntax::READ, read),
     command(&syntax::VIEW, view),
     command(&syntax::LOOK_BACK, calls::look_back),
-    command(&syntax::GO_BACK, calls::go_back),
     command(&syntax::TIME, calls::time),
     command(&syntax::LIST, list),
     command(&syntax::STATUS, status),

@@ -8,13 +8,12 @@ use crate::arguments::{parse, Arguments, Asked};
 use crate::closing::{announce, Closing};
 use crate::failure::{Done, Failure};
 use crate::form::{counted, number};
-use crate::going_back::GoingBack;
 use crate::help;
 use crate::kinds::UNREADABLE;
 use crate::session::{Lent, Session};
 use crate::storing::Storing;
 use crate::surroundings::{say, Surroundings};
-use crate::syntax::{Syntax, CLOSE_SESSION, COMMIT, GO_BACK, STORE, WRITE};
+use crate::syntax::{Syntax, CLOSE_SESSION, COMMIT, STORE, WRITE};
 use crate::writing::{Saving, Writing};
 
 /// An unreadable sector, and how many of its bytes were recorded.
@@ -25,7 +24,6 @@ enum Call {
     Write(Writing),
     Store(Storing),
     Commit(Saving),
-    GoBack(GoingBack),
     CloseSession(Closing),
 }
 
@@ -35,7 +33,6 @@ impl Call {
             "write" => Call::Write(Writing::of(given, around)?),
             "store" => Call::Store(Storing::of(given, around)?),
             "commit" => Call::Commit(Saving::of(given)?),
-            "go-back" => Call::GoBack(GoingBack::of(given)?),
             _ => Call::CloseSession(Closing::of(given)?),
         })
     }
@@ -49,7 +46,6 @@ impl Call {
                 storing.record(session, watched)
             }
             Call::Commit(saving) => saving.record(session),
-            Call::GoBack(going) => going.record(session),
             Call::CloseSession(closing) => closing.record(session),
         }
     }
@@ -82,11 +78,10 @@ pub fn cut(given: &Arguments, around: &mut Surroundings) -> Done {
 
 fn cut_command(given: &Arguments) -> Result<&'static Syntax, Failure> {
     let name = given.text(1);
-    let found = [&WRITE, &STORE, &COMMIT, &GO_BACK, &CLOSE_SESSION]
+    let found = [&WRITE, &STORE, &COMMIT, &CLOSE_SESSION]
         .into_iter()
         .find(|command| command.name == name);
-    let fault =
-        || format!("only write, store, commit, go-back and close-session can be cut, not {name}");
+    let fault = || format!("only write, store, commit and close-session can be cut, not {name}");
     found.ok_or_else(|| given.wrong(fault()))
 }
 

@@ -24,7 +24,6 @@ Usage: station COMMAND DISC ...
   read DISC V           the block that number V names
   view DISC V           the run whose entry number V names
   look-back DISC K      show the save K before the newest, looking only
-  go-back DISC K        make the save K before the newest the present one
   time DISC K           when the save K before the newest was made
   list DISC             every save, newest first
   status DISC           what the disc is ready for, and what is not saved yet
@@ -41,9 +40,9 @@ Usage: station COMMAND DISC ...
 
 DISC is a file; its ledger is kept beside it in DISC.ledger, and the roles of
 its sectors in DISC.roles. Until a commit, only the ledger knows where a written
-block lies: a mount, a begin, a look-back and a go-back leave it out, and say
-so. With --back K, read, view, contents, space and map show the save K before
-the newest and leave the ledger alone, also beside somebody who records.
+block lies: a mount, a begin and a look-back leave it out, and say so. With
+--back K, read, view, contents, space and map show the save K before the newest
+and leave the ledger alone, also beside somebody who records.
 
 Exit status: 0 done; 1 to 20 the refusal's number; 64 wrong command line; 65
 the file is no disc, no raw image or no run; 66 a file cannot be read; 69 the
@@ -197,23 +196,7 @@ Usage: station look-back DISC K
 Shows the save K before the newest; K 0 is the newest. Then read and view show
 that save's blocks and runs, and nothing can be recorded until a mount. What was
 written and not saved is left out, and told. To look without this, give read,
-view, contents, space or map the option --back. To go on from that save, go-back
-makes it the present one.
-";
-
-pub const GO_BACK: &str = "\
-Usage: station go-back DISC K
-
-Makes the save K before the newest the present one: its numbers are saved again
-as a new save, without a time, and recording goes on from there. Nothing is
-erased: every save stays, one step further back, so 'station go-back DISC 1'
-undoes it. What was written and not saved is left out, and told; nobody gets
-that back. K 0 is the newest, saved once more. Tells the block of the save that
-it has gone to, that of the new table, the size and the numbers in use. Refused
-with 5 after a look-back: mount the disc first; with 17 if the disc is closed;
-with 9 if there are not so many saves, or 8 if they cannot be reached; and with
-14 if there is no room: it takes what a commit takes. To look before you go,
-give read, view, contents, space or map the option --back.
+view, contents, space or map the option --back.
 ";
 
 pub const TIME: &str = "\
@@ -340,14 +323,13 @@ pub const CUT: &str = "\
 Usage: station cut J [--torn] write DISC V [--from FILE] [--pad]
        station cut J [--torn] store DISC V [--from FILE]
        station cut J [--torn] commit DISC [--at TIME | --now]
-       station cut J [--torn] go-back DISC K
        station cut J [--torn] close-session DISC --main LENGTH,LOCATION
                       --reserve LENGTH,LOCATION --start N
 
-What a power cut leaves of this write, store, commit, go-back or closing: the
-first J of the sectors that it would record, and neither ledger nor roles.
-Changes the disc file; try it on a copy. A command that would be refused is
-refused, and then nothing is changed.
+What a power cut leaves of this write, store, commit or closing: the first J of
+the sectors that it would record, and neither ledger nor roles. Changes the disc
+file; try it on a copy. A command that would be refused is refused, and then
+nothing is changed.
 
   --torn   leave the next sector unreadable instead of blank
 ";
@@ -363,8 +345,8 @@ pub const DEMO: &str = "\
 Usage: station demo [--keep FOLDER]
 
 Records a disc of 31 sectors, cuts the power inside a commit, and shows that the
-last finished save is there; then a run longer than a block on another disc,
-where that one's space went, and the way back to its first save.
+last finished save is there; then a run longer than a block on another disc, and
+where that one's space went.
 Each step as an operator types it, with its output.
 
   --keep FOLDER   work in FOLDER and leave the files there

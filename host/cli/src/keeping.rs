@@ -22,8 +22,8 @@
 //! The roles are on the disk, with a copy of the new ledger, before that ledger takes
 //! its name; what they are until then is believed by no command:
 //!
-//! - Of a call that recorded, the bytes that changed, as a rule few, are written in
-//!   place, since a whole file would cost a byte for each sector of the disc. They wait until the
+//! - Of a call that recorded, the few bytes that changed are written in place, since
+//!   a whole file would cost a byte for each sector of the disc. They wait until the
 //!   sectors are recorded: from then on the old ledger is behind its disc, and only
 //!   begin, mount and look back are done, which make the roles anew.
 //! - Of a release or a closed packet, whose old ledger still fits, the copy is written

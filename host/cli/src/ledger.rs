@@ -89,16 +89,6 @@ impl Map {
         Some(self.table).filter(|table| *table != UNUSED)
     }
 
-    /// As a ledger has it from which this map is saved behind this table.
-    pub fn saved_behind(self, table: u32, packet_open: bool) -> Map {
-        Map {
-            table,
-            packet_open,
-            looking: false,
-            ..self
-        }
-    }
-
     /// The numbers whose blocks no save names yet: what was recorded behind the last
     /// table is in none.
     pub fn written_since(&self) -> Vec<u32> {

@@ -9,8 +9,7 @@
 //! - `calls`, `cut`, `demo`, `explain`, `images`: what the commands do;
 //! - `contents`, `listing`, `space`, `status`, `viewing`: of those that only tell;
 //! - `looking`: the save that a command looks at; `beginning`: what a begin asks before it;
-//! - `storing`, `writing`, `going_back`, `closing`: the calls that record, whole or to be
-//!   cut;
+//! - `storing`, `writing`, `closing`: the calls that record, whole or to be cut;
 //! - `streaming`: a run that comes as a stream, before it is stored;
 //! - `reasons`: why the core refused, in an operator's words;
 //! - `first_save`: what leads to one on a disc that has none; `room`: the room on a disc;
@@ -63,7 +62,6 @@ mod files;
 mod finding;
 mod first_save;
 mod form;
-mod going_back;
 mod help;
 mod icb;
 mod images;

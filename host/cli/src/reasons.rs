@@ -12,7 +12,7 @@ use crate::names::shown;
 use crate::older;
 use crate::room::Room;
 use crate::runs;
-use crate::saves::{back, each_save, newest};
+use crate::saves::{each_save, newest};
 use crate::session::{LedgerFile, Session};
 use crate::unsaved::Unsaved;
 
@@ -33,8 +33,6 @@ pub enum Asked<'a> {
     Release(u32),
     /// With the time that was typed, or with none.
     Commit(Option<&'a str>),
-    /// To make the save so many steps back the present one.
-    GoBack(u32),
     /// With this partition start.
     CloseSession(u32),
     Read(u32),
@@ -64,17 +62,6 @@ impl Blocks {
 /// Sectors of a closing: "an Anchor Volume Descriptor Pointer, 255 zero sectors and the
 /// table sector". Own sectors of its table are the last of the 255.
 const CLOSING: usize = 257;
-
-/// What a call takes beside what it is asked for: links, and own sectors of a save's
-/// table.
-fn among_them(links: usize, own: usize) -> String {
-    match (links, own) {
-        (0, 0) => String::new(),
-        (_, 0) => ", seven of them links".into(),
-        (0, own) => format!(", {own} of them of the table's own"),
-        (_, own) => format!(", seven of them links and {own} of the table's own"),
-    }
-}
 
 /// The failure of a call that altered nothing.
 pub fn refused(refusal: Refusal, asked: &Asked, session: &Session) -> Failure {
@@ -192,14 +179,10 @@ impl Why<'_> {
         let (disc, table) = (&self.disc, self.map.table);
         let (image, kinds) = self.session.disc.lent();
         let shows = format!("{disc} shows the save at block {table} since a look-back, and is");
-        match (station::is_closed(image, kinds), self.asked) {
-            (Ok(true), _) => format!(
+        match station::is_closed(image, kinds) {
+            Ok(true) => format!(
                 "{shows} closed: it can only be read. Mount it to see its newest save; take \
                  another disc to record on."
-            ),
-            (_, Asked::GoBack(k)) => format!(
-                "{shows} only looked at. Mount it, and then go back: 'station mount {disc}' and \
-                 'station go-back {disc} {k}'."
             ),
             _ => format!("{shows} only looked at. Mount it to record again."),
         }
@@ -278,11 +261,9 @@ impl Why<'_> {
 
     fn no_room(&self) -> String {
         let room = Room::of(&self.session.disc, Some(&self.map));
-        let back = self.gone_back();
         let (call, own, left) = match self.asked {
             Asked::Store { blocks, .. } => ("store", blocks.count() + 1, room.left),
             Asked::Commit(_) => ("commit", room.save(), 0),
-            Asked::GoBack(_) => ("go-back", back.save(), 0),
             Asked::CloseSession(_) => ("closing", CLOSING, 0),
             _ => ("write", 1, room.left),
         };
@@ -296,39 +277,29 @@ impl Why<'_> {
             _ => "",
         };
         let takes = number(room.links + own);
-        let among = among_them(
-            room.links,
-            match self.asked {
-                Asked::Commit(_) => room.own,
-                Asked::GoBack(_) => back.own,
-                _ => 0,
-            },
-        );
+        let among = self.among_them(&room);
         let must = match left {
             0 => String::new(),
             left if room.links == 0 => format!(" and must leave {left}"),
             left => format!(", and must leave {left}"),
         };
         let todo = self.what_is_left(&room);
-        let still = match self.asked {
-            Asked::GoBack(k) => format!(" --back {k} still shows that save."),
-            _ => String::new(),
-        };
-        format!(
-            "{blank} {verb} blank; this {call} takes {least}{takes}{among}{must}. {todo}{still}"
-        )
+        format!("{blank} {verb} blank; this {call} takes {least}{takes}{among}{must}. {todo}")
     }
 
-    /// The room for the map of an earlier save, behind the newest table.
-    fn gone_back(&self) -> Room {
-        let disc = &self.session.disc;
-        let k = match self.asked {
-            Asked::GoBack(k) => *k,
+    /// What a call takes beside what it is asked for: links, and own sectors of a save's
+    /// table.
+    fn among_them(&self, room: &Room) -> String {
+        let own = match self.asked {
+            Asked::Commit(_) => room.own,
             _ => 0,
         };
-        let save = back(disc, k).zip(newest(disc));
-        let save = save.map(|(save, newest)| save.saved_behind(newest.table, self.map.packet_open));
-        Room::of(disc, save.as_ref())
+        match (room.links, own) {
+            (0, 0) => String::new(),
+            (_, 0) => ", seven of them links".into(),
+            (0, own) => format!(", {own} of them of the table's own"),
+            (_, own) => format!(", seven of them links and {own} of the table's own"),
+        }
     }
 
     /// What is left to do where a call has no room.

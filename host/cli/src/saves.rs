@@ -48,21 +48,6 @@ pub fn map_at(disc: &Disc, table: u32) -> Option<Map> {
     found.ok().map(|_| Map::of(&ledger))
 }
 
-/// The map of the save so many steps back from the newest, if it is reached.
-pub fn back(disc: &Disc, k: u32) -> Option<Map> {
-    let (image, kinds) = disc.lent();
-    let (mut roles, mut ledger) = (vec![0; kinds.len()], [0; LEDGER]);
-    let found = station::look_back(image, kinds, &mut roles, &mut ledger, k);
-    found.ok().map(|_| Map::of(&ledger))
-}
-
-/// The block of the table so many steps back from this one, along steps that the core has
-/// taken already: each of these is a table, and nothing is scanned.
-pub fn table_back(disc: &Disc, table: u32, steps: u32) -> Option<u32> {
-    let (image, _) = disc.lent();
-    (0..steps).try_fold(table, |table, _| icb::previous(image, table))
-}
-
 /// The map of the newest save, if there is one.
 pub fn newest(disc: &Disc) -> Option<Map> {
     let (image, kinds) = disc.lent();

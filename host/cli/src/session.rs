@@ -22,8 +22,8 @@ use crate::surroundings::{waiting, Surroundings};
 /// Which ledger and which roles a call is lent.
 pub enum Lent {
     /// Those in the files. A ledger that is not this disc's is not lent, but zeros, and
-    /// roles that are not believed are not lent, but others, on which no answer depends
-    /// and which are not kept.
+    /// roles that are not believed are not lent, but others, which no call reads and
+    /// which are not kept.
     Kept,
     /// New ones, for begin, mount and look back, which do not read them: so they
     /// are done whatever a power cut left of the files.

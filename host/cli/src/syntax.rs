@@ -81,7 +81,6 @@ pub static VIEW: Syntax = Syntax {
     ..plain("view", &["DISC", "V"], help::VIEW)
 };
 pub static LOOK_BACK: Syntax = plain("look-back", &["DISC", "K"], help::LOOK_BACK);
-pub static GO_BACK: Syntax = plain("go-back", &["DISC", "K"], help::GO_BACK);
 pub static TIME: Syntax = plain("time", &["DISC", "K"], help::TIME);
 pub static LIST: Syntax = Syntax {
     options: &[("--times", None), ("--long", None)],

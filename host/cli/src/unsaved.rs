@@ -1,5 +1,5 @@
-//! What a ledger has and no save has yet: a mount, a begin, a look back or a go-back leaves
-//! it out, and a commit saves it.
+//! What a ledger has and no save has yet: a mount, a begin or a look back leaves it out,
+//! and a commit saves it.
 
 use crate::form::{counted, number, Disc};
 use crate::ledger::{in_words, Map};

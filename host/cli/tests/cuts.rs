@@ -131,13 +131,9 @@ fn what_cannot_be_cut() {
     assert!(told.contains(below), "{told}");
     let told = folder.fails("cut 0 mount run.disc", 64);
     assert!(
-        told.contains("only write, store, commit, go-back and close-session can be cut, not mount"),
+        told.contains("only write, store, commit and close-session can be cut, not mount"),
         "{told}"
     );
-    folder.fails("cut 0 go-back run.disc 3", 9);
-    let told = folder.fails("cut 2 go-back run.disc 1", 64);
-    let most = "J is at most 1: this go-back records 1 sector\n";
-    assert!(told.contains(most), "{told}");
     for line in [
         "cut",
         "cut 1",
@@ -150,5 +146,4 @@ fn what_cannot_be_cut() {
     folder.fails("cut 1 commit run.disc --torn", 64);
     folder.done("look-back run.disc 0");
     folder.fails("cut 0 commit run.disc", 5);
-    folder.fails("cut 0 go-back run.disc 0", 5);
 }

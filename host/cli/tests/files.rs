@@ -10,7 +10,7 @@ use common::{disc_file, padded, Folder, CLOSE_SESSION};
 use station::SECTOR;
 
 /// One line for each command that takes a disc.
-const LINES: [&str; 18] = [
+const LINES: [&str; 16] = [
     "begin run.disc",
     "mount run.disc",
     "write run.disc 0 --pad --from /proc/version",
@@ -22,10 +22,8 @@ const LINES: [&str; 18] = [
     "read run.disc 0",
     "view run.disc 0",
     "look-back run.disc 0",
-    "go-back run.disc 0",
     "export run.disc run.img",
     "cut 0 commit run.disc",
-    "cut 0 go-back run.disc 0",
     "cut 0 write run.disc 0 --pad --from /proc/version",
     "cut 0 store run.disc 0 --from /proc/version",
     "cut 0 close-session run.disc --main 1,2 --reserve 3,4 --start 5",

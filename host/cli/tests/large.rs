@@ -203,58 +203,32 @@ fn takes_what_it_says(folder: &Folder, size: u32) {
 #[test]
 fn no_room_for_a_save() {
     for (change, own) in [(&[][..], 1), (&[3][..], 2)] {
-        admitted_with_room("commit", own, |blank, closed| {
-            nearly_full(change, blank, closed)
-        });
-    }
-}
-
-/// And a go-back, whose own sectors are compared with those of the newest table: to that
-/// one itself, and to one whose first sector is another.
-#[test]
-fn no_room_to_go_back() {
-    for (line, own) in [("go-back 0", 1), ("go-back 1", 2)] {
-        admitted_with_room(line, own, |blank, closed| {
-            // Two own sectors and a table.
-            let folder = nearly_full(&[3], blank + 3, false);
-            folder.done("commit run.disc");
-            if closed {
-                folder.done("close run.disc");
-            }
-            folder
-        });
-    }
-}
-
-/// The command, and its K if it has one, on a disc with so many blank sectors and an open
-/// or closed packet.
-fn admitted_with_room(command: &str, own: usize, made: impl Fn(usize, bool) -> Folder) {
-    let (name, k) = command.split_once(' ').unwrap_or((command, ""));
-    let line = format!("{name} run.disc {k}");
-    for closed in [false, true] {
-        let (links, among) = match closed {
-            true => (
-                7,
-                format!("seven of them links and {own} of the table's own"),
-            ),
-            false => (0, format!("{own} of them of the table's own")),
-        };
-        let takes = links + own + 1;
-        for blank in takes - 2..=takes {
-            let folder = made(blank, closed);
-            let told = folder.run(&line);
-            if blank >= takes {
-                assert_eq!(told.status, 0, "{told:?}");
-                continue;
-            }
-            let why = refused(&folder, &line, 14);
-            let is = if blank == 1 {
-                "sector is"
-            } else {
-                "sectors are"
+        for closed in [false, true] {
+            let (links, among) = match closed {
+                true => (
+                    7,
+                    format!("seven of them links and {own} of the table's own"),
+                ),
+                false => (0, format!("{own} of them of the table's own")),
             };
-            let start = format!("{blank} {is} blank; this {name} takes {takes}, {among}. ");
-            assert!(why.starts_with(&start), "{why}");
+            let takes = links + own + 1;
+            for blank in takes - 2..=takes {
+                let folder = nearly_full(change, blank, closed);
+                let told = folder.run("commit run.disc");
+                if blank >= takes {
+                    assert_eq!(told.status, 0, "{told:?}");
+                    continue;
+                }
+                let why = refused(&folder, "commit run.disc", 14);
+                let is = if blank == 1 {
+                    "sector is"
+                } else {
+                    "sectors are"
+                };
+                let start =
+                    format!("{blank} {is} blank; this commit takes {takes}, {among}. Take another");
+                assert!(why.starts_with(&start), "{why}");
+            }
         }
     }
 }

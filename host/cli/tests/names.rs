@@ -45,7 +45,7 @@ fn words_of_a_command_line() {
         ),
         (
             &["cut", "0", NAME],
-            format!("only write, store, commit, go-back and close-session can be cut, not {TOLD}"),
+            format!("only write, store, commit and close-session can be cut, not {TOLD}"),
         ),
         (
             &["commit", "run.disc", "--at", NAME],

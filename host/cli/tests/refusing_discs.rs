@@ -39,7 +39,6 @@ fn a_damaged_ledger_counts_as_missing() {
         for line in [
             "release run.disc 0",
             "commit run.disc",
-            "go-back run.disc 0",
             "read run.disc 0",
             "view run.disc 0",
             "contents run.disc",
@@ -76,7 +75,7 @@ fn number_3_a_recorded_sector_after_a_blank_one() {
         assert!(why.starts_with(start), "{why}");
     }
     refused(&folder, CLOSE_SESSION, 3);
-    for line in ["release", "read", "view", "look-back", "go-back", "time"] {
+    for line in ["release", "read", "view", "look-back", "time"] {
         refused(&folder, &format!("{line} run.disc 0"), 3);
     }
     refused_with(&folder, "write run.disc 0", &BLOCK, 3);
@@ -109,7 +108,6 @@ fn number_4_a_ledger_that_is_missing_or_of_another_disc() {
         let closing = CLOSE_SESSION.replace("run.disc", disc);
         refused(&folder, &closing, 4);
         refused(&folder, &format!("release {disc} 1"), 4);
-        refused(&folder, &format!("go-back {disc} 7"), 4);
         refused(&folder, &format!("read {disc} 1"), 4);
         refused(&folder, &format!("view {disc} 1"), 4);
         refused(&folder, &format!("contents {disc}"), 4);
@@ -147,14 +145,6 @@ fn number_5_recording_while_looking_only() {
     }
     refused_with(&folder, "write run.disc 0", &BLOCK, 5);
     refused_with(&folder, "store run.disc 500", b"run", 5);
-    for k in [1, 7] {
-        let why = refused(&folder, &format!("go-back run.disc {k}"), 5);
-        let then = format!(
-            "and is only looked at. Mount it, and then go back: 'station mount run.disc' and \
-             'station go-back run.disc {k}'."
-        );
-        assert!(why.ends_with(&then), "{why}");
-    }
 }
 
 #[test]
@@ -163,12 +153,7 @@ fn numbers_6_and_7_begin_and_mount_at_the_wrong_time() {
     let why = refused(&folder, "begin run.disc", 6);
     assert_eq!(why, "run.disc has a save already, at block 11: mount it.");
     let folder = Folder::begun(31);
-    for line in [
-        "mount run.disc",
-        "look-back run.disc 0",
-        "go-back run.disc 0",
-        "time run.disc 0",
-    ] {
+    for line in ["mount run.disc", "look-back run.disc 0", "time run.disc 0"] {
         assert_eq!(refused(&folder, line, 7), "run.disc is blank: begin it.");
     }
 }
@@ -250,7 +235,7 @@ fn number_7_beside_another_discs_ledger() {
 #[test]
 fn numbers_8_and_9_looking_too_far_back() {
     let folder = Folder::example();
-    for line in ["look-back run.disc", "go-back run.disc", "time run.disc"] {
+    for line in ["look-back run.disc", "time run.disc"] {
         for k in ["3", "4294967295"] {
             let why = refused(&folder, &format!("{line} {k}"), 9);
             assert_eq!(why, "There are 3 saves: the oldest is 2 back.");
@@ -268,13 +253,6 @@ fn numbers_8_and_9_looking_too_far_back() {
             assert!(why.starts_with(start), "{why}");
         }
     }
-    // The ledger was kept for the disc as it was.
-    folder.done("mount run.disc");
-    for k in ["1", "7"] {
-        let why = refused(&folder, &format!("go-back run.disc {k}"), 8);
-        assert!(why.starts_with("Only 1 save can be reached"), "{why}");
-    }
-    folder.done("go-back run.disc 0");
     folder.done("look-back run.disc 0");
 }
 
@@ -307,10 +285,7 @@ fn number_17_a_closed_disc() {
         "commit run.disc --at 2099-02-29T14:05Z",
         CLOSE_SESSION,
         "close-session run.disc --main 1,2 --reserve 3,4 --start 400001",
-        "go-back run.disc 0",
-        "go-back run.disc 9",
         "cut 0 commit run.disc",
-        "cut 0 go-back run.disc 1",
         "cut 0 close-session run.disc --main 1,2 --reserve 3,4 --start 5",
     ] {
         let why = refused(&folder, line, 17);
@@ -324,6 +299,5 @@ fn number_17_a_closed_disc() {
     let told = "run.disc shows the save at block 1 since a look-back, and is closed: it can only \
                 be read. Mount it to see its newest save; take another disc to record on.";
     assert_eq!(why, told);
-    assert_eq!(refused(&folder, "go-back run.disc 0", 5), told);
     refused(&folder, "begin run.disc", 6);
 }

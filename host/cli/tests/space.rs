@@ -105,19 +105,13 @@ fn kept_up_by_each_command() {
     has(&folder, "113044444441103");
     folder.done("look-back run.disc 1");
     has(&folder, "003144444441113");
-    // Going back is no start: what is stored since the mount stays without a number.
-    folder.done("mount run.disc");
-    folder.done_with("store run.disc 0", &[7; SECTOR + 1]);
-    has(&folder, "1131444444411034444444220");
-    folder.done("go-back run.disc 1");
-    has(&folder, "00314444444111344444442213");
 }
 
 /// A line, and the calls that it makes; of a write or store the number changes.
 fn command(chosen: u32) -> (String, Vec<Call>) {
     let v = chosen % 5;
     let blocks = [Call::WriteUnnumbered; 2];
-    let (line, calls) = match chosen / 5 % 13 {
+    let (line, calls) = match chosen / 5 % 12 {
         0..=3 => (format!("write run.disc {v}"), vec![Call::Write(v)]),
         4 => (
             format!("store run.disc {v}"),
@@ -127,7 +121,6 @@ fn command(chosen: u32) -> (String, Vec<Call>) {
         7 | 8 => (format!("release run.disc {v}"), vec![Call::Release(v)]),
         9 => ("close run.disc".into(), vec![Call::ClosePacket]),
         10 => ("mount run.disc".into(), vec![Call::Mount]),
-        11 => (format!("go-back run.disc {v}"), vec![Call::GoBack(v)]),
         _ => ("look-back run.disc 1".into(), vec![Call::LookBack(1)]),
     };
     (line, calls)
@@ -141,7 +134,7 @@ fn kept_up_as_worked_out_afresh() {
     let mut since = Since::default();
     since.feed(Call::Begin, Answer::done(0));
     let (mut chosen, mut done) = (7u32, 0);
-    for _ in 0..300 {
+    for _ in 0..200 {
         chosen = chosen.wrapping_mul(1_664_525).wrapping_add(1_013_904_223);
         let (line, calls) = command(chosen >> 8);
         let length = if calls.len() > 1 { SECTOR + 9 } else { SECTOR };
@@ -162,7 +155,7 @@ fn kept_up_as_worked_out_afresh() {
         assert_eq!(folder.roles(), afresh, "{line}");
         folder.done("space run.disc");
     }
-    assert!(done > 100, "{done}");
+    assert!(done > 80, "{done}");
 }
 
 #[test]

@@ -182,8 +182,8 @@ fn judge(folder: &Folder, line: &str, before: &Known, after: &Known) {
         };
         assert!(same(before) || same(after), "{line}: roles of no command");
     }
-    let saves = ["commit", "go-back", "close-session"];
-    let saved = whole && saves.iter().any(|name| line.starts_with(name));
+    let saves = line.starts_with("commit") || line.starts_with("close-session");
+    let saved = whole && saves;
     let expected = if saved { &after.shown } else { &before.shown };
     assert_eq!(&left.shown, expected, "{line}");
 }
@@ -346,7 +346,7 @@ static RUN: [u8; 200 * SECTOR - 9] = [0xB4; 200 * SECTOR - 9];
 const STORE: &str = "store run.disc 1 --from run";
 
 /// The command lines, each on the example with its packet closed.
-const LINES: [(&str, usize); 12] = [
+const LINES: [(&str, usize); 10] = [
     ("write run.disc 0", 12),
     ("store run.disc 0", 13),
     ("commit run.disc", 12),
@@ -355,9 +355,7 @@ const LINES: [(&str, usize); 12] = [
     ("release run.disc 1", 9),
     ("close run.disc", 7),
     ("look-back run.disc 1", 10),
-    ("go-back run.disc 2", 12),
     ("cut 3 --torn commit run.disc", 6),
-    ("cut 5 go-back run.disc 2", 6),
     ("cut 8 write run.disc 0", 7),
 ];
 

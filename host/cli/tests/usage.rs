@@ -9,7 +9,7 @@ use std::process::Command;
 use common::{Folder, STATION};
 use station::SECTOR;
 
-const COMMANDS: [&str; 24] = [
+const COMMANDS: [&str; 23] = [
     "new",
     "begin",
     "mount",
@@ -22,7 +22,6 @@ const COMMANDS: [&str; 24] = [
     "read",
     "view",
     "look-back",
-    "go-back",
     "time",
     "list",
     "status",
@@ -48,7 +47,7 @@ fn help_of_the_program_and_of_each_command() {
         assert_eq!(folder.done(&format!("{command} -h")), help);
         assert!(help.lines().all(|line| line.len() <= 80), "{command}");
     }
-    for command in ["write", "store", "commit", "go-back", "close-session"] {
+    for command in ["write", "store", "commit", "close-session"] {
         let help = folder.done(&format!("{command} --help"));
         assert_eq!(folder.done(&format!("cut 3 {command} --help")), help);
     }
@@ -70,7 +69,6 @@ save run.disc | there is no command save |
 wirte run.disc 0 | there is no command wirte: did you mean write? |
 comit run.disc | there is no command comit: did you mean commit? |
 lookback run.disc 0 | there is no command lookback: did you mean look-back? |
-goback run.disc 0 | there is no command goback: did you mean go-back? |
 realese run.disc 1 | there is no command realese: did you mean release? |
 umount run.disc | there is no command umount: did you mean mount? |
 tiem run.disc 0 | there is no command tiem: did you mean time? |
@@ -127,8 +125,6 @@ view run.disc 0 --length 18446744073709551616 | --length is a number from 0 to 1
 view run.disc 0 --from x | view has no option --from | view
 view run.disc 4294967296 | V is a number from 0 to 4086: 4294967296 is too large | view
 look-back run.disc | look-back needs K | look-back
-go-back run.disc | go-back needs K | go-back
-go-back run.disc 1 2 | go-back has no use for 2 | go-back
 time run.disc | time needs K | time
 time run.disc 0 --utc | time has no option --utc | time
 list run.disc --long=8 | --long takes no value | list
@@ -202,7 +198,7 @@ const NO_NUMBERS: [(&str, &str); 9] = [
 ];
 
 /// What stands before a number, its name, and its true range.
-const RANGES: [(&str, &str); 15] = [
+const RANGES: [(&str, &str); 14] = [
     ("write run.disc", "V is a number from 0 to 4086"),
     ("store run.disc", "V is a number from 0 to 4086"),
     ("view run.disc", "V is a number from 0 to 4086"),
@@ -210,7 +206,6 @@ const RANGES: [(&str, &str); 15] = [
     ("release run.disc", "V is a number from 0 to 4086"),
     ("read run.disc", "V is a number from 0 to 4086"),
     ("look-back run.disc", "K is a number from 0 to 4294967295"),
-    ("go-back run.disc", "K is a number from 0 to 4294967295"),
     ("time run.disc", "K is a number from 0 to 4294967295"),
     ("cut", "J is a number from 0 to 4294967295"),
     ("new other.disc", "SECTORS is a number from 1 to 360000"),

@@ -14,13 +14,12 @@ pub enum Refusal {
     DiscUnsound = 3,
     /// "the ledger does not fit"
     LedgerUnfit = 4,
-    /// "write, release, close packet or commit with mode 2"; a closing's and a going
-    /// back's "mode 2 gives 5" (document 02)
+    /// "write, release, close packet or commit with mode 2"; a closing's "mode 2
+    /// gives 5" (document 02)
     ReadOnly = 5,
     /// "begin, and a table sector exists"
     VatExists = 6,
-    /// "mount or look back, and none exists"; of going back, "7, 8, 9 and 14 apply, in
-    /// that order" (document 02)
+    /// "mount or look back, and none exists"
     NoVat = 7,
     /// "a step of look back names a sector that is not a table sector"
     ChainBroken = 8,
@@ -42,8 +41,8 @@ pub enum Refusal {
     WouldBeVat = 15,
     /// "a timestamp given or found breaks these limits" (document 02)
     BadTimestamp = 16,
-    /// "write, release, commit, close packet or closing on a closed disc"; of going
-    /// back, "a closed disc gives 17" (document 02)
+    /// "write, release, commit, close packet or closing on a closed disc"
+    /// (document 02)
     SessionClosed = 17,
     /// "the partition start exceeds 400,000" (document 02)
     PartitionStart = 18,

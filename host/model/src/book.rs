@@ -2,8 +2,7 @@
 //! answers alone.
 //!
 //! "It gets nothing from the ledger, and from the disc only the page of a
-//! mount at the start", and of the saves older than it the pages that "a look back at
-//! the start shows" (document 02). [`Fed`] is all that it sees.
+//! mount at the start." [`Fed`] is all that it sees.
 //!
 //! Beside each page stands the timestamp that it was saved with: what is told of
 //! "k saves back" (document 02) turns on it, and nothing else does.
@@ -44,9 +43,6 @@ pub struct History {
     pub draft: Option<Snapshot>,
     /// The modification time of each page's table, whatever it is.
     pub stamps: Vec<Stamp>,
-    /// The saves "older than the start, as a look back at the start shows" them, the
-    /// newest of them first (document 02).
-    pub older: Vec<Snapshot>,
 }
 
 /// "The book is fed each call with its v or k, a write's lent block, and the
@@ -68,7 +64,7 @@ pub enum Ending {
 }
 
 impl Fed<'_> {
-    /// What a save records as its times: all but the second form of commit zeros.
+    /// What a commit records as its times: a plain one and a closing zeros.
     fn stamp(&self) -> Stamp {
         let given = self.written.filter(|_| self.call == Call::CommitAt);
         given.map_or(NO_STAMP, |stamp| stamp.try_into().unwrap_or(NO_STAMP))
@@ -135,7 +131,6 @@ impl History {
             pages: Vec::new(),
             draft: Some(Snapshot::default()),
             stamps: Vec::new(),
-            older: Vec::new(),
         }
     }
 
@@ -146,22 +141,12 @@ impl History {
             draft: Some(page.clone()),
             pages: vec![page],
             stamps: vec![vat.modified],
-            older: (1..)
-                .map_while(|k| disc.walk_back(k).ok())
-                .map(|found| Snapshot::found(disc, &found.vat))
-                .collect(),
         }
     }
 
     /// "the page k before the newest"
     pub fn page_back(&self, k: usize) -> Option<&Snapshot> {
         self.pages.iter().rev().nth(k)
-    }
-
-    /// "that save's page (for a save older than the start, as a look back at the start
-    /// shows it)" (document 02).
-    pub fn save_back(&self, k: usize) -> Option<&Snapshot> {
-        self.pages.iter().rev().chain(&self.older).nth(k)
     }
 
     /// The timestamp of that page.
@@ -193,7 +178,6 @@ impl History {
             }
             (Call::Release(v), Some(draft)) => draft.release(v),
             (Call::Commit | Call::CommitAt | Call::CloseSession(_), _) => self.save(fed),
-            (Call::GoBack(_), _) => self.save(fed),
             (Call::Write(_) | Call::Release(_), None) => {}
             (Call::Read(_) | Call::ClosePacket, _) => {}
             // "writes in all but the entry" (document 02), and a draft has entries alone
@@ -211,12 +195,8 @@ impl History {
         self.draft = None;
     }
 
-    /// "a copy of the draft is the newest page"; and going back "counts as a commit whose
-    /// page, copied as draft, is that save's page" (document 02).
+    /// "a copy of the draft is the newest page"
     fn save(&mut self, fed: &Fed) {
-        if let Call::GoBack(k) = fed.call {
-            self.draft = self.save_back(k as usize).cloned();
-        }
         if let Some(page) = self.draft.clone() {
             self.pages.push(page);
             self.stamps.push(fed.stamp());

@@ -1,4 +1,4 @@
-//! The fourteen calls on lent bytes.
+//! The thirteen calls on lent bytes.
 //!
 //! A call is a refusal or an [`Effect`]. [`effect`] alters nothing; [`perform`]
 //! carries it out.
@@ -38,8 +38,6 @@ pub enum Call {
     CommitAt,
     Read(u32),
     LookBack(u32),
-    /// "Going back for good" (document 02).
-    GoBack(u32),
     /// "A new call tells, for k saves back, the modification time" (document 02).
     TimeOf(u32),
     /// "Closing a session" (document 02).
@@ -87,14 +85,10 @@ impl Call {
         }
     }
 
-    /// The forms of commit; and "In the cut rule a closing counts as a commit", and so
-    /// does going back (document 02). Of each the table sector is the last that it
-    /// records.
+    /// The forms of commit; and "In the cut rule a closing counts as a commit"
+    /// (document 02). Of each the table sector is the last that it records.
     pub fn is_commit(self) -> bool {
-        matches!(
-            self,
-            Call::Commit | Call::CommitAt | Call::CloseSession(_) | Call::GoBack(_)
-        )
+        matches!(self, Call::Commit | Call::CommitAt | Call::CloseSession(_))
     }
 
     /// "In the cut rule this and any later call that only tells counts as a
@@ -104,7 +98,7 @@ impl Call {
     }
 }
 
-/// "Every call is lent image, kinds and ledger", eleven of them the roles, and some one
+/// "Every call is lent image, kinds and ledger", ten of them the roles, and some one
 /// more buffer: a block, a timestamp, an answer, or one for a part of a run. The
 /// others do not look at these.
 #[derive(Clone, Copy)]
@@ -116,7 +110,7 @@ pub struct Lent<'a> {
     pub buffer: &'a [u8],
 }
 
-/// The first block that a call takes which records: behind its links.
+/// The first block that a write, commit or closing takes: behind its links.
 fn next_data_block(volume: &Volume) -> u32 {
     volume.recorded + volume.links()
 }
@@ -136,7 +130,6 @@ pub fn effect(lent: &Lent, call: Call) -> Result<Effect, Refusal> {
         Call::ClosePacket => close_packet_effect(writable_volume(lent, &disc)?),
         Call::Commit => commit_effect(&disc, writable_volume(lent, &disc)?, &NO_STAMP),
         Call::CommitAt => commit_at_effect(lent, &disc, writable_volume(lent, &disc)?),
-        Call::GoBack(k) => go_back_effect(lent, &disc, writable_volume(lent, &disc)?, k),
         Call::TimeOf(k) => time_effect(&disc, k),
         Call::CloseSession(anchor) => {
             close_session_effect(&disc, writable_volume(lent, &disc)?, &anchor)
@@ -169,8 +162,7 @@ fn fitting_volume(lent: &Lent, disc: &Disc) -> Result<Volume, Refusal> {
 
 /// Refusal 5: "write, release, close packet or commit with mode 2"; and refusal
 /// 17, "write, release, commit, close packet or closing on a closed disc, tested
-/// directly after 5" (document 02). Going back has both: "mode 2 gives 5", and "a
-/// closed disc gives 17".
+/// directly after 5" (document 02).
 fn writable_volume(lent: &Lent, disc: &Disc) -> Result<Volume, Refusal> {
     let volume = fitting_volume(lent, disc)?;
     refuse(volume.mode == READ_ONLY, Refusal::ReadOnly)?;
@@ -261,20 +253,6 @@ fn commit_effect(disc: &Disc, volume: Volume, stamp: &Stamp) -> Result<Effect, R
     save_effect(disc, volume, Vec::new(), stamp)
 }
 
-/// "One call records the map of k saves back as a new save, whose previous table is the
-/// one mount would find; unsaved entries are dropped": of the lent ledger only the mode
-/// counts, which decides the links. "7, 8, 9 and 14 apply, in that order" (document 02).
-fn go_back_effect(lent: &Lent, disc: &Disc, volume: Volume, k: u32) -> Result<Effect, Refusal> {
-    let newest = disc.walk_back(0)?;
-    let wanted = disc.walk_back(k)?;
-    let draft = Volume {
-        last_vat: newest.block,
-        ..Volume::showing(disc, &wanted, volume.mode)
-    };
-    let saved = commit_effect(disc, draft, &NO_STAMP)?;
-    Ok(saved.naming_anew(lent.roles))
-}
-
 /// Data sectors, which only a closing has and which are "without a number"; then the
 /// table's own sectors that are recorded, which at a closing "take the last of the
 /// 255"; then the ICB. "Commit needs blank sectors for what it records", and "Closing
@@ -363,7 +341,7 @@ fn view_effect(
     Ok(Effect::told(shown.len() as u32, shown))
 }
 
-/// Any of the fourteen, with the roles and the last buffer that some are lent. A
+/// Any of the thirteen, with the roles and the last buffer that some are lent. A
 /// refusal "alters no lent byte".
 pub fn perform(
     image: &mut [u8],

@@ -4,7 +4,7 @@
 
 use crate::disc::{record, Disc, Sector};
 use crate::ledger::{Volume, PACKET_OPEN};
-use crate::roles::{let_go, named_anew, scan, Role};
+use crate::roles::{let_go, scan, Role};
 
 #[derive(Clone, Debug, PartialEq, Eq)]
 pub struct Effect {
@@ -57,7 +57,7 @@ impl Effect {
         }
     }
 
-    /// A write or a save: links, then data sectors with their roles, the
+    /// A write, commit or closing: links, then data sectors with their roles, the
     /// last of which is told. "After each call that is done, the ledger's recorded
     /// equals the disc's."
     pub fn recorded(mut volume: Volume, data: Vec<(Sector, Role)>) -> Effect {
@@ -85,18 +85,7 @@ impl Effect {
         self
     }
 
-    /// The same where the ledger has got another map, among whose blocks are such as no
-    /// number named before, and among those named before such as it does not name.
-    pub fn naming_anew(mut self, lent: &[u8]) -> Effect {
-        let mut roles = self
-            .volume
-            .as_ref()
-            .map_or(Vec::new(), |volume| named_anew(lent, volume));
-        roles.append(&mut self.roles);
-        Effect { roles, ..self }
-    }
-
-    /// Sets the roles that change, a later one in the place of an earlier one.
+    /// Sets the roles that change.
     pub fn set_roles(&self, roles: &mut [u8]) {
         for (block, role) in &self.roles {
             roles[*block as usize] = *role as u8;

@@ -1,4 +1,4 @@
-//! An independent model of document 01: the disc, the ledger, the fourteen calls
+//! An independent model of document 01: the disc, the ledger, the thirteen calls
 //! and the book that the cut rule speaks of. It is written from the text of
 //! documents 01 and 02 alone and shares nothing with the recording core, so that
 //! the two can be held against each other.
@@ -22,7 +22,7 @@
 //! - [`ledger`]: the volume's working state and when it fits the disc;
 //! - [`save`]: what a save records of a table;
 //! - [`roles`]: what each sector is used for, by a scan and from the history;
-//! - [`effect`]: what a call does; [`calls`]: the fourteen calls;
+//! - [`effect`]: what a call does; [`calls`]: the thirteen calls;
 //! - [`book`]: pages and draft, what the cut rule promises.
 //!
 //! [`Volume`]: ledger::Volume

@@ -2,8 +2,7 @@
 //! 0 to 6".
 //!
 //! A call sets some of them ([`Effect`](crate::effect::Effect)): begin, mount and
-//! look back all, by a [`scan`]. Going back is no such start: it keeps them up, as a
-//! write and a release do. Apart from this a [`Since`] works them out afresh.
+//! look back all, by a [`scan`]. Apart from this a [`Since`] works them out afresh.
 
 use crate::answer::Answer;
 use crate::calls::Call;
@@ -86,24 +85,6 @@ pub fn scan(disc: &Disc, volume: &Volume) -> Vec<(u32, Role)> {
 pub fn let_go(lent: &[u8], volume: &Volume, block: u32) -> Option<(u32, Role)> {
     let was_in_use = lent.get(block as usize) == Some(&(Role::InUse as u8));
     (was_in_use && !volume.names(block)).then_some((block, Role::Superseded))
-}
-
-/// What going back makes of the roles that are lent, as its map names other blocks than
-/// the one before: a block that the map names again is in use, and one that it no longer
-/// names superseded. Blocks without a number stay so, and so do tables and what the kind
-/// decides.
-pub fn named_anew(lent: &[u8], volume: &Volume) -> Vec<(u32, Role)> {
-    let named = marked(lent.len() as u32, volume.entries().iter().copied());
-    let changed = |(lent, named): (&u8, bool)| match (*lent, named) {
-        (role, false) if role == Role::InUse as u8 => Some(Role::Superseded),
-        (role, true) if role == Role::Superseded as u8 => Some(Role::InUse),
-        _ => None,
-    };
-    let roles = lent.iter().zip(named).map(changed);
-    (0..)
-        .zip(roles)
-        .filter_map(|(block, role)| Some((block, role?)))
-        .collect()
 }
 
 /// "the history since begin, mount or look back": each call done, that one the

@@ -123,17 +123,6 @@ extern "C" {
         ledger_length: usize,
         k: u32,
     ) -> u64;
-    pub fn station_go_back_roles(
-        image: *mut u8,
-        image_length: usize,
-        kinds: *mut u8,
-        kinds_length: usize,
-        roles: *mut u8,
-        roles_length: usize,
-        ledger: *mut u8,
-        ledger_length: usize,
-        k: u32,
-    ) -> u64;
     pub fn station_time_of(
         image: *const u8,
         image_length: usize,

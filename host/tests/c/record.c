@@ -1,10 +1,9 @@
 /*
  * Records on a small disc through the C header: begin, writes, commits, a
  * closed packet, and then what mount, read, look back, time of and the roles show
- * of it; records a run longer than a block on another one and views it; goes back
- * to an earlier save, and back again; closes the session of a larger disc; and saves
- * more numbers than one sector holds. Exits 0 if every answer is right, and names the
- * first that is not.
+ * of it; records a run longer than a block on another one and views it; closes the
+ * session of a larger one; and saves more numbers than one sector holds. Exits 0 if
+ * every answer is right, and names the first that is not.
  */
 #include <stdio.h>
 #include <stdlib.h>
@@ -47,13 +46,6 @@ static uint8_t run_roles[RUN_SECTORS];
 static uint8_t run[2 * STATION_SECTOR];
 static uint8_t viewed[STATION_MOST_VIEWED + 1];
 
-/* A disc with room for a number that is written twice. */
-#define BACK_SECTORS 20
-
-static uint8_t back_image[BACK_SECTORS * STATION_SECTOR];
-static uint8_t back_kinds[BACK_SECTORS];
-static uint8_t back_roles[BACK_SECTORS];
-
 /* A disc with room for links and a closing behind its first block. */
 #define CLOSED_SECTORS 265
 
@@ -73,14 +65,12 @@ static uint8_t large_roles[LARGE_SECTORS];
 #define LEDGER ledger, sizeof ledger
 #define DISC image, sizeof image, kinds, sizeof kinds
 #define RUN_DISC run_image, sizeof run_image, run_kinds, sizeof run_kinds
-#define BACK_DISC back_image, sizeof back_image, back_kinds, sizeof back_kinds
 #define CLOSED_DISC closed_image, sizeof closed_image, closed_kinds, sizeof closed_kinds
 #define LARGE_DISC large_image, sizeof large_image, large_kinds, sizeof large_kinds
 
 /* What a call is lent that alters disc or ledger. */
 #define LENT DISC, roles, sizeof roles, LEDGER
 #define RUN_LENT RUN_DISC, run_roles, sizeof run_roles, LEDGER
-#define BACK_LENT BACK_DISC, back_roles, sizeof back_roles, LEDGER
 #define CLOSED_LENT CLOSED_DISC, closed_roles, sizeof closed_roles, LEDGER
 #define LARGE_LENT LARGE_DISC, large_roles, sizeof large_roles, LEDGER
 
@@ -339,43 +329,6 @@ static void view_the_run(void)
     expect("a buffer too long", view(0, 0, sizeof viewed), STATION_LENT_LENGTH, 0);
 }
 
-/* Number 0 reads this byte. */
-static void reads_back(const char *what, int byte)
-{
-    memset(block, 0, sizeof block);
-    expect("read 0", station_read(BACK_DISC, LEDGER, 0, block, sizeof block), STATION_DONE, 0);
-    hold(what, block[0] == byte && block[STATION_SECTOR - 1] == byte);
-}
-
-/* A number is written and saved twice; the first save is the present one again, and then
- * the second. What is written and not saved is dropped. */
-static void go_back(void)
-{
-    expect("begin", station_begin_roles(BACK_LENT), STATION_DONE, 0);
-    expect("go back without a save", station_go_back_roles(BACK_LENT, 0), STATION_NO_VAT, 0);
-    memset(block, 0x11, sizeof block);
-    expect("write 0", station_write_roles(BACK_LENT, 0, block, sizeof block), STATION_DONE, 0);
-    expect("commit", station_commit_roles(BACK_LENT), STATION_DONE, 1);
-    memset(block, 0x22, sizeof block);
-    expect("write 0 again", station_write_roles(BACK_LENT, 0, block, sizeof block), STATION_DONE, 2);
-    expect("commit again", station_commit_roles(BACK_LENT), STATION_DONE, 3);
-    expect("go back 2", station_go_back_roles(BACK_LENT, 2), STATION_CHAIN_ENDED, 0);
-    expect("release 0", station_release_roles(BACK_LENT, 0), STATION_DONE, 0);
-    expect("go back 1", station_go_back_roles(BACK_LENT, 1), STATION_DONE, 4);
-    hold("last table 4, packet open",
-         entry(STATION_LIMIT + 2) == 4 && entry(STATION_LIMIT + 3) == 1);
-    hold("0 in use, 2 superseded", memcmp(back_roles, "\0\3\1\3\3\6", 6) == 0);
-    reads_back("0 reads 11 again", 0x11);
-    expect("look back 1", station_look_back_roles(BACK_LENT, 1), STATION_DONE, 3);
-    expect("go back while looking", station_go_back_roles(BACK_LENT, 1), STATION_READ_ONLY, 0);
-    expect("mount", station_mount_roles(BACK_LENT), STATION_DONE, 1);
-    reads_back("0 reads 11 after a mount", 0x11);
-    expect("go back 1 again", station_go_back_roles(BACK_LENT, 1), STATION_DONE, 12);
-    hold("2 in use, 0 superseded", back_roles[0] == STATION_ROLE_SUPERSEDED &&
-                                       back_roles[2] == STATION_ROLE_IN_USE);
-    reads_back("0 reads 22 again", 0x22);
-}
-
 /* The start exceeds 400,000, then not; the pointer's tag and extents. */
 static void close_the_session(void)
 {
@@ -441,12 +394,11 @@ int main(void)
     tell_the_times();
     record_a_run();
     view_the_run();
-    go_back();
     lend_wrongly();
     mount_and_read();
     close_the_session();
     save_many_numbers();
-    puts("recorded, mounted, read, looked back, told the times and the space, viewed a run, went"
-         " back, closed and saved many numbers");
+    puts("recorded, mounted, read, looked back, told the times and the space, viewed a run, closed"
+         " and saved many numbers");
     return 0;
 }

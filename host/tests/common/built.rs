@@ -85,7 +85,6 @@ fn calls(station: &Station) -> Vec<Call> {
     calls.push(Call::WriteUnnumbered);
     calls.extend(numbers.iter().map(|v| Call::View { v: *v, offset: 0 }));
     calls.extend(steps.clone().map(Call::LookBack));
-    calls.extend(steps.clone().map(Call::GoBack));
     calls.extend(steps.map(Call::TimeOf));
     calls
 }

@@ -38,7 +38,7 @@ impl Core {
         }
     }
 
-    /// Any of the fourteen, with the last buffer that some are lent.
+    /// Any of the thirteen, with the last buffer that some are lent.
     pub fn perform(&mut self, call: Call, buffer: &mut [u8]) -> u64 {
         self.perform_short(call, buffer, Short::default())
     }
@@ -60,7 +60,6 @@ impl Core {
             Call::CommitAt => raw::commit_at(image, kinds, roles, ledger, buffer),
             Call::Read(v) => raw::read(image, kinds, ledger, v, buffer),
             Call::LookBack(k) => raw::look_back(image, kinds, roles, ledger, k),
-            Call::GoBack(k) => raw::go_back(image, kinds, roles, ledger, k),
             Call::TimeOf(k) => raw::time_of(image, kinds, ledger, k, buffer),
             Call::CloseSession(Anchor {
                 main,

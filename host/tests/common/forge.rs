@@ -351,7 +351,7 @@ pub fn number(random: &mut Random, bound: usize) -> u32 {
 
 /// Any call, with numbers near those that mean something.
 pub fn call(random: &mut Random, size: usize, tables: usize) -> Call {
-    match random.below(34) {
+    match random.below(31) {
         0 => Call::Begin,
         1 => Call::Mount,
         2..=7 => Call::Write(number(random, size)),
@@ -364,7 +364,6 @@ pub fn call(random: &mut Random, size: usize, tables: usize) -> Call {
         21..=23 => Call::TimeOf(number(random, tables)),
         24 => Call::CloseSession(anchor(random)),
         25..=26 => Call::WriteUnnumbered,
-        27..=29 => Call::GoBack(number(random, tables)),
         _ => Call::View {
             v: number(random, size),
             offset: runs::offset(random),

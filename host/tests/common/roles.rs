@@ -9,8 +9,8 @@ use station_model::roles::{Role, Since};
 use super::closing::CLOSE;
 use super::station::Station;
 
-/// The eleven calls that are lent roles.
-pub const KEEPING: [Call; 11] = [
+/// The ten calls that are lent roles.
+pub const KEEPING: [Call; 10] = [
     Call::Begin,
     Call::Mount,
     Call::Write(0),
@@ -21,7 +21,6 @@ pub const KEEPING: [Call; 11] = [
     Call::CommitAt,
     CLOSE,
     Call::LookBack(0),
-    Call::GoBack(0),
 ];
 
 /// The roles are these digits, and the rest of the disc is blank.

@@ -9,7 +9,7 @@ use station_model::calls::Call;
 use super::closing::CLOSING;
 
 /// The calls, in the order of their columns.
-const NAMES: [&str; 14] = [
+const NAMES: [&str; 13] = [
     "begin",
     "mount",
     "write",
@@ -23,7 +23,6 @@ const NAMES: [&str; 14] = [
     "time of",
     "closing",
     "view",
-    "go back",
 ];
 const CALLS: usize = NAMES.len();
 
@@ -128,7 +127,6 @@ fn column(call: Call) -> usize {
         Call::TimeOf(_) => 10,
         Call::CloseSession(_) => 11,
         Call::View { .. } => 12,
-        Call::GoBack(_) => 13,
     }
 }
 
@@ -151,7 +149,6 @@ const POSSIBLE: [&[usize]; CALLS] = [
     &[0, 1, 2, 3, 7, 8, 9, 16],
     &[0, 1, 2, 3, 4, 5, 14, 17, 18],
     &[0, 1, 2, 3, 4, 10, 11, 19, 20],
-    &[0, 1, 2, 3, 4, 5, 7, 8, 9, 14, 17],
 ];
 
 impl Outcomes {
@@ -165,11 +162,6 @@ impl Outcomes {
                 *count += more;
             }
         }
-    }
-
-    /// How often this call, whatever its number, answered this outcome.
-    pub fn of(&self, call: Call, outcome: usize) -> usize {
-        self.0[column(call)][outcome]
     }
 
     pub fn calls(&self) -> usize {

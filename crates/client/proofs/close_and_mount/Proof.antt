@@ -86,7 +86,7 @@ returns-2 c =
     let s = start_of o in
     let both = one o.close.last.0 o.close.last.1.0 o.close.last.1.1.0 o.close.last.1.1.1.0 (mount) l.mount.ensures ∙ goes_on (X s) (first_part s) [] (begun o) (mount) e.if1.left in (
       both,
-      λ a. mounted-shows (X s) s.args.fresh (omega arith) s.args.v s.args.block.now (closing s) refl refl a both,
+      λ a. mounted-shows (X s) s.args.fresh (omega arith) s.args.v s.args.block.now (closing s) refl a both,
     )
 
 pub close-and-mount-spec : {M : Type 1} → statement M

@@ -82,7 +82,7 @@ returns-2 c =
     let s = start_of o in
     let both = one o.save.last.0 o.save.last.1.0 o.save.last.1.1.0 o.save.last.1.1.1.0 (mount) l.mount.ensures ∙ goes_on (X s) (first_part s) [] (begun o) (mount) e.if1.left in (
       both,
-      λ a. mounted-shows (X s) s.args.fresh (omega arith) s.args.v s.args.block.now (commit none) refl refl a both,
+      λ a. mounted-shows (X s) s.args.fresh (omega arith) s.args.v s.args.block.now (commit none) refl a both,
     )
 
 pub save-and-mount-spec : {M : Type 1} → statement M

@@ -90,7 +90,7 @@ returns-2 c =
     let s = start_of o in
     let both = one-read o.save-and-mount.last.0 o.save-and-mount.last.1.0 o.save-and-mount.last.1.1.0 o.save-and-mount.last.1.1.1.0 s.args.v s.args.out.now l.read.ensures ∙ goes_on (X s) (first_part s) [] (begun o) (read s.args.v s.args.out.now) e.if1.left in (
       both,
-      λ a long. given-behind (X s) (saved s) (saved-reads (X s) s.args.fresh (omega arith) s.args.v s.args.block.now (commit none) refl refl a s.args.out.now long) both (begun o) (ap (λ (y : After). y.buffer) l.read.ensures),
+      λ a long. given-behind (X s) (saved s) (saved-reads (X s) s.args.fresh (omega arith) s.args.v s.args.block.now (commit none) refl a s.args.out.now long) both (begun o) (ap (λ (y : After). y.buffer) l.read.ensures),
     )
 
 pub save-and-read-spec : {M : Type 1} → statement M

@@ -107,7 +107,7 @@ older c a long =
     let k : List ℕ = b.save-apart.last.1.1.0 in
     let m : List ℕ = b.save-apart.last.1.1.1.0 in
     given
-    (long-ago-reads (X s) s.args.fresh (omega arith) s.args.v (commit none) refl refl s.args.x.now (again s) a (morning b.save-apart.last.0 b.save-apart.last.1.0 k m) s.args.old.now (later b k m s.args.old.now a refl refl long))
+    (long-ago-reads (X s) s.args.fresh (omega arith) s.args.v (commit none) refl s.args.x.now (again s) a (morning b.save-apart.last.0 b.save-apart.last.1.0 k m) s.args.old.now (later b k m s.args.old.now a refl refl long))
     c.show-back.ensures.0 c.show-back.ensures.1
 
 save-requires : tie.Need-save-requires

@@ -75,13 +75,13 @@ links-are : (c : tie.Else2) → let j = called c in let s = start_of j in (linke
 links-are c = let j = called c in let s = start_of j in (linked j).links-ahead.ensures (ledger-accepted (D s) (L s) (call s) (done c))
 
 counts-are : (c : tie.Else2) → let j = called c in let s = start_of j in let own = (owned j).own-ahead.result in
-    (closing_length - own ≡ length (first_of s)) × (own + 1 ≡ length (save_of (D s) (unpack (L s)) (first_of s) no_stamp))
+    (closing_length - own ≡ length (first_of s)) × (own + 1 ≡ length (save_of (D s) (L s) (first_of s) no_stamp))
 counts-are c =
     let j = called c in let s = start_of j in let a = s.args in
     let k = closing-own (D s) (L s) a.main a.reserve a.start (done c) in
     closing-counts (D s) (L s) a.main a.reserve a.start (owned j).own-ahead.result (done c) ((owned j).own-ahead.ensures.1 k.0 k.1 k.2)
 
-placed_at : (c : tie.Else2) → let j = called c in let s = start_of j in Placed (D s) (L s) (length (first_of s)) (length (save_of (D s) (unpack (L s)) (first_of s) no_stamp)) j.close-session.result
+placed_at : (c : tie.Else2) → let j = called c in let s = start_of j in Placed (D s) (L s) (length (first_of s)) (length (save_of (D s) (L s) (first_of s) no_stamp)) j.close-session.result
 placed_at c = let j = called c in let s = start_of j in closing-placed (D s) (L s) s.args.main s.args.reserve s.args.start (done c) j.close-session.ensures
 
 lengths-requires : tie.Need-lengths-requires

@@ -68,7 +68,7 @@ links-are c = let j = called c in let s = start_of j in (linked j).links-ahead.e
 
 -- its save
 abbrev save : tie.Start → List Sector
-save s = save_of (D s) (unpack (L s)) [] no_stamp
+save s = save_of (D s) (L s) [] no_stamp
 
 placed_at : (c : tie.Else2) → let j = called c in let s = start_of j in Placed (D s) (L s) 0 (length (save s)) j.commit.result
 placed_at c = let j = called c in let s = start_of j in commit-placed (D s) (L s) none (done c) j.commit.ensures

@@ -1,16 +1,16 @@
-//! The fourteen calls, each with its refusals in the order of its tests.
+//! The thirteen calls, each with its refusals in the order of its tests.
 
 use std::ops::Range;
 
 use super::anchor::{has_pointer_tag, put_pointer, Anchor, MOST_START};
 use super::answer::{refuse, Answer, Refusal};
-use super::disc::{Disc, Found, BEFORE_TABLE, DATA, LINK};
+use super::disc::{Disc, BEFORE_TABLE, DATA, LINK};
 use super::fields::u32_at;
 use super::ledger::{self, put_u32, Ledger, LEDGER};
 use super::ledger::{IDLE, LAST_VAT, MODE, PACKET_OPEN, READ_ONLY, RECORDED, SIZE};
 use super::roles::{self, IN_USE, TABLE, UNNUMBERED};
 use super::run::{self, MOST_VIEWED};
-use super::save::{own_sectors, Save, Table};
+use super::save::{Save, Table};
 use super::table::{recognise, Sector, LIMIT, NONE};
 use super::time::{self, Stamp, NO_STAMP, TIME};
 
@@ -192,53 +192,13 @@ pub fn close_session(
     Ok(icb)
 }
 
-/// "One call records the map of k saves back as a new save, whose previous table is the
-/// one mount would find; unsaved entries are dropped" (document 02). The room is known
-/// before the ledger is filled.
-pub fn go_back(
-    image: &mut [u8],
-    kinds: &mut [u8],
-    roles: &mut [u8],
-    ledger: &mut [u8],
-    k: u32,
-) -> Answer {
-    let disc = Disc::lent(image, kinds)?;
-    let ledger = lent_ledger(&disc, roles, ledger)?;
-    let recorded = ledger::writable(ledger, &disc)?.recorded;
-    let newest = disc.newest_vat(recorded).ok_or(Refusal::NoVat)?;
-    let found = disc.walk_back(newest, k)?;
-    let room = (kinds.len() - recorded).checked_sub(ledger::links(ledger, recorded) + 1);
-    let room = room.ok_or(Refusal::NoRoom)?;
-    let short = own_sectors(found.vat.numbers) > room;
-    refuse(
-        short && own_recorded(&found, &newest) > room,
-        Refusal::NoRoom,
-    )?;
-    let mode = u32_at(ledger, MODE);
-    ledger::show(ledger, &found, recorded, mode);
-    put_u32(ledger, LAST_VAT, newest.block);
-    roles::name_anew(roles, ledger);
-    let save = Save::of(&table(ledger), Some(newest.vat));
-    record_save(image, kinds, roles, ledger, &save, save.fresh, &NO_STAMP)
-}
-
-/// How many own sectors a save of the map found records behind the newest table. It is
-/// asked only where room is short, and copies the map, which may lie in several places.
-#[cold]
-fn own_recorded(found: &Found, newest: &Found) -> usize {
-    let mut map = [0; 4 * LIMIT];
-    let entries = &mut map[..4 * found.vat.numbers];
-    found.vat.copy_entries(entries);
-    Save::of(&Table::of(entries, newest.block), Some(newest.vat)).fresh
-}
-
 /// The table of the ledger's map: "previous = the ledger's last table".
 #[inline(always)]
 fn table(ledger: &Ledger) -> Table<'_> {
     Table::of(ledger::entries(ledger), u32_at(ledger, LAST_VAT))
 }
 
-/// Either form of commit, going back, and a closing: so many data sectors before the ICB, of which
+/// Either form of commit, and a closing: so many data sectors before the ICB, of which
 /// the last are own sectors. "Commit needs blank sectors for what it records" (document
 /// 02).
 #[inline(always)]

@@ -1,4 +1,4 @@
-//! A tuned version of the documents' fourteen calls, for the comparison alone.
+//! A tuned version of the documents' thirteen calls, for the comparison alone.
 //!
 //! Written to be fast in safe Rust for plain x86-64, with the same contract as
 //! the recording core: the 64-bit answer and every lent byte. No call allocates.
@@ -14,7 +14,7 @@
 //! - [`run`]: the entry of a run longer than a block, and what it shows;
 //! - [`ledger`]: the volume's working state, and when it fits the disc;
 //! - [`roles`]: what each sector is used for, scanned and kept up;
-//! - [`calls`]: the fourteen calls; [`answer`]: their two numbers.
+//! - [`calls`]: the thirteen calls; [`answer`]: their two numbers.
 
 #![forbid(unsafe_code)]
 
@@ -101,16 +101,6 @@ pub fn read(image: &[u8], kinds: &[u8], ledger: &[u8], v: u32, block: &mut [u8])
 
 pub fn look_back(image: &[u8], kinds: &[u8], roles: &mut [u8], ledger: &mut [u8], k: u32) -> u64 {
     packed(calls::look_back(image, kinds, roles, ledger, k))
-}
-
-pub fn go_back(
-    image: &mut [u8],
-    kinds: &mut [u8],
-    roles: &mut [u8],
-    ledger: &mut [u8],
-    k: u32,
-) -> u64 {
-    packed(calls::go_back(image, kinds, roles, ledger, k))
 }
 
 pub fn view(

@@ -24,28 +24,12 @@ pub fn scan(roles: &mut [u8], disc: &Disc, newest: Option<Found>, ledger: &Ledge
         mark(roles, &newest);
         mark_tables(roles, disc, newest.block as usize);
     }
-    take_into_use(roles, ledger);
-}
-
-/// Blocks that the map names and that are superseded.
-#[inline(always)]
-fn take_into_use(roles: &mut [u8], ledger: &Ledger) {
     for entry in ledger::entries(ledger).as_chunks().0 {
         let block = u32::from_le_bytes(*entry) as usize;
         if let Some(role @ &mut SUPERSEDED) = roles.get_mut(block) {
             *role = IN_USE;
         }
     }
-}
-
-/// The ledger has another map: blocks that it names again are in use, and those that it
-/// no longer names superseded. All others stay as they are. Of the roles in use alone
-/// the byte is below that of superseded.
-pub fn name_anew(roles: &mut [u8], ledger: &Ledger) {
-    for role in roles.iter_mut() {
-        *role = (*role).max(SUPERSEDED);
-    }
-    take_into_use(roles, ledger);
 }
 
 /// "The kind decides the last three"; data is superseded until it is known to be

@@ -346,51 +346,19 @@ fn every_state_of_a_store() {
     assert_eq!(desk.book.pages.len(), 3);
 }
 
-/// Going back is a save: before its table is recorded a crash leaves the one before, and
-/// from then on the earlier save is the present one.
-#[test]
-fn every_state_of_going_back() {
-    let mut desk = Desk::new(60, 0, 0);
-    let events = [
-        event("write run.disc 0", Call::Write(0)),
-        event("commit run.disc", Call::Commit),
-        event("write run.disc 0", Call::Write(0)),
-        event("store run.disc 1", Call::Write(1)),
-        event("commit run.disc", Call::Commit),
-        event("write run.disc 2", Call::Write(2)),
-        event("go-back run.disc 1", Call::GoBack(1)),
-        event("release run.disc 0", Call::Release(0)),
-        event("go-back run.disc 0", Call::GoBack(0)),
-        event("close run.disc", Call::ClosePacket),
-        event("go-back run.disc 2", Call::GoBack(2)),
-        event("view run.disc 1", Call::Read(1)),
-        cut("cut 0 --torn go-back run.disc 4", Call::GoBack(4)),
-        event("mount run.disc", Call::Mount),
-        cut("cut 5 --torn go-back run.disc 4", Call::GoBack(4)),
-        event("mount run.disc", Call::Mount),
-        event("go-back run.disc 4", Call::GoBack(4)),
-    ];
-    for event in &events {
-        desk.take(event);
-    }
-    println!("{} states judged", desk.judged);
-    assert!(desk.judged > 100, "{}", desk.judged);
-    assert_eq!(desk.book.pages.len(), 6);
-}
-
 /// The digits of a command's eight or eleven sectors lie across two pieces of 512
 /// bytes: the digit of block 503 is the first of the second piece.
 #[test]
 fn digits_across_two_pieces() {
     for recorded in 494..505 {
-        for (line, call) in [
-            ("commit run.disc", Call::Commit),
-            ("go-back run.disc 0", Call::GoBack(0)),
-            ("write run.disc 0", Call::Write(0)),
-            ("store run.disc 0", Call::Write(0)),
-        ] {
+        for line in ["commit run.disc", "write run.disc 0", "store run.disc 0"] {
             let mut desk = Desk::new(540, recorded, 0);
             desk.take(&event("close run.disc", Call::ClosePacket));
+            let call = if line.starts_with('c') {
+                Call::Commit
+            } else {
+                Call::Write(0)
+            };
             desk.take(&event(line, call));
             desk.take(&event("commit run.disc", Call::Commit));
         }
@@ -416,16 +384,13 @@ fn every_state_of_a_large_save() {
         cut("cut 1 commit run.disc", Call::Commit),
         event("mount run.disc", Call::Mount),
         event("commit run.disc", Call::Commit),
-        event("go-back run.disc 3", Call::GoBack(3)),
-        event("go-back run.disc 5", Call::GoBack(5)),
-        event("go-back run.disc 1", Call::GoBack(1)),
     ];
     for event in &events {
         desk.take(event);
     }
     println!("{} states judged", desk.judged);
     assert!(desk.judged > 100, "{}", desk.judged);
-    assert_eq!(desk.book.pages.len(), 8);
+    assert_eq!(desk.book.pages.len(), 5);
 }
 
 /// Behind seven links, block 503 is the first of two own sectors, the second, or the

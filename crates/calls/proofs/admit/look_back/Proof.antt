@@ -13,7 +13,7 @@ reached-requires c κs = search rules
 returns : tie.Need-returns
 returns c =
     let s = c.before.before.before.before in
-    (c.reached.ensures.0 ∙ look-back-outcome (lent s.args.image.now s.args.kinds.now) s.args.ledger.now s.args.k, λ z. let t = c.reached.ensures.1 z in (t.0, t.1, t.2))
+    (c.reached.ensures.0 ∙ look-back-outcome (lent s.args.image.now s.args.kinds.now) s.args.ledger.now s.args.k, c.reached.ensures.1)
 
 pub look-back-spec : {M : Type 1} → statement M
 look-back-spec = tie.close (tie.spec reached-requires returns)

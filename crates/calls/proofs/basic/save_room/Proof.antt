@@ -2,11 +2,11 @@
 -- Assumes nothing.
 use Prim.Native.Nat.{ℕ, ◌+◌, ◌≤◌}
 use native.Mathlib.Omega.{arith}
-use mathlib.Core.Path.{refl, sym, ap, ◌∙◌}
+use mathlib.Core.Path.{◌≡◌, sym, ap, ◌∙◌}
 use mathlib.Core.List.{[], ◌∷◌}
 use lib.ListN.{length}
 use Rattle.vat.specs.Table.{most_own}
-use Rattle.vat.specs.Sector.{no_stamp, table_bytes}
+use Rattle.vat.specs.Sector.{table_bytes}
 use Rattle.disc.specs.Disc.{Disc, lent}
 use Rattle.disc.specs.Again.{fresh_of}
 use Rattle.disc.proofs.Recording.{sized-tells}
@@ -14,7 +14,7 @@ use Rattle.volume.specs.declared.Volume.{Volume}
 use Rattle.volume.specs.Volume.{unpack, map_of}
 use Rattle.recorder.specs.Refusals.{first, no_room}
 use Rattle.recorder.proofs.Sectors.{own-few}
-use Rattle.calls.proofs.Outcomes.{commit-counted, most-room}
+use Rattle.calls.proofs.Outcomes.{less-room}
 use borrow.Author.Rules.{rules}
 use Rattle.calls.proofs.basic.save_room.Statement.{statement}
 use Rattle.calls.proofs.basic.save_room.Tie as tie
@@ -45,7 +45,7 @@ room-requires c κs = let s = c.before.before.before in (s.requires.1, s.require
 returns : tie.Need-returns
 returns c =
     let r = c.before in let s = start_of r in
-    sym (most-room (D s) (state s) (state s) refl s.pre.2 (sym r.room.ensures ∙ c.if1.true))
+    sym (less-room (D s) (state s) (fresh s + 1) (most_own + 1) (omega (arith, few s)) (sym r.room.ensures ∙ c.if1.true))
 
 own-recorded-requires : tie.Need-own-recorded-requires
 own-recorded-requires c κs = let s = start_of c.before in (s.pre.0, s.pre.1, s.pre.2, s.pre.3)
@@ -61,7 +61,7 @@ room-requires-2 c κs =
 returns-2 : tie.Need-returns-2
 returns-2 c =
     let o = c.before in let s = start_of o.before.before in
-    c.room2.ensures ∙ ap (λ (n : ℕ). first (no_room (D s) (state s) (n + 1) ∷ [])) o.own-recorded.ensures ∙ sym (commit-counted (D s) (state s) no_stamp)
+    c.room2.ensures ∙ ap (λ (n : ℕ). first (no_room (D s) (state s) (n + 1) ∷ [])) o.own-recorded.ensures
 
 pub save-room-spec : {M : Type 1} → statement M
 save-room-spec = tie.close (tie.spec add-room room-requires returns own-recorded-requires add-room-2 room-requires-2 returns-2)

@@ -115,7 +115,7 @@ returns : tie.Need-returns
 returns c =
     let t = c.before.before in let w = t.before.before.before.before in let n = count_of w in let p = sector-of n in let s = start_of p in let a = s.args in
     t.show.ensures
-    ∙ ap (λ (map : List ℕ). pack (filled map a.last a.plan.recorded a.mode)) (its_map w)
+    ∙ ap (λ (map : List ℕ). pack (filled map (B s) a.plan.recorded a.mode)) (its_map w)
 
 pub show-spec : {M : Type 1} → statement M
 show-spec =

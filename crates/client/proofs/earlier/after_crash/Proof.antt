@@ -30,8 +30,8 @@ returns c =
     let y : Day = morning s.args.image.now s.args.kinds.now s.args.roles.now s.args.ledger.now in (
       λ x fresh stamp old new ok stopped fit long whole.
           given (storing-reads x fresh ok s.args.v stamp old new y s.args.out.now (omega arith) fit long whole stopped) h.show.ensures.0 h.show.ensures.1,
-      λ x fresh stamp old new call j ok of-draft stopped fit long whole.
-          given (marking-reads x fresh ok s.args.v stamp old new y s.args.out.now (omega arith) fit long whole call of-draft j stopped) h.show.ensures.0 h.show.ensures.1,
+      λ x fresh stamp old new call j ok stopped fit long whole.
+          given (marking-reads x fresh ok s.args.v stamp old new y s.args.out.now (omega arith) fit long whole call j stopped) h.show.ensures.0 h.show.ensures.1,
     )
 
 pub after-crash-spec : {M : Type 1} → statement M

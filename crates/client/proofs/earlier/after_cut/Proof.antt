@@ -27,8 +27,8 @@ returns : tie.Need-returns
 returns c =
     let h = c.before.before.before.before.before.before in
     let s = start_of h in
-    λ x fresh stamp old new call j tear left ok of-draft cut alike fit long whole.
-    given (cut-reads x fresh ok s.args.v stamp old new call of-draft j tear left (morning s.args.image.now s.args.kinds.now s.args.roles.now s.args.ledger.now) s.args.out.now (omega arith) fit cut alike long whole)
+    λ x fresh stamp old new call j tear left ok cut alike fit long whole.
+    given (cut-reads x fresh ok s.args.v stamp old new call j tear left (morning s.args.image.now s.args.kinds.now s.args.roles.now s.args.ledger.now) s.args.out.now (omega arith) fit cut alike long whole)
     h.show.ensures.0 h.show.ensures.1
 
 pub after-cut-spec : {M : Type 1} → statement M
