@@ -1,4 +1,6 @@
 // The Anchor Volume Descriptor Pointer: made, and known by its tag.
+#![tactic(auto)]
+
 ghost use Rattle.std.specs.Prelude.{◌≡◌, length};
 ghost use Rattle.le.specs.Field.{lay};
 ghost use Rattle.vat.specs.Table.{sector_length};

@@ -1,4 +1,6 @@
 // The calls: which refusal each is given, what those that look for a table find, and what those that are done record and show.
+#![tactic(auto)]
+
 pub mod admit;
 pub mod basic;
 pub mod effects;
@@ -6,7 +8,7 @@ pub mod effects;
 ghost use Rattle.std.specs.Prelude.{◌≡◌};
 
 // What a call is to do: its outcome, and if that is 0 how many sectors are recorded and, for mount and look back, the block of the table to show.
-#[derive(Drop)]
+#[derive(Clone, Copy)]
 pub struct Plan {
     pub outcome: u32,
     pub recorded: u32,

@@ -2,6 +2,8 @@
 // runs. A day is some calls in a row, the first refusal ends it, and the answer is that of the last call made. The first promise of a function that
 // makes such a day says just that, with every byte of the disc, of the roles and of the ledger; the other is what its host wants of it: what was saved
 // is read back.
+#![tactic(auto)]
+
 pub mod account;
 pub mod earlier;
 

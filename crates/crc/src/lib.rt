@@ -4,6 +4,8 @@
 // Why a word may be dropped. With n bits after it, it counts as x^n times itself, modulo P, with coefficients modulo 2. There the square of a sum is the sum
 // of the squares, so that P^16 = x^256 + x^192 + x^80 + 1 and P^4 = x^64 + x^48 + x^20 + 1. A word with 256 bits after it therefore counts as the same word
 // added, by exclusive or, where 192, 80 and no bits follow; and one with 64 bits after it, where 48, 20 and none do.
+#![tactic(auto)]
+
 mod table;
 
 ghost use Rattle.std.specs.Prelude.{◌≡◌, ◌+◌, ◌/◌, ◌%◌, ◌≤◌, ◌<◌, length};

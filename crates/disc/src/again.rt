@@ -11,7 +11,7 @@ ghost use Rattle.disc.specs.Again.{same, own_blocks, again_of, fresh_of, plains}
 use vat::table::{SECTOR, UNUSED};
 
 // The blocks of a table's own sectors, by their places, and how many of these are recorded.
-#[derive(Drop)]
+#[derive(Clone, Copy)]
 pub struct Own {
     pub blocks: [u32; 8],
     pub fresh: u32,

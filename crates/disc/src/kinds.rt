@@ -8,7 +8,7 @@ use vat::table::SECTOR;
 const MOST_SECTORS: usize = 360000;
 
 // What the kinds tell: whether they are in order, and then how many sectors are recorded.
-#[derive(Drop)]
+#[derive(Clone, Copy)]
 pub struct Extent {
     pub in_order: bool,
     pub recorded: usize,

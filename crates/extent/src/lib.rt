@@ -1,10 +1,12 @@
 // Extents, and the short allocation descriptors that name them: read, and their lengths summed.
+#![tactic(auto)]
+
 ghost use Rattle.std.specs.Prelude.{◌≡◌, ◌+◌, ◌*◌, ◌≤◌, length};
 ghost use Rattle.le.specs.Field.{read_le};
 ghost use Rattle.extent.specs.Extents.{extent, descriptors_length, extents_from, total_length};
 
 // An extent as a descriptor names it: its length in bytes and its first sector.
-#[derive(Drop)]
+#[derive(Clone, Copy)]
 pub struct Extent {
     pub length: u32,
     pub location: u32,

@@ -1,6 +1,8 @@
 // The calls of the log, each lent the roles too and keeping them up: "Each call that alters disc or ledger is lent these bytes too" (document 02, R-7). No
 // function has a precondition. Its promise is one equation: the answer and every lent buffer at the end, the roles among them, are what the definition
 // `after_roles` says of what the buffers held at the beginning.
+#![tactic(auto)]
+
 ghost use Rattle.std.specs.Prelude.{◌≡◌, true, ◌||◌, [], ◌≤◌, ◌<◌, eqb, length};
 ghost use Rattle.std.proofs.Math.Option.{none, some};
 ghost use Rattle.vat.specs.Table.{most_own, limit, unused};

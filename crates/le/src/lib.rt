@@ -1,5 +1,7 @@
 // Little-endian fields of 8, 16, 32 and 64 bits, read from and written to a byte slice at a place.
 // The bytes are taken by sums and quotients, which the compiler makes one load or one store.
+#![tactic(auto)]
+
 ghost use Rattle.std.specs.Prelude.{◌≡◌, ◌+◌, ◌*◌, ◌≤◌, length};
 ghost use Rattle.le.specs.Field.{read_le, put_le};
 

@@ -1,1 +1,2 @@
 // The calls: which are refused, and what the others record.
+#![tactic(auto)]

@@ -1,4 +1,6 @@
 // The role of each sector.
+#![tactic(auto)]
+
 ghost use Rattle.std.specs.Prelude.{◌≡◌, true, false, List, [], ◌∷◌, ◌++◌, ℕ, ◌+◌, ◌≤◌, ◌<◌, eqb, length, get_or, replicate};
 ghost use Rattle.vat.specs.Table.{limit};
 ghost use Rattle.disc.specs.Disc.{Disc, lent, sized, leading, stored};

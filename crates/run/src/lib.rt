@@ -1,3 +1,5 @@
 // The entry of a run.
+#![tactic(auto)]
+
 pub mod entry;
 pub mod sector;

@@ -1,6 +1,8 @@
 // The log: the calls on a lent disc and ledger. The answer is outcome × 4,294,967,296 + second number. No function has a precondition. Its promise is one
 // equation: the answer and every lent buffer at the end are what the definition `after` says of what the buffers held at the beginning. These promises
 // are all that is known of the log above it.
+#![tactic(auto)]
+
 ghost use Rattle.std.specs.Prelude.{◌≡◌, [], ◌*◌};
 ghost use Rattle.std.proofs.Math.Option.{none, some};
 ghost use Rattle.disc.specs.Disc.{lent};

@@ -1,5 +1,7 @@
 // The calls and the archive's viewer as C functions for the host program, and nothing else: an archive has only the exported functions of the crate that it
 // is made of. Each slice is a pointer and then a length. The promises are those of the keeper, the log and the viewer, word for word.
+#![tactic(auto)]
+
 ghost use Rattle.std.specs.Prelude.{◌≡◌, []};
 ghost use Rattle.std.proofs.Math.Option.{none, some};
 ghost use Rattle.extent.specs.Extents.{extent};

@@ -1,4 +1,6 @@
 // The two sums in the tag of a descriptor: the checksum of the tag and the CRC of what follows it.
+#![tactic(auto)]
+
 ghost use Rattle.std.specs.Prelude.{◌≡◌, ◌+◌, ◌≤◌, length};
 ghost use Rattle.tag.specs.Tag.{checksum, crc_length, body_crc, summed, sealed, seal};
 

@@ -17,7 +17,7 @@ use Rattle.timestamp.specs.Timestamp.{word}
 
 -- a result that is handed on is read back as it was
 pub handed-on : (z : ℤ) → mag z < 2147483648 → to_z w32 (of_z w32 z) ≡ z
-handed-on z h = to_z-of_z (record { sfits = h })
+handed-on z h = to_z-of_z {w = w32} (record { sfits = h })
 
 -- ---- sums and differences
 

@@ -1,11 +1,13 @@
 // Timestamps of ECMA-167 1/7.3: whether one is within the limits, and its minutes from 1 January 1970 UTC.
+#![tactic(auto)]
+
 pub mod calendar;
 
 ghost use Rattle.std.specs.Prelude.{◌≡◌, true, length};
 ghost use Rattle.timestamp.specs.Timestamp.{stamp_length, told_length, zone_of, moment_of, not_given, zoned, valid, minutes_of, word, told};
 
 // A minute of a day.
-#[derive(Drop)]
+#[derive(Clone, Copy)]
 pub struct Moment {
     pub year: u32,
     pub month: u32,

@@ -1,5 +1,7 @@
 // Runs the CRC, the table sector, larger tables, timestamps, a closing's pointer and the entry of a run on outside vectors, and prints what it finds. What must come stands in
 // the file `stdout`; an independent program, tests/vectors.py, makes it.
+#![tactic(auto)]
+
 ghost use Rattle.std.specs.Prelude.{◌≤◌, ◌≡◌, length};
 
 use extent::Extent;

@@ -1,5 +1,7 @@
 // The archive's viewer: shows runs longer than a block. It stands above the log and knows only the log's promises, and what the floors below say of an
 // entry and of the ledger's bytes.
+#![tactic(auto)]
+
 ghost use Rattle.std.specs.Prelude.{◌≡◌, true, List, [], ◌++◌, ℕ, ◌+◌, ◌-◌, ◌*◌, ◌≤◌, min, length, take, drop};
 ghost use Rattle.vat.specs.Table.{sector_length};
 ghost use Rattle.disc.specs.Disc.{lent};

@@ -1,4 +1,6 @@
 // The volume's working state (document 01: the ledger).
+#![tactic(auto)]
+
 pub mod ledger;
 
 ghost use Rattle.std.specs.Prelude.{◌≡◌, ◌+◌, ◌≤◌, ◌<◌, length, set};
