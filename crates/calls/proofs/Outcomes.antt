@@ -20,7 +20,6 @@ use Rattle.disc.specs.Tables.{time_at, block_found, newest_below, newest}
 use Rattle.disc.specs.Session.{closing_length, session_closed}
 use Rattle.disc.proofs.Found.{newest-below}
 use Rattle.disc.specs.Again.{fresh_of}
-use Rattle.disc.specs.Save.{save_sectors}
 use Rattle.disc.proofs.Save.{save-count}
 use Rattle.volume.specs.Volume.{read_only, unpack, map_of, fits}
 use Rattle.volume.specs.declared.Volume.{Volume}

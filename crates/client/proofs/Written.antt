@@ -27,7 +27,7 @@ use Rattle.volume.proofs.State.{Proper, length-pack, unpack-pack, proper-wrote, 
 use Rattle.recorder.specs.Calls.{write}
 use Rattle.recorder.specs.Refusals.{links, target, block_of, not_in_use, outcome}
 use Rattle.recorder.specs.Effects.{effect, After, after}
-use Rattle.recorder.proofs.Sectors.{links-whole, behind, length-behind}
+use Rattle.recorder.proofs.Sectors.{links-whole, behind}
 use Rattle.recorder.proofs.Done.{Fits, links-few, Writable, size_fits, WriteDone, write_done}
 use Rattle.history.proofs.Log.{all-below-more, Extends}
 use Rattle.history.proofs.Growth.{F, all-below-of, all-below-to, Grown, links-no-tables, behind-content, behind-counted}

@@ -1,0 +1,10 @@
+-- `client::earlier::view_run` meets its contract: a view of a run that was stored.
+-- Assumes nothing.
+use Rattle.client.proofs.Runs.{stored-seen}
+use Rattle.client.proofs.earlier.view_run.Goals as goal
+
+pub returns : goal.returns
+returns c =
+    let a = c.args in
+    λ x fresh block more n ok all discs ledgers some_bytes few_bytes short inside room.
+    stored-seen x fresh ok block more a.v n all some_bytes few_bytes short a.offset a.out.now inside room discs ledgers c.view.ensures

@@ -1,0 +1,10 @@
+-- `le::read32` meets its contract: four bytes, joined as the definition nests them.
+-- Assumes nothing.
+use native.Mathlib.Omega.{arith}
+use Rattle.le.specs.Field.{read_le}
+use Rattle.le.proofs.read32.Goals as goal
+
+pub returns : goal.returns
+unfolding read_le
+returns c =
+    omega arith

@@ -1,0 +1,14 @@
+-- `vat::own::smaller` meets its contract.
+-- Assumes nothing.
+use native.Mathlib.Omega.{arith}
+use mathlib.Core.Path.{refl}
+use mathlib.Core.Logic.{inl, inr}
+use Rattle.vat.proofs.own.smaller.Goals as goal
+
+pub returns-then-a-b : goal.returns-then-a-b
+returns-then-a-b c =
+    (omega arith, omega arith, inl refl)
+
+pub returns : goal.returns
+returns c =
+    (omega arith, omega arith, inr refl)
