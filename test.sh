@@ -1,12 +1,12 @@
 #!/usr/bin/env bash
-# Proves and tests everything: the layout, every crate with its programs, the edits that must be refused, the outside vectors, the archive for the host
+# Proves and tests everything: every crate, its layout and its programs, the edits that must be refused, the outside vectors, the archive for the host
 # program, and on it the Rust tests, which compare it with an independent model and with other makers' discs.
 # The last line is 'N passed, 0 failed'; where something fails it is named above, and the exit status is 1. Each part says how many seconds it took.
 set -u
 cd "$(dirname "$0")" || exit 2
 . host/setup.sh || exit 2
 
-proved_with="rattle-kit-5b-plain logic 097e4c862dff5811"
+proved_with="rattle-kit-13f logic dac8208d650f15bf"
 
 passed=0
 failed=0
@@ -84,6 +84,20 @@ told_by() {
     return "$(cat "$1.status")"
 }
 
+# The gate of rt, as it stands. An edit that cannot be tried shows nothing, and rt ci passes all the same: here it fails.
+rattle_gate() {
+    local said status
+    said=$(mktemp)
+    rt ci 2>&1 | tee "$said"
+    status=${PIPESTATUS[0]}
+    if grep -E '^rt: ok' "$said" | grep -qE ', [0-9]+ bad'; then
+        echo "1 failed: an edit is bad"
+        status=1
+    fi
+    rm -f "$said"
+    return "$status"
+}
+
 # A crate that is proved is one, and each of its must-fail edits.
 rattle_tests() {
     { grep -E '^[a-z]' crates.txt; find crates -path '*/must-fail/*.edit'; } | wc -l
@@ -114,8 +128,13 @@ outside_vectors() {
 # The archive that the host program links: proved, with nothing that is only assumed, and with the functions of the header alone.
 archive() {
     local told
-    told=$(rt staticlib station 2>&1) || { echo "$told" | tail -n 20; return 1; }
-    python3 tests/statements.py --archive "$told" target/staticlib/libstation.a
+    told=$(cd crates/station && rt lib 2>&1) || { echo "$told" | tail -n 20; return 1; }
+    python3 tests/statements.py --archive "$told" crates/station/out/libstation.a
+}
+
+# The proved listing program, as the host tests run it.
+listing_program() {
+    (cd crates/list && rt run <stdin >/dev/null)
 }
 
 # Without --release, which would leave out the checks that the profile for tests has.
@@ -125,16 +144,15 @@ host_tests() {
 
 set_up
 echo "kit: $(rt version) (last proved with $proved_with)"
-one "rt fmt --check" rt fmt --check
 one "tests/vectors.py" outside_vectors
 one "tests/statements.py" python3 tests/statements.py
 counted "tests/statements_edits.py" "$(wrong_statements)" python3 tests/statements_edits.py
-# rt starts up to RT_JOBS crates of a floor and waits for all of them, so that with as many as there are processors some would stand idle.
-counted "rt ci" "$(rattle_tests)" env RT_JOBS=4 rt ci
+counted "rt ci" "$(rattle_tests)" rattle_gate
 # The edits beside the archive and what is run on it: each leaves a processor idle now and then.
 edits=$(mktemp)
 in_background "$edits" tests/must_fail.sh
-one "rt staticlib station" archive
+one "rt lib, in crates/station" archive
+one "rt run, in crates/list" listing_program
 counted "host tests" "$(host_tests_written)" host_tests
 counted "tests/must_fail.sh" "$(must_fail_tests)" told_by "$edits"
 rm -f "$edits" "$edits.status"

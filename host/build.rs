@@ -1,5 +1,5 @@
 //! Links the recording core: the archive `libstation.a`, from the folder that
-//! STATION_ARCHIVE names, or from the repository's `target/staticlib`. The
+//! STATION_ARCHIVE names, or from the repository's `crates/station/out`. The
 //! repository's own must not be older than the core's sources.
 
 use std::env;
@@ -9,8 +9,8 @@ use std::path::{Path, PathBuf};
 use std::process::exit;
 use std::time::SystemTime;
 
-/// What the archive is made from, in the repository.
-const SOURCES: [&str; 2] = ["crates", "crates.txt"];
+/// What the archive is made from, in each crate's folder.
+const SOURCES: [&str; 3] = ["src", "specs", "proofs"];
 
 fn main() {
     let package = PathBuf::from(env::var_os("CARGO_MANIFEST_DIR").expect("cargo names it"));
@@ -19,7 +19,7 @@ fn main() {
     let is_foreign = named.is_some();
     // A path from the root means the same wherever a test runs.
     let named = named.map(|folder| package.join(folder));
-    let folder = named.unwrap_or_else(|| repository.join("target/staticlib"));
+    let folder = named.unwrap_or_else(|| repository.join("crates/station/out"));
     let folder = folder.canonicalize().unwrap_or(folder);
     let archive = folder.join("libstation.a");
     println!("cargo:rerun-if-env-changed=STATION_ARCHIVE");
@@ -42,7 +42,7 @@ fn main() {
 /// Cargo looks through a folder for changes too, so this runs again after each.
 fn refuse_if_stale(repository: &Path, archive: &Path) {
     let made = changed(archive).expect("the archive's time");
-    for source in SOURCES.map(|name| repository.join(name)) {
+    for source in sources(repository).expect("the crates of the core") {
         println!("cargo:rerun-if-changed={}", source.display());
         let newer = newer_than(made, &source).expect("the sources of the core");
         if let Some(newer) = newer {
@@ -50,6 +50,18 @@ fn refuse_if_stale(repository: &Path, archive: &Path) {
             refuse(&format!("stale: {archive} is older than {newer}"));
         }
     }
+}
+
+/// The list of crates and the folders with their sources, without those that
+/// the checker keeps its work in.
+fn sources(repository: &Path) -> io::Result<Vec<PathBuf>> {
+    let mut found = vec![repository.join("crates.txt")];
+    for entry in fs::read_dir(repository.join("crates"))? {
+        let folder = entry?.path();
+        let folders = SOURCES.map(|name| folder.join(name));
+        found.extend(folders.into_iter().filter(|path| path.is_dir()));
+    }
+    Ok(found)
 }
 
 /// A file or folder, of those under the path, that changed after the time. A
@@ -74,6 +86,6 @@ fn changed(path: &Path) -> io::Result<SystemTime> {
 }
 
 fn refuse(cause: &str) -> ! {
-    eprintln!("The recording core is {cause}. `rt staticlib station`, at the top of the repository, makes it.");
+    eprintln!("The recording core is {cause}. `rt lib`, in crates/station, makes it.");
     exit(1);
 }

@@ -93,7 +93,7 @@ need_rust() {
 # The crates that the archive is made of: station, and each that one of them imports.
 archived_crates() {
     awk -F ': *' '
-        /^[^#]/ { imports[$1] = $2 }
+        /^[^#]/ { split($1, words, " "); imports[words[1]] = $2 }
         function take(name,   list, count, i) {
             if (name in taken) return
             taken[name] = 1
@@ -104,28 +104,42 @@ archived_crates() {
         END { take("station") }' crates.txt
 }
 
-# One line for each crate that is proved, of what rt tells: how many of how many, and how long it took. The last one is the archive's own, of which rt tells
-# no time.
+# One line for each crate that is proved, of what rt tells: how many of how many, and how long it took. Of a crate that was proved before rt tells nothing.
+# The last one is the archive's own.
 tell_proofs() {
-    local line crates count=0
+    local line crate= began=0 crates count=0
     crates=$(archived_crates | wc -l)
     while IFS= read -r line; do
-        if [[ $line =~ ^rt:\ ([^ ]+)\ proved\ \(([0-9]+)\ s\)$ ]]; then
+        if [[ $line =~ ^rt:\ chose\ --jobs\ [0-9]+\ for\ ([^ ]+)$ ]]; then
+            crate=${BASH_REMATCH[1]} began=$SECONDS
+        elif [[ $line == "logic=proved "* && -n $crate && $crate != station ]]; then
             count=$((count + 1))
-            echo "proved $count of $crates: ${BASH_REMATCH[1]} (${BASH_REMATCH[2]} s)"
-        elif [[ $line == "rt: $1 has the functions of "* ]]; then
-            echo "proved $((count + 1)) of $crates: station, and made $1"
+            echo "proved $count of $crates: $crate ($((SECONDS - began)) s)"
+            crate=
+        elif [[ $line == "made "* ]]; then
+            echo "proved $crates of $crates: station, and $line"
         fi
     done
 }
 
+# sources_newer_than FILE: of what the archive is made from, and not what rt keeps in a crate's folder out
+sources_newer_than() {
+    find crates.txt crates -maxdepth 0 -newer "$1"
+    find crates -mindepth 2 -maxdepth 2 \( -name src -o -name specs -o -name proofs \) -exec find {} -newer "$1" \;
+}
+
+# rt leaves an archive as it is where only comments changed.
+make_archive() {
+    (cd crates/station && rt lib) && touch "$1" && echo "made $1"
+}
+
 # The archive, made anew if a source is newer. It takes some 20 s, also where nothing changed, so not at every start.
 fresh_archive() {
-    local archive=target/staticlib/libstation.a log=target/staticlib.log
-    if [ ! -e "$archive" ] || [ -n "$(find crates crates.txt -newer "$archive" -print -quit)" ]; then
+    local archive=crates/station/out/libstation.a log=host/target/archive.log
+    if [ ! -e "$archive" ] || [ -n "$(sources_newer_than "$archive")" ]; then
         need_kit
-        mkdir -p target
-        if ! (set -o pipefail; rt staticlib station 2>&1 | tee "$log" | tell_proofs "$archive" >&2); then
+        mkdir -p host/target
+        if ! (set -o pipefail; make_archive "$archive" 2>&1 | tee "$log" | tell_proofs >&2); then
             echo "The archive is not made. All that rt told is in $log; its last lines:" >&2
             tail -n 10 "$log" >&2
             exit 1

@@ -1,4 +1,4 @@
-//! The listing program, `target/bin/list`, run on inputs of the form and of
+//! The listing program, `crates/list/out/list`, run on inputs of the form and of
 //! others. What it must print is worked out by the model of document 01.
 
 mod common;
@@ -20,12 +20,12 @@ const ANOTHER_FORM: &str = "refused   1\n";
 
 /// What the program prints for an input.
 fn listed(input: &[u8]) -> String {
-    let program = Path::new(env!("CARGO_MANIFEST_DIR")).join("../target/bin/list");
+    let program = Path::new(env!("CARGO_MANIFEST_DIR")).join("../crates/list/out/list");
     let mut running = Command::new(&program)
         .stdin(Stdio::piped())
         .stdout(Stdio::piped())
         .spawn()
-        .unwrap_or_else(|error| panic!("{}: {error}; rt check list makes it", program.display()));
+        .unwrap_or_else(|error| panic!("{}: {error}; rt run in crates/list makes it", program.display()));
     // It may answer before it has read all of an input that is too long.
     let _ = running.stdin.take().expect("a pipe").write_all(input);
     let output = running.wait_with_output().expect("an answer");

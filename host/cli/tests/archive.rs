@@ -10,22 +10,25 @@ use common::Folder;
 
 const SETUP: &str = concat!(env!("CARGO_MANIFEST_DIR"), "/../setup.sh");
 
-/// As `rt staticlib station` tells it.
+/// As `rt lib`, in crates/station, tells it.
 const TOLD: &str = "\
+rt: chose --jobs 2 for le
 fn le::read16: proved
-logic=proved functions=17 sum=097e4c862dff5811
-rt: le proved (11 s)
+logic=proved functions=21 sum=dac8208d650f15bf
+rt: chose --jobs 2 for vat
 fn vat::sector::record: proved
-rt: vat proved (25 s)
+logic=proved functions=40 sum=dac8208d650f15bf
+rt: chose --jobs 2 for station
 fn station::station_read: proved";
 
-const CRATES: &str = "# One line a crate\nle:\nvat: le\nlist: le vat\nstation: le vat\n";
+const CRATES: &str =
+    "# One line a crate\nle:\nvat: le\nlist: le vat\nstation staticlib: le vat\n";
 
 /// A folder with crates, in which `rt` tells this and ends so.
 fn told_by(end: &str) -> String {
     let folder = Folder::new();
     folder.put("crates.txt", CRATES.as_bytes());
-    fs::create_dir(folder.path("crates")).expect("a folder");
+    fs::create_dir_all(folder.path("crates/station/out")).expect("a folder");
     let rt = format!("#!/bin/sh\ncat << 'TOLD'\n{TOLD}\nTOLD\n{end}\n");
     folder.put("rt", rt.as_bytes());
     let runs = fs::Permissions::from_mode(0o755);
@@ -33,18 +36,16 @@ fn told_by(end: &str) -> String {
     let script = format!("set -eu; PATH=$PWD:$PATH; . {SETUP}; fresh_archive; echo made");
     let told = folder.shell(&format!("bash -c '{script}'; echo $?"));
     assert!(folder
-        .bytes("target/staticlib.log")
+        .bytes("host/target/archive.log")
         .starts_with(TOLD.as_bytes()));
     told
 }
 
 #[test]
 fn a_line_for_each_crate() {
-    let archive = "target/staticlib/libstation.a";
-    let told = told_by(&format!(
-        "echo 'rt: {archive} has the functions of station'"
-    ));
-    let lines = "proved 1 of 3: le (11 s)\nproved 2 of 3: vat (25 s)\n";
+    let archive = "crates/station/out/libstation.a";
+    let told = told_by("echo 'logic=proved functions=13 sum=dac8208d650f15bf'");
+    let lines = "proved 1 of 3: le (0 s)\nproved 2 of 3: vat (0 s)\n";
     let last = format!("proved 3 of 3: station, and made {archive}\nmade\n0\n");
     assert_eq!(told, format!("{lines}{last}"));
 }
@@ -52,7 +53,7 @@ fn a_line_for_each_crate() {
 #[test]
 fn a_log_that_is_named() {
     let told = told_by("echo 'error: station_read is not proved' >&2; exit 1");
-    let named = "The archive is not made. All that rt told is in target/staticlib.log; \
+    let named = "The archive is not made. All that rt told is in host/target/archive.log; \
                  its last lines:\n";
     assert!(told.contains(named), "{told}");
     let last = "fn station::station_read: proved\nerror: station_read is not proved\n1\n";

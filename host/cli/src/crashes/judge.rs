@@ -119,8 +119,8 @@ fn shows_whole_run(disc: &Disc, ledger: &[u8], v: u32) {
     }
 }
 
-/// The proved listing program; `rt check list` makes it.
-const PROVED_LISTING: &str = concat!(env!("CARGO_MANIFEST_DIR"), "/../../target/bin/list");
+/// The proved listing program; `rt run`, in crates/list, makes it.
+const PROVED_LISTING: &str = concat!(env!("CARGO_MANIFEST_DIR"), "/../../crates/list/out/list");
 
 /// The listing is that of the proved program, which takes discs of up to 31
 /// sectors.

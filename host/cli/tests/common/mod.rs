@@ -36,8 +36,8 @@ pub const LEDGER_FILE: usize = LEDGER + 8;
 pub const CLOSE_SESSION: &str =
     "close-session run.disc --main 32768,96 --reserve 32768,240 --start 257";
 
-/// The proved listing program; `rt check list` makes it.
-const PROVED_LISTING: &str = concat!(env!("CARGO_MANIFEST_DIR"), "/../../target/bin/list");
+/// The proved listing program; `rt run`, in crates/list, makes it.
+const PROVED_LISTING: &str = concat!(env!("CARGO_MANIFEST_DIR"), "/../../crates/list/out/list");
 
 /// Bytes of a disc file of 31 sectors, the most that it takes.
 const MOST_LISTED: usize = 9 + 31 + 1 + 31 * SECTOR;
