@@ -156,8 +156,7 @@ show-requires c =
     let names : (c.args.v < (unpack L).size) × (N < recorded D) = entry-recorded D (unpack L) c.args.v told.fit told.used in
     let within : N < length D.kinds = omega (arith, names.1, leading_le D.kinds) in
     let judged : (k : List ℕ) → is_entry k c.read-answer.new.block c.entry.result ≡ is_entry k (sector_at D N) N = λ k. ap₂ (is_entry k) (shown done) c.entry.ensures in
-    let is-run : entry_at D N ≡ true = sym (judged D.kinds) ∙ sym c.is_entry.ensures ∙ not-false c.is_entry.result c.if-not-is_entry.false-raw in
-    (
+    let is-run : entry_at D N ≡ true = sym (judged D.kinds) ∙ sym c.is_entry.ensures ∙ not-false c.is_entry.result c.if-not-is_entry.false-raw in (
       D.kinds,
       N,
       ap (λ (x : List ℕ). is_entry D.kinds x N) (shown done) ∙ is-run,
