@@ -5,12 +5,11 @@
 ghost use Rattle.std.specs.Prelude.{◌≤◌, ◌≡◌, length};
 
 use extent::Extent;
+use std::io;
 use vat::table::{
     TAG_VERSION, UNUSED, enclosed, entry_count, framed, is_embedded, placed, previous, table,
     words_held,
 };
-
-const STDOUT: i32 = 1;
 
 // The largest prime below 2^32.
 const PRIME: u64 = 4294967291;
@@ -20,14 +19,12 @@ const OWN_BLOCKS: [u32; 8] = [
     290000, 290003, 290006, 290009, 290012, 290015, 290018, 290021,
 ];
 
-fn say(text: &[u8]) {
-    io::write_all(STDOUT, text);
+fn say(rt: &impl Print, text: &[u8]) -> io::Result<()> {
+    rt.write_all(text)
 }
 
-fn show_crc(s: &[u8]) {
-    say(b"crc ");
-    io::print_hex(STDOUT, crc::crc(s) as u64, 4);
-    say(b"\n");
+fn show_crc(rt: &impl Print, s: &[u8]) -> io::Result<()> {
+    println!(rt; "crc {:04x}", crc::crc(s))
 }
 
 // Bytes that rise by 31, modulo 256, from 7 on.
@@ -43,20 +40,21 @@ fn ramp(s: &mut [u8])
     }
 }
 
-fn show_byte(x: u8) {
-    io::print_hex(STDOUT, x as u64, 2);
+fn show_byte(rt: &impl Print, x: u8) -> io::Result<()> {
+    print!(rt; "{x:02x}")
 }
 
 // A sector's 64 rows of 32 bytes.
-fn show_rows(s: &[u8]) {
+fn show_rows(rt: &impl Print, s: &[u8]) -> io::Result<()> {
     let mut i = 0;
     while i < s.len() {
-        show_byte(s[i]);
+        show_byte(rt, s[i])?;
         i += 1;
         if i % 32 == 0 {
-            say(b"\n");
+            say(rt, b"\n")?;
         }
     }
+    Ok(())
 }
 
 // A table's bytes at block b.
@@ -92,49 +90,42 @@ fn is_table(s: &[u8], b: u32) -> bool {
     framed(s, b) & is_embedded(s) & is_listed(table(s), b) & is_sealed(s)
 }
 
-fn show_test(kind: u8, s: &[u8], b: u32) {
-    say(b"kind ");
-    io::print_decimal(STDOUT, kind as u64);
-    say(b" at ");
-    io::print_decimal(STDOUT, b as u64);
+fn show_test(rt: &impl Print, kind: u8, s: &[u8], b: u32) -> io::Result<()> {
+    print!(rt; "kind {kind} at {b}")?;
     if (kind == 1) & is_table(s, b) {
-        say(b": table\n");
+        say(rt, b": table\n")
     } else {
-        say(b": none\n");
+        say(rt, b": none\n")
     }
 }
 
 // The table of a sector of 2048 bytes.
-fn show_map(s: &[u8]) {
+fn show_map(rt: &impl Print, s: &[u8]) -> io::Result<()> {
     if s.len() != 2048 {
-        return;
+        return Ok(());
     }
     if !placed(s) {
-        return;
+        return Ok(());
     }
-    show_table(table(s));
+    show_table(rt, table(s))
 }
 
 // What a table's bytes hold: their count, their entries and their previous table.
-fn show_table(t: &[u8]) {
+fn show_table(rt: &impl Print, t: &[u8]) -> io::Result<()> {
     if t.len() < 36 {
-        return;
+        return Ok(());
     }
     if t.len() >= 2048 {
-        return;
+        return Ok(());
     }
     let n = entry_count(t);
-    say(b"count ");
-    io::print_decimal(STDOUT, n as u64);
+    print!(rt; "count {n}")?;
     let mut i = 0;
     while i < n {
-        say(b" ");
-        io::print_hex(STDOUT, le::read32(t, 4 * (i as usize)) as u64, 8);
+        print!(rt; " {:08x}", le::read32(t, 4 * (i as usize)))?;
         i += 1;
     }
-    say(b" previous ");
-    io::print_hex(STDOUT, previous(t) as u64, 8);
-    say(b"\n");
+    println!(rt; " previous {:08x}", previous(t))
 }
 
 fn third(i: usize) -> u32 {
@@ -156,27 +147,26 @@ fn fill(map: &mut [u32])
 }
 
 // ECMA-167's example; zeros; the ramp where the body of a full table sector lies; and the ramp's first bytes, for every length to past a sector's.
-fn crcs() {
+fn crcs(rt: &impl Print) -> io::Result<()> {
     let ecma = [0x70, 0x6A, 0x77];
-    show_crc(&ecma);
+    show_crc(rt, &ecma)?;
     let zeros = [0u8; 2048];
-    show_crc(&zeros);
+    show_crc(rt, &zeros)?;
     let mut bytes = [0u8; 2100];
     ramp(&mut bytes);
-    show_crc(&bytes[16..2044]);
-    show_lengths(&bytes);
+    show_crc(rt, &bytes[16..2044])?;
+    show_lengths(rt, &bytes)
 }
 
 // The CRC of the first n bytes, for every n from none to all.
-fn show_lengths(s: &[u8]) {
+fn show_lengths(rt: &impl Print, s: &[u8]) -> io::Result<()> {
     let mut n = 0;
     while n <= s.len() {
-        say(b"length ");
-        io::print_decimal(STDOUT, n as u64);
-        say(b" ");
-        show_crc(&s[0..n]);
+        print!(rt; "length {n} ")?;
+        show_crc(rt, &s[0..n])?;
         n += 1;
     }
+    Ok(())
 }
 
 // The CRC of a body with one byte changed by an exclusive or. The body is left as it was.
@@ -209,27 +199,25 @@ fn changed_crcs(body: &mut [u8], at: usize) -> u64
 }
 
 // Every change of one byte of a table sector's body, which starts at the sector's byte 16.
-fn show_changes(body: &mut [u8]) {
+fn show_changes(rt: &impl Print, body: &mut [u8]) -> io::Result<()> {
     let mut i = 0;
     while i < body.len() {
-        say(b"byte ");
-        io::print_decimal(STDOUT, 16 + (i as u64));
-        say(b" crcs ");
-        io::print_hex(STDOUT, changed_crcs(body, i), 8);
-        say(b"\n");
+        let crcs = changed_crcs(body, i);
+        println!(rt; "byte {} crcs {crcs:08x}", 16 + (i as u64))?;
         i += 1;
     }
+    Ok(())
 }
 
 // A table sector at block 300,000: there, at the next block, of another kind, and one byte short.
-fn show_tests(s: &[u8]) {
+fn show_tests(rt: &impl Print, s: &[u8]) -> io::Result<()> {
     if s.len() != 2048 {
-        return;
+        return Ok(());
     }
-    show_test(1, s, 300000);
-    show_test(1, s, 300001);
-    show_test(2, s, 300000);
-    show_test(1, &s[0..2047], 300000);
+    show_test(rt, 1, s, 300000)?;
+    show_test(rt, 1, s, 300001)?;
+    show_test(rt, 2, s, 300000)?;
+    show_test(rt, 1, &s[0..2047], 300000)
 }
 
 // The table sector of a map, whose entries are taken from bytes. If they do not fit into it, it names the first of the blocks for own sectors.
@@ -257,55 +245,60 @@ fn make_table(sector: &mut [u8], map: &[u32], previous: u32, stamp: &[u8], b: u3
     );
 }
 
-fn small_table() {
+fn small_table(rt: &impl Print) -> io::Result<()> {
     let mut sector = [0u8; 2048];
     let map = [0, UNUSED, 299999, 3, 65537];
     ramp(&mut sector);
     make_table(&mut sector, &map, 123456, &[0u8; 12], 300000);
-    show_rows(&sector);
-    show_tests(&sector);
-    show_map(&sector);
+    show_rows(rt, &sector)?;
+    show_tests(rt, &sector)?;
+    show_map(rt, &sector)
 }
 
 // The same with a timestamp: 14:05:09.123456 on 15 November 2026, an hour ahead of UTC.
-fn dated_table() {
+fn dated_table(rt: &impl Print) -> io::Result<()> {
     let mut sector = [0u8; 2048];
     let map = [0, UNUSED, 299999, 3, 65537];
     let stamp = [0x3C, 0x10, 0xEA, 0x07, 11, 15, 14, 5, 9, 12, 34, 56];
     ramp(&mut sector);
     make_table(&mut sector, &map, 123456, &stamp, 300000);
-    show_rows(&sector);
-    show_tests(&sector);
-    show_map(&sector);
-    show_stamp(&sector[84..96]);
+    show_rows(rt, &sector)?;
+    show_tests(rt, &sector)?;
+    show_map(rt, &sector)?;
+    show_stamp(rt, &sector[84..96])
 }
 
 // What is told of a timestamp: its minutes and its mark, or that it is wrong.
-fn show_stamp(s: &[u8]) {
+fn show_stamp(rt: &impl Print, s: &[u8]) -> io::Result<()> {
     if s.len() != 12 {
-        return;
+        return Ok(());
     }
     if !timestamp::valid(s) {
-        say(b"stamp: wrong\n");
-        return;
+        return say(rt, b"stamp: wrong\n");
     }
     let mut told = [0u8; 8];
     timestamp::tell(s, &mut told);
-    say(b"stamp: ");
-    io::print_hex(STDOUT, le::read32(&told, 0) as u64, 8);
-    say(b" ");
-    io::print_hex(STDOUT, le::read32(&told, 4) as u64, 8);
-    say(b"\n");
+    println!(rt;
+        "stamp: {:08x} {:08x}",
+        le::read32(&told, 0),
+        le::read32(&told, 4)
+    )
 }
 
 // Half past midnight on 1 January 1970 with zone 60 and with none given; the last minute of 2099 at both ends of the zone; 29 February of 2000 and 2099.
-fn stamps() {
-    show_stamp(&[0x3C, 0x10, 0xB2, 0x07, 1, 1, 0, 30, 0, 0, 0, 0]);
-    show_stamp(&[0x01, 0x18, 0xB2, 0x07, 1, 1, 0, 30, 0, 0, 0, 0]);
-    show_stamp(&[0xA0, 0x15, 0x33, 0x08, 12, 31, 23, 59, 59, 99, 99, 99]);
-    show_stamp(&[0x60, 0x1A, 0x33, 0x08, 12, 31, 23, 59, 59, 99, 99, 99]);
-    show_stamp(&[0x00, 0x10, 0xD0, 0x07, 2, 29, 12, 0, 0, 0, 0, 0]);
-    show_stamp(&[0x00, 0x10, 0x33, 0x08, 2, 29, 12, 0, 0, 0, 0, 0]);
+fn stamps(rt: &impl Print) -> io::Result<()> {
+    show_stamp(rt, &[0x3C, 0x10, 0xB2, 0x07, 1, 1, 0, 30, 0, 0, 0, 0])?;
+    show_stamp(rt, &[0x01, 0x18, 0xB2, 0x07, 1, 1, 0, 30, 0, 0, 0, 0])?;
+    show_stamp(
+        rt,
+        &[0xA0, 0x15, 0x33, 0x08, 12, 31, 23, 59, 59, 99, 99, 99],
+    )?;
+    show_stamp(
+        rt,
+        &[0x60, 0x1A, 0x33, 0x08, 12, 31, 23, 59, 59, 99, 99, 99],
+    )?;
+    show_stamp(rt, &[0x00, 0x10, 0xD0, 0x07, 2, 29, 12, 0, 0, 0, 0, 0])?;
+    show_stamp(rt, &[0x00, 0x10, 0x33, 0x08, 2, 29, 12, 0, 0, 0, 0, 0])
 }
 
 // The table sector `plain`, which has no attributes, with so many bytes of them before its table.
@@ -325,50 +318,49 @@ fn put_behind(s: &mut [u8], plain: &[u8], attributes: usize)
 }
 
 // The small table behind 220 bytes of attributes, as mkudffs has them; as far behind as there is room; one word further; and behind two bytes.
-fn tables_behind() {
+fn tables_behind(rt: &impl Print) -> io::Result<()> {
     let mut plain = [0u8; 2048];
     let mut sector = [0u8; 2048];
     let map = [0, UNUSED, 299999, 3, 65537];
     make_table(&mut plain, &map, 123456, &[0u8; 12], 300000);
     put_behind(&mut sector, &plain, 220);
-    show_rows(&sector);
-    show_tests(&sector);
-    show_map(&sector);
+    show_rows(rt, &sector)?;
+    show_tests(rt, &sector)?;
+    show_map(rt, &sector)?;
     put_behind(&mut sector, &plain, 1812);
-    show_test(1, &sector, 300000);
-    show_map(&sector);
+    show_test(rt, 1, &sector, 300000)?;
+    show_map(rt, &sector)?;
     put_behind(&mut sector, &plain, 1816);
-    show_test(1, &sector, 300000);
+    show_test(rt, 1, &sector, 300000)?;
     put_behind(&mut sector, &plain, 2);
-    show_test(1, &sector, 300000);
+    show_test(rt, 1, &sector, 300000)
 }
 
-fn full_table() {
+fn full_table(rt: &impl Print) -> io::Result<()> {
     let mut sector = [0u8; 2048];
     let mut map = [0u32; 458];
     fill(&mut map);
     make_table(&mut sector, &map, UNUSED, &[0u8; 12], 458);
-    show_rows(&sector);
-    show_test(1, &sector, 458);
-    show_map(&sector);
-    show_changes(&mut sector[16..2044]);
+    show_rows(rt, &sector)?;
+    show_test(rt, 1, &sector, 458)?;
+    show_map(rt, &sector)?;
+    show_changes(rt, &mut sector[16..2044])
 }
 
-fn show_tag(s: &[u8], b: u32) {
+fn show_tag(rt: &impl Print, s: &[u8], b: u32) -> io::Result<()> {
     if s.len() != 2048 {
-        return;
+        return Ok(());
     }
-    say(b"tag at ");
-    io::print_decimal(STDOUT, b as u64);
+    print!(rt; "tag at {b}")?;
     if anchor::tagged(s, b) {
-        say(b": pointer\n");
+        say(rt, b": pointer\n")
     } else {
-        say(b": none\n");
+        say(rt, b": none\n")
     }
 }
 
 // A closing's pointer with tag location 401,491: at both ends of the blocks where its tag is one, one further, and with a bit of its checksum changed.
-fn pointer() {
+fn pointer(rt: &impl Print) -> io::Result<()> {
     let mut sector = [0u8; 2048];
     let main = Extent {
         length: 32768,
@@ -380,174 +372,161 @@ fn pointer() {
     };
     ramp(&mut sector);
     anchor::record(&mut sector, TAG_VERSION, main, reserve, 401491);
-    show_rows(&sector);
-    show_tag(&sector, 1491);
-    show_tag(&sector, 1490);
-    show_tag(&sector, 401491);
-    show_tag(&sector, 401492);
+    show_rows(rt, &sector)?;
+    show_tag(rt, &sector, 1491)?;
+    show_tag(rt, &sector, 1490)?;
+    show_tag(rt, &sector, 401491)?;
+    show_tag(rt, &sector, 401492)?;
     let sum = le::read8(&sector, 4);
     le::put8(&mut sector, 4, sum ^ 1);
-    show_tag(&sector, 1491);
+    show_tag(rt, &sector, 1491)
 }
 
 // The sector judged as the entry of a run at a block, on a disc with these kinds.
-fn show_run(kinds: &[u8], s: &[u8], b: u32) {
+fn show_run(rt: &impl Print, kinds: &[u8], s: &[u8], b: u32) -> io::Result<()> {
     if s.len() != 2048 {
-        return;
+        return Ok(());
     }
     if kinds.len() < (b as usize) {
-        return;
+        return Ok(());
     }
-    say(b"entry at ");
-    io::print_decimal(STDOUT, b as u64);
+    print!(rt; "entry at {b}")?;
     if run::entry::is_entry(kinds, s, b) {
-        say(b": run of ");
-        io::print_decimal(STDOUT, run::entry::information_length(s));
-        say(b"\n");
+        println!(rt; ": run of {}", run::entry::information_length(s))
     } else {
-        say(b": none\n");
+        say(rt, b": none\n")
     }
 }
 
 // Of the entry for extents, length and block by turns, what is worked out: the checksum, the CRC and its length, and the information length.
-fn show_entry(words: &[u32], b: u32) {
+fn show_entry(rt: &impl Print, words: &[u32], b: u32) -> io::Result<()> {
     if words.len() % 2 != 0 {
-        return;
+        return Ok(());
     }
     if 200 < words.len() {
-        return;
+        return Ok(());
     }
     let mut sector = [0u8; 2048];
     run::sector::record(&mut sector, words, b);
-    say(b"entry of ");
-    io::print_decimal(STDOUT, (words.len() / 2) as u64);
-    say(b" at ");
-    io::print_decimal(STDOUT, b as u64);
-    say(b" sum ");
-    show_byte(le::read8(&sector, 4));
-    say(b" crc ");
-    io::print_hex(STDOUT, le::read16(&sector, 8) as u64, 4);
-    say(b" over ");
-    io::print_decimal(STDOUT, le::read16(&sector, 10) as u64);
-    say(b" length ");
-    io::print_decimal(STDOUT, le::read64(&sector, 56));
-    say(b"\n");
+    let sum = le::read8(&sector, 4);
+    let crc = le::read16(&sector, 8);
+    let over = le::read16(&sector, 10);
+    let length = le::read64(&sector, 56);
+    println!(rt;
+        "entry of {} at {b} sum {sum:02x} crc {crc:04x} over {over} length {length}",
+        words.len() / 2
+    )
 }
 
 // The entry of a run of three extents, at its block, at another, and with the last extent's sector unreadable; and what is worked out in others.
-fn runs() {
+fn runs(rt: &impl Print) -> io::Result<()> {
     let mut sector = [0u8; 2048];
     let three: [u32; 6] = [4096, 3, 2048, 10, 1000, 12];
     ramp(&mut sector);
     run::sector::record(&mut sector, &three, 20);
-    show_rows(&sector);
+    show_rows(rt, &sector)?;
     let mut kinds = [1u8; 32];
-    show_run(&kinds, &sector, 20);
-    show_run(&kinds, &sector, 21);
+    show_run(rt, &kinds, &sector, 20)?;
+    show_run(rt, &kinds, &sector, 21)?;
     kinds[12] = 3;
-    show_run(&kinds, &sector, 20);
-    show_entry(&three, 20);
+    show_run(rt, &kinds, &sector, 20)?;
+    show_entry(rt, &three, 20)?;
     let one: [u32; 2] = [1, 0];
-    show_entry(&one, 1);
+    show_entry(rt, &one, 1)?;
     let mut many = [0u32; 200];
     fill(&mut many);
-    show_entry(&many, 300000);
+    show_entry(rt, &many, 300000)?;
     let long: [u32; 4] = [737275904, 0, 1, 359998];
-    show_entry(&long, 359999);
+    show_entry(rt, &long, 359999)
 }
 
-fn show_own_count(n: u32) {
+fn show_own_count(rt: &impl Print, n: u32) -> io::Result<()> {
     if 4087 < n {
-        return;
+        return Ok(());
     }
-    say(b"own sectors of ");
-    io::print_decimal(STDOUT, n as u64);
-    say(b" entries: ");
-    io::print_decimal(STDOUT, vat::own::own_count(n) as u64);
-    say(b"\n");
+    println!(rt; "own sectors of {n} entries: {}", vat::own::own_count(n))
 }
 
 // Both sides of the limits of the ICB and of one own sector, two full own sectors, and the largest table.
-fn own_counts() {
-    show_own_count(0);
-    show_own_count(458);
-    show_own_count(459);
-    show_own_count(503);
-    show_own_count(504);
-    show_own_count(1015);
-    show_own_count(4087);
+fn own_counts(rt: &impl Print) -> io::Result<()> {
+    show_own_count(rt, 0)?;
+    show_own_count(rt, 458)?;
+    show_own_count(rt, 459)?;
+    show_own_count(rt, 503)?;
+    show_own_count(rt, 504)?;
+    show_own_count(rt, 1015)?;
+    show_own_count(rt, 4087)
 }
 
 // The CRC of own sector i of the table of n entries, which are taken from bytes.
-fn show_own(entries: &[u8], n: usize, i: usize) {
+fn show_own(rt: &impl Print, entries: &[u8], n: usize, i: usize) -> io::Result<()> {
     if 4087 < n {
-        return;
+        return Ok(());
     }
     if entries.len() < 4 * n {
-        return;
+        return Ok(());
     }
     if 7 < i {
-        return;
+        return Ok(());
     }
     if 4 * n + 36 <= 2048 * i {
-        return;
+        return Ok(());
     }
     let mut sector = [0u8; 2048];
     ramp(&mut sector);
     vat::own::own_sector(&mut sector, entries, n, 123456, i);
-    say(b"own ");
-    io::print_decimal(STDOUT, i as u64);
-    say(b" ");
-    show_crc(&sector);
+    print!(rt; "own {i} ")?;
+    show_crc(rt, &sector)
 }
 
 // All own sectors of the table of a map.
-fn show_all_own(map: &[u32]) {
+fn show_all_own(rt: &impl Print, map: &[u32]) -> io::Result<()> {
     if 4087 < map.len() {
-        return;
+        return Ok(());
     }
     let mut entries = [0u8; 16348];
     le::run::put_words(&mut entries, 0, map);
-    show_each_own(&entries, map.len());
+    show_each_own(rt, &entries, map.len())
 }
 
-fn show_each_own(entries: &[u8], n: usize) {
+fn show_each_own(rt: &impl Print, entries: &[u8], n: usize) -> io::Result<()> {
     if 4087 < n {
-        return;
+        return Ok(());
     }
     let own = vat::own::own_count(n as u32) as usize;
     let mut i = 0;
     while i < own {
-        show_own(entries, n, i);
+        show_own(rt, entries, n, i)?;
         i += 1;
     }
+    Ok(())
 }
 
-fn large_table(map: &[u32]) {
+fn large_table(rt: &impl Print, map: &[u32]) -> io::Result<()> {
     let mut sector = [0u8; 2048];
     ramp(&mut sector);
     make_table(&mut sector, map, 123456, &[0u8; 12], 300000);
-    show_rows(&sector);
-    show_all_own(map);
+    show_rows(rt, &sector)?;
+    show_all_own(rt, map)
 }
 
 // The smallest table that does not fit into its ICB, and the largest that there is.
-fn large_tables() {
+fn large_tables(rt: &impl Print) -> io::Result<()> {
     let mut map = [0u32; 4087];
     fill(&mut map);
-    large_table(&map[0..459]);
-    large_table(&map);
+    large_table(rt, &map[0..459])?;
+    large_table(rt, &map)
 }
 
-fn main() {
-    crcs();
-    small_table();
-    full_table();
-    tables_behind();
-    dated_table();
-    stamps();
-    pointer();
-    runs();
-    own_counts();
-    large_tables();
+fn main(rt: HostRuntime) -> io::Result<()> {
+    crcs(&rt)?;
+    small_table(&rt)?;
+    full_table(&rt)?;
+    tables_behind(&rt)?;
+    dated_table(&rt)?;
+    stamps(&rt)?;
+    pointer(&rt)?;
+    runs(&rt)?;
+    own_counts(&rt)?;
+    large_tables(&rt)
 }
