@@ -42,6 +42,11 @@ def dedented(text):
     return "\n".join(line[edge:] for line in lines)
 
 
+def parts_of(name):
+    """The words of an operator, between the places of its arguments; a name without places is its own."""
+    return list(filter(None, name.split("◌")))
+
+
 @dataclass
 class Declared:
     """One declaration: what it says, and how it is defined. `parts` are a record's fields or a type's constructors, each with its type."""
@@ -117,7 +122,7 @@ class Module:
             for name in filter(None, map(str.strip, found["names"].split(","))):
                 if name == "*" or re.search(r"[\s.]", name):
                     self.faults.append(f"`{words}` renames or takes more than names")
-                for part in {name, *filter(None, name.split("_"))}:
+                for part in {name, *parts_of(name)}:
                     self.homes[part] = found["home"]
         elif found := re.fullmatch(r"use ([^\s{}*]+?)(?: as (\S+))?", words):
             self.homes[found[2] or found[1].split(".")[-1]] = found[1]

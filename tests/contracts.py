@@ -22,49 +22,46 @@ NUMBERS = {"u32": "uint32_t", "u64": "uint64_t"}
 # A call that has two forms: its constructor, the type of which this takes an option first, and the parameter that the form has for it, or none.
 FORMS = {
     "commit": ("commit", "List ℕ", None),
-    "commitAt": ("commit", "List ℕ", "stamp"),
+    "commit_at": ("commit", "List ℕ", "stamp"),
     "write": ("write", "ℕ", "v"),
-    "writeUnnumbered": ("write", "ℕ", None),
+    "write_unnumbered": ("write", "ℕ", None),
 }
 
 # What is no call of the log but promised by a definition of its own, and where that stands.
-OWN = {"view": (VIEW, "Rattle·run.specs.View")}
+OWN = {"view": (VIEW, "Rattle.run.specs.View")}
 
 # Where the symbols of a contract are defined. The calls' names are added from the contracts themselves.
 HOMES = {
-    "_≡_": "mathlib.Core.Path",
-    "[]": "mathlib.Core.List",
-    "none": "mathlib.Core.Option",
-    "some": "mathlib.Core.Option",
-    "extent": "Rattle·extent.specs.Extents",
-    "lent": "Rattle·disc.specs.Disc",
-    "left": "Rattle·recorder.specs.Effects",
-    "after": "Rattle·recorder.specs.Effects",
-    "leftRoles": "Rattle·roles.specs.Keeping",
-    "afterRoles": "Rattle·roles.specs.Keeping",
+    "◌≡◌": "Rattle.std.specs.Prelude",
+    "[]": "Rattle.std.specs.Prelude",
+    "none": "Rattle.std.proofs.Math.Option",
+    "some": "Rattle.std.proofs.Math.Option",
+    "extent": "Rattle.extent.specs.Extents",
+    "lent": "Rattle.disc.specs.Disc",
+    "left": "Rattle.recorder.specs.Effects",
+    "after": "Rattle.recorder.specs.Effects",
+    "left_roles": "Rattle.roles.specs.Keeping",
+    "after_roles": "Rattle.roles.specs.Keeping",
 }
-CALLS_HOME = "Rattle·recorder.specs.Calls"
+CALLS_HOME = "Rattle.recorder.specs.Calls"
+
+# What Rattle itself says in a contract: the answer, and what a slice holds at the entry and at the exit.
+OF_RATTLE = ["result", "now", "old", "new"]
+
+# The marks that export nothing and leave nothing out: which proofs are tried, which functions are proved together, and what std makes of a type.
+MARKS = re.compile(r"#!?\[tactic\([^\[\]]*\)\]|#\[cycle\(\w+\)\]|#\[derive\((?:Clone|Copy|Drop|Debug|Default|PartialEq|Eq|PartialOrd|Ord|Hash|,\s*)+\)\]")
 
 # The header's lines for the preprocessor, beside its macros: nothing is declared for some compilers alone.
 GUARD = ["#ifndef STATION_H", "#define STATION_H", "#include <stddef.h>", "#include <stdint.h>", "#endif"]
 FOR_C_PLUS_PLUS = re.compile(r'^#ifdef __cplusplus\n(?:extern "C" \{|\})\n#endif$', re.MULTILINE)
 
 
-def now(name, time):
-    """A buffer's bytes at the entry or the exit, as a contract writes them."""
-    return f"(now ({name} .{time}))"
-
-
-def written(name):
-    """A number's name in a contract: one with an underscore stands between these marks."""
-    return f"«{name}»" if "_" in name else name
-
-
 class Exported:
-    """An exported function: its name, its parameters as pairs of name and type, and its clauses as pairs of word and text."""
+    """An exported function: its name, its parameters as pairs of name and type, and its clauses."""
 
     def __init__(self, file, function):
-        self.file, self.name, self.result, self.clauses, self.whole = file, function.name, function.result, function.clauses, function.whole
+        self.file, self.name, self.result, self.clauses = file, function.name, function.result, function.clauses
+        self.whole = function.whole and not function.kinds
         self.where = f"{file}: {self.name}"
         self.parameters = []
         for parameter in filter(None, map(folded, function.parameters.split(","))):
@@ -72,9 +69,8 @@ class Exported:
             self.parameters.append((name.strip(), kind.strip()))
 
     def form(self):
-        """Its call, by its name: station_close_packet_roles is closePacket."""
-        first, *others = self.name.removeprefix("station_").removesuffix("_roles").split("_")
-        return first + "".join(map(str.capitalize, others))
+        """Its call, by its name: station_close_packet_roles is close_packet."""
+        return self.name.removeprefix("station_").removesuffix("_roles")
 
     def lent(self):
         """What it is lent first: the roles too, if its name says so."""
@@ -84,6 +80,14 @@ class Exported:
         """Its call's constructor."""
         return FORMS[self.form()][0] if self.form() in FORMS else self.form()
 
+    def at_entry(self, name):
+        """A slice's bytes at the entry, as a contract writes them. What is not lent for change has the same all along."""
+        return f"{name}.{'old' if dict(self.parameters)[name] == '&mut [u8]' else 'now'}"
+
+    def at_exit(self, name):
+        """A slice's bytes at the exit."""
+        return f"{name}.{'new' if dict(self.parameters)[name] == '&mut [u8]' else 'now'}"
+
     def own(self):
         """What its call is about, behind the ledger: each as its type and as the contract writes it. A length and directly behind it the location of the
         same name are one extent."""
@@ -92,12 +96,12 @@ class Exported:
             (name, kind), *parameters = parameters
             location = name.removesuffix("_length") + "_location"
             if kind in SLICES:
-                found.append(("List ℕ", now(name, "entry")))
+                found.append(("List ℕ", self.at_entry(name)))
             elif name.endswith("_length") and parameters[:1] == [(location, "u32")]:
-                found.append(("Extent", f"(extent {written(name)} {written(location)})"))
+                found.append(("Extent", f"(extent {name} {location})"))
                 parameters = parameters[1:]
             else:
-                found.append(("ℕ", written(name)))
+                found.append(("ℕ", name))
         return found
 
     def given(self):
@@ -121,21 +125,17 @@ class Exported:
         return f"uint64_t {self.name}({', '.join(words)})"
 
     def contract(self):
-        """The one equation that it must promise: what it leaves is what `after` says of what it was lent, with roles `afterRoles`, or its own definition."""
+        """The one equation that it must promise: what it leaves is what `after` says of what it was lent, with roles `after_roles`, or its own definition."""
         kinds = dict(self.parameters)
-        left, after = ("leftRoles", "afterRoles") if self.lent() is ALL_THREE else ("left", "after")
-
-        def at_end(name):
-            return now(name, "exit" if kinds[name] == "&mut [u8]" else "entry")
-
+        left, after = ("left_roles", "after_roles") if self.lent() is ALL_THREE else ("left", "after")
         given = [text for _, text in self.given()]
         call = f"({' '.join([self.call(), *given])})" if given else self.call()
-        buffers = [at_end(name) for name in BUFFERS if name in kinds]
-        leaves = " ".join([left, "r", *map(at_end, self.lent()), *(buffers or ["[]"])])
-        disc = f"(lent {now('image', 'entry')} {now('kinds', 'entry')})"
-        lent = " ".join([disc, *(now(name, "entry") for name in self.lent()[2:])])
+        buffers = [self.at_exit(name) for name in BUFFERS if name in kinds]
+        leaves = " ".join([left, "result", *map(self.at_exit, self.lent()), *(buffers or ["[]"])])
+        disc = f"(lent {self.at_entry('image')} {self.at_entry('kinds')})"
+        lent = " ".join([disc, *map(self.at_entry, self.lent()[2:])])
         said = f"{self.form()} {lent} {' '.join(given)}" if self.form() in OWN else f"{after} {lent} {call}"
-        return f"λ r. ⌜ {leaves} ≡ {said} ⌝"
+        return f"{leaves} ≡ {said}"
 
 
 def exported_functions(sources):
@@ -146,9 +146,9 @@ def exported_functions(sources):
         found = [Exported(file, one) for one in rattle.functions(sources.text(file)) if one.exported]
         marks = max(len(re.findall(r"no_mangle|export_name", text)), len(re.findall(r"\bextern\b", text)))
         if marks != len(found):
-            sources.fail(file, f'{marks} marks of an exported function, and {len(found)} of the form `#[no_mangle] pub extern "C" fn`')
+            sources.fail(file, f'{marks} marks of an exported function, and {len(found)} of the form `#[unsafe(no_mangle)] pub extern "C" fn`')
         for attribute in re.findall(r"#!?\[[^\]]*\]", text):
-            if attribute != "#[no_mangle]" and "export_name" not in attribute:
+            if attribute != "#[unsafe(no_mangle)]" and "export_name" not in attribute and not MARKS.fullmatch(attribute):
                 sources.fail(file, f"`{attribute}`: what it makes of the code is not known here")
         exported += found
     return exported
@@ -157,14 +157,14 @@ def exported_functions(sources):
 def constructors(sources):
     """The calls' constructors with the types that they take."""
     text = antt.without_comments(sources.text(CALLS))
-    calls = re.search(r"data Call : Type 0 where\n((?:[ \t]+\S.*\n|\n)*)", text)
+    calls = re.search(r"^pub data Call : Type 0 where\n((?:[ \t]+\S.*\n|\n)*)", text, re.MULTILINE)
     found = re.findall(r"^\s+(\w+) : (.*)$", calls[1] if calls else "", re.MULTILINE)
     return {name: [folded(t) for t in kind.split("→")] for name, kind in found}
 
 
 def altering(sources):
     """The calls that alter disc or ledger: by the first two columns of their manner, which restore the ledger or may record."""
-    rows = re.findall(r"^mannerOf \(?(\w+).*= manner (true|false) (true|false) ", sources.text(CALLS), re.MULTILINE)
+    rows = re.findall(r"^manner_of \(?(\w+).*= manner (true|false) (true|false) ", sources.text(CALLS), re.MULTILINE)
     return {name for name, *columns in rows if "true" in columns}
 
 
@@ -209,17 +209,17 @@ def check_signature(sources, function, calls):
         wanted = [*SLICES] if slice_of_bytes else ["u64" if name == "offset" else "u32"]
         if kind not in wanted:
             sources.fail(function.where, f"its parameter {name} is of type {kind}, not {' or '.join(wanted)}")
-        if name in [*HOMES, *calls, *OWN, "r", "now"]:
+        if name in [*HOMES, *calls, *OWN, *OF_RATTLE]:
             sources.fail(function.where, f"its parameter {name} hides a symbol of the contract")
     check_call(sources, function, calls)
     return len(sources.failures) == before
 
 
 def check_contract(sources, function):
-    ensures = [text for word, text in function.clauses if word == "ensures"]
-    for word, text in function.clauses:
-        if word != "ensures":
-            sources.fail(function.where, f"has a {word}: {text}")
+    ensures = [clause.text for clause in function.clauses if clause.word == "ensures"]
+    for clause in function.clauses:
+        if clause.word != "ensures":
+            sources.fail(function.where, f"has a {clause.word}: {clause.text}")
     if len(ensures) != 1:
         sources.fail(function.where, f"has {len(ensures)} ensures, not one")
     elif ensures[0] != function.contract():
@@ -236,9 +236,9 @@ def check_symbols(sources, file, homes):
             sources.fail(file, f"no ghost use brings {symbol} from {home}")
         check_home(sources, symbol, home)
     # An operator that shares a part with a symbol could be read in its place.
-    parts = {part: symbol for symbol in [*homes, "now"] for part in symbol.split("_") if part}
+    parts = {part: symbol for symbol in [*homes, *OF_RATTLE] for part in antt.parts_of(symbol)}
     for module, name in named:
-        meant = {parts[part] for part in name.split("_") if part in parts}
+        meant = {parts[part] for part in antt.parts_of(name) if part in parts}
         for symbol in meant:
             if (name, module) != (symbol, homes.get(symbol)):
                 sources.fail(file, f"{name} from {module} stands in for {symbol} from {homes.get(symbol, 'the logic')}")
@@ -248,8 +248,8 @@ def check_symbols(sources, file, homes):
 
 def check_home(sources, symbol, home):
     """A home in this repository declares the symbol itself: what it passed on under that name could be another's."""
-    found = re.fullmatch(r"Rattle·(\w+)\.specs\.(\w+)", home)
-    if not found:
+    found = re.fullmatch(r"Rattle\.(\w+)\.specs\.(\w+)", home)
+    if not found or found[1] == "std":
         return
     file = f"crates/{found[1]}/specs/{found[2]}.antt"
     module = antt.module(sources.text(file), "definition")
@@ -300,7 +300,7 @@ def check_exported(sources):
     for function in functions:
         if check_signature(sources, function, calls):
             check_contract(sources, function)
-        elif any(word == "requires" for word, _ in function.clauses):
+        elif any(clause.word.startswith("requires") for clause in function.clauses):
             sources.fail(function.where, "has a requires")
     for file in sorted({function.file for function in functions}):
         own = {f.call(): OWN[f.form()][1] if f.form() in OWN else CALLS_HOME for f in functions if f.file == file}

@@ -6,6 +6,7 @@ do not count, and a name counts with the module that it comes from.
 """
 import hashlib
 import re
+from collections import Counter
 
 import antt
 import rattle
@@ -30,7 +31,7 @@ THEOREMS = {
     "history/proofs/Closed": ["closed-discs"],
     "history/proofs/Theorem": ["power-cuts", "remounts", "save-then-mount"],
     "history/proofs/Times": ["retells", "save-then-time", "save-times"],
-    "le/proofs/Bytes": ["getD-sets-other"],
+    "le/proofs/Bytes": ["get_d-sets-other"],
     "le/proofs/Fields": ["read-put", "read-sets-apart"],
     "run/proofs/Theorems": ["reads-back", "recognised"],
     "space/proofs/Theorem": ["space"],
@@ -39,6 +40,9 @@ THEOREMS = {
     "vat/proofs/Theorems": ["reads-back", "not-elsewhere", "at-one-block", "tells", "all-unused-at-zero"],
     "volume/proofs/State": ["unpack-pack", "pack-unpack"],
 }
+
+# What is written for the proof of one function, in a folder of its own: no one else's statement.
+OF_ONE_FUNCTION = ("Proof", "Invariants", "Answers")
 
 # Where rows and lists are worked out: all that is defined there and every claim.
 WORKED = ["bench/proofs/*", "cuts/proofs/Dated", "cuts/proofs/Drawn", "cuts/proofs/Lists", "cuts/proofs/Viewed", "cuts/proofs/Worked", "days/proofs/*", "space/proofs/Worked"]
@@ -63,7 +67,8 @@ class Lock:
             for name in names:
                 self.law(file, name)
         for path in sorted((root / "crates" / PAGE).glob("proofs/**/*.antt")):
-            self.all_laws(path)
+            if path.parent.name == "proofs" or path.stem not in OF_ONE_FUNCTION:
+                self.all_laws(path)
         for pattern in WORKED:
             for path in sorted((root / "crates").glob(f"{pattern}.antt")):
                 self.worked(path)
@@ -117,7 +122,7 @@ class Lock:
         """The file of a module of some crate's proofs/; of a name that no `use` brings, the file itself."""
         if module is None:
             return file
-        found = re.fullmatch(r"Rattle·([^·.]+)(?:·proofs)?\.proofs\.(.*)", module)
+        found = re.fullmatch(r"Rattle\.(\w+)\.proofs\.(.*)", module)
         return f"{found[1]}/proofs/{found[2].replace('.', '/')}" if found else None
 
     def law(self, file, name):
@@ -154,19 +159,29 @@ class Lock:
         source = path.read_text()
         named, others = rattle.ghost_names(source)
         self.faults += [(f"crates/{crate}/{place}.rt", f"`ghost {item}` is not of the form `ghost use MODULE.{{names}}`, without `as`") for item in others]
-        homes = {part: home for home, name in named for part in {name, *filter(None, name.split("_"))}}
-        for name, text in rattle.types(source).items():
-            self.add(crate, f"{place}.{name}", text.split())
+        homes = {part: home for home, name in named for part in {name, *antt.parts_of(name)}}
+        for name, text in rattle.types(source):
+            self.one(crate, place, name, (text or "").split(), "" if text else "its fields cannot be read")
         for function in rattle.functions(source):
             if not function.public and crate not in WHOLE:
                 continue
-            name = f"{place}.{function.name}"
-            self.add(crate, name, antt.tokens(f"{function.parameters} -> {function.result}"))
-            for word in dict.fromkeys(word for word, _ in function.clauses):
-                texts = [text for kind, text in function.clauses if kind == word]
-                for number, text in enumerate(texts, 1):
-                    words = [f"{token}@{homes[token]}" if token in homes else token for token in antt.tokens(text)]
-                    self.add(crate, f"{name} {word}" + (f" {number}" if number > 1 else ""), words)
+            fault = "" if function.whole else "something else than `requires {..}` and `ensures {..}` stands between its result and its body"
+            self.one(crate, place, function.name, antt.tokens(f"{function.kinds} {function.parameters} -> {function.result}"), fault)
+            of_word = Counter()
+            for clause in function.clauses:
+                # A clause that is named stands under its name, and another by how many of its word stand before it.
+                key = clause.name and f"{clause.word} {clause.name}" or clause.word
+                of_word[key] += 1
+                words = [f"{token}@{homes[token]}" if token in homes else token for token in antt.tokens(clause.text)]
+                self.add(crate, f"{place}.{function.name} {key}" + (f" {of_word[key]}" if of_word[key] > 1 else ""), words)
+
+    def one(self, crate, place, name, words, fault):
+        """A line of its own for what the code declares: two of one name would have one line."""
+        if (crate, f"{place}.{name}") in self.lines:
+            fault = "is declared twice"
+        if fault:
+            self.faults.append((f"crates/{crate}/{place}.rt", f"{name}: {fault}"))
+        self.add(crate, f"{place}.{name}", words)
 
     def edits(self):
         """Each edit that must be refused: by which crate, and what it puts in definitions and code. What it mends in proofs, and at which law it is refused,

@@ -26,52 +26,94 @@ def closing(text, at):
 
 
 @dataclass
+class Clause:
+    """A clause: its word, the name that it has beside others of its word, or none, and what stands in its braces."""
+    word: str
+    name: str
+    text: str
+
+
+@dataclass
 class Function:
-    """A function: whether others can call it, its parameters and its result as they stand, its clauses as pairs of word and text, and whether its body
-    follows these directly."""
+    """A function: whether others can call it, its type parameters with what is asked of them, its parameters and its result as they stand, its clauses,
+    and whether its body follows these directly."""
     name: str
     public: bool
     exported: bool
+    kinds: str
     parameters: str
     result: str
     clauses: list
     whole: bool
 
 
-FUNCTION = re.compile(r'(?P<export>#\[no_mangle\]\s*)?(?P<public>\bpub )?(?P<c>extern "C" )?\bfn (?P<name>\w+)\s*(?:<[^>(]*>\s*)?\(')
-RESULT = re.compile(r"\s*->\s*(?P<result>.*?)(?=\s+(?:ghost|requires|ensures|measure)\s*\{|\s*\{|\s+\w+\s*$|\s+where\b)", re.DOTALL)
+FUNCTION = re.compile(r'(?P<export>#\[unsafe\(no_mangle\)\]\s*(?:#\[tactic\([^\]]*\)\]\s*)*)?(?P<public>\bpub(?:\([^()]*\))? )?(?P<marks>(?:const |unsafe )*)(?P<c>extern "C" )?\bfn (?P<name>\w+)\s*')
+CLAUSE = re.compile(r"\s*(?P<word>(?:requires|ensures)\*?)(?:\s+(?P<name>\w+))?\s*\{")
+RESULT = re.compile(rf"\s*->\s*(?P<result>(?:\[[^\]]*\]|[^;{{])*?)(?=\s{CLAUSE.pattern}|\s+where\b|\s*[{{;]|\s*\Z)")
+ASKED = re.compile(rf"\s*(?P<asked>where\b[^;{{]*?)(?=\s{CLAUSE.pattern}|\s*[{{;])")
+# In these every function can be called by whoever has the trait.
+OF_TRAITS = re.compile(r"\b(?:(?P<trait>trait\s+\w)|impl\b[^{};]*?\sfor\s)[^{};]*\{")
+
+
+def behind_kinds(text, at):
+    """The place behind the type parameters that begin at a place, if any do: an arrow closes nothing."""
+    if text[at:at + 1] != "<":
+        return at
+    depth = 0
+    for found in re.compile(r"->|[<>]").finditer(text, at):
+        depth += {"<": 1, ">": -1}.get(found[0], 0)
+        if depth == 0:
+            return found.end()
+    return len(text)
 
 
 @cache
 def functions(source):
     """The functions of a file. A clause is read with all that stands in it: what it says is not Rattle's text but the prover's."""
     text, found = without_comments(source), []
+    blocks = [(block.start(), closing(text, block.end() - 1), bool(block["trait"])) for block in OF_TRAITS.finditer(text)]
     for head in FUNCTION.finditer(text):
-        end = closing(text, head.end() - 1)
-        parameters = text[head.end():end]
-        at, result = end + 1, ""
-        if told := RESULT.match(text, at):
-            at, result = told.end(), told["result"]
-        clauses = []
-        while word := re.compile(r"\s*(\w+)\s*\{").match(text, at):
-            end = closing(text, word.end() - 1)
-            clauses.append((word[1], folded(source[word.end():end])))
-            at = end + 1
-        whole = bool(re.compile(r"\s*\{").match(text, at))
-        found.append(Function(head["name"], bool(head["public"]), bool(head["export"] and head["public"] and head["c"]), parameters, folded(result), clauses, whole))
+        of_traits = [is_trait for start, end, is_trait in blocks if start < head.start() < end]
+        opens = behind_kinds(text, head.end())
+        kinds, parameters, result, clauses, whole = text[head.end():opens], "", "", [], False
+        if text[opens:opens + 1] == "(":
+            end = closing(text, opens)
+            parameters, at = text[opens + 1:end], end + 1
+            if told := RESULT.match(text, at):
+                at, result = told.end(), told["result"]
+            if told := ASKED.match(text, at):
+                at, kinds = told.end(), kinds + told["asked"]
+            while word := CLAUSE.match(text, at):
+                end = closing(text, word.end() - 1)
+                clauses.append(Clause(word["word"], word["name"] or "", folded(source[word.end():end])))
+                at = end + 1
+            whole = bool(re.compile(r"\s*[{;]" if any(of_traits) else r"\s*\{").match(text, at))
+        exported = bool(head["export"] and head["public"] == "pub " and head["c"] and not head["marks"])
+        found.append(Function(head["name"], bool(head["public"] or of_traits), exported, folded(kinds), parameters, folded(result), clauses, whole))
     return found
 
 
+TYPE = re.compile(r"(?P<marks>(?:#\[[^\]]*\]\s*)*(?:\bpub(?:\([^()]*\))?\s+)?)\b(?:struct|enum) (?P<name>\w+)")
+FIELDS = re.compile(r"\s*(?:where\b[^{;]*(?=[{;]))?[{(;]")
+
+
 def types(source):
-    """The declared types of a file, each with its text: the definitions name them."""
+    """The declared types of a file as pairs of name and text, or of name and None where it cannot be read: the definitions name them. What a mark makes of
+    a type, as one that may be copied, is said too."""
     text = without_comments(source)
-    return {found[1]: folded(found[0]) for found in re.finditer(r"\b(?:struct|enum) (\w+)\s*(?:\{[^{}]*\}|\([^()]*\);)", text)}
+    for found in TYPE.finditer(text):
+        fields = FIELDS.match(text, behind_kinds(text, found.end()))
+        if not fields:
+            yield found["name"], None
+            continue
+        last = fields.end() - 1
+        yield found["name"], folded(text[found.start():(last if text[last] == ";" else closing(text, last)) + 1])
 
 
 def ghost_names(source):
     """The names that the file's contracts bring as pairs of module and name, and the items of another form, which could rename or take more."""
     named, others = [], []
-    for item in re.findall(r"\bghost\b([^;]*);", without_comments(source)):
+    for item in re.findall(r"\bghost\b([^;]*)(?:;|\Z)", without_comments(source)):
         item = folded(item)
         form = re.fullmatch(r"use ([^{}\s]+)\.\{ ?([^{}\s.,]+(?:, ?[^{}\s.,]+)*),? ?\}", item)
         if not form or form[2] == "*":

@@ -3,7 +3,7 @@
 
     python3 tests/statements.py                            the sources
     python3 tests/statements.py --accept                   the same, and the lock written anew
-    python3 tests/statements.py --archive "LINE" [FILE.a]  the line that `rt staticlib station` ends in ('-': from standard input), and the archive
+    python3 tests/statements.py --archive "LINE" [FILE.a]  the line that `rt lib` ends in for it ('-': from standard input), and the archive
 
 Every function is proved against its contract, and every theorem against its statement, whatever that says. So that none comes to say less unseen, the
 contract that a signature calls for is written out and compared (contracts.py), and all statements are held by name (lock.py). Each failure is one line;
@@ -48,8 +48,8 @@ def check_client(sources):
 
 def check_floors(sources):
     """The viewer imports none of the code behind the log's promises, only what lies below both; and nothing imports the exporting crate."""
-    lines = [line.split(":") for line in sources.text(FLOORS).splitlines() if line and not line.startswith("#")]
-    imports = {name: words.split() for name, words in lines}
+    lines = [line.partition("#")[0].partition(":") for line in sources.text(FLOORS).splitlines()]
+    imports = {head.split()[0]: words.split() for head, _, words in lines if head.strip()}
     if "calls" in imports.get("viewer", ["calls"]):
         sources.fail(FLOORS, "viewer imports calls: of the calls it is to know only the log's promises")
     for name, words in imports.items():
@@ -80,8 +80,16 @@ def check_sources(sources, accept):
     return f"{len(functions)} exported functions, each with the contract of its signature, as the header declares them\n{told}"
 
 
+# How each line begins by which rattle judges a crate: those of the crates below stand before the archive's own.
+JUDGED = ("logic=", "holes=", "rattle: no verdict")
+
+# What the line of an archive says where nothing is only assumed. What else it could say is that something is: a function of C, an axiom, a hole, a contract
+# that may say nothing or a function that may not return.
+SAID = {"logic", "functions", "target", "cpu", "sum", "native", "logic-built", "libraries-built", "statements", "incremental"}
+
+
 def check_archive(sources, said, path):
-    lines = [line for line in said.splitlines() if line.startswith("logic=")]
+    lines = [line for line in said.splitlines() if line.startswith(JUDGED)]
     line = lines[-1] if lines else said.strip()
     words = dict(word.partition("=")[::2] for word in line.split())
     texts = map(sources.text, sources.files(contracts.STATION + "**/*.rt"))
@@ -90,9 +98,12 @@ def check_archive(sources, said, path):
         sources.fail("archive", f"`{line}` does not say logic=proved")
     if words.get("functions") != str(count):
         sources.fail("archive", f"`{line}` does not say functions={count}, as many as {contracts.STATION} has")
-    for word in ("axioms", "foreign"):
-        if word in words:
-            sources.fail("archive", f"`{line}` says {word}={words[word]}: something is only assumed")
+    if "target" not in words:
+        sources.fail("archive", f"`{line}` names no target, as the line of an archive does")
+    for one in lines:
+        for word, equals, said_of_it in (word.partition("=") for word in one.split()):
+            if equals and word not in SAID:
+                sources.fail("archive", f"`{one}` says {word}={said_of_it}: something is only assumed")
     if path:
         check_defined(sources, path)
     return f"archive: {line}"

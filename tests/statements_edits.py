@@ -23,10 +23,10 @@ EFFECTS = "crates/recorder/specs/Effects.antt"
 VIEW = "crates/run/specs/View.antt"
 FLOORS = "crates.txt"
 
-WRITE_LEFT = "leftRoles r (now (image .exit)) (now (kinds .exit)) (now (roles .exit)) (now (ledger .exit)) (now (block .entry))"
-WRITE_AFTER = "afterRoles (lent (now (image .entry)) (now (kinds .entry))) (now (roles .entry)) (now (ledger .entry)) (write (some v) (now (block .entry)))"
+WRITE_LEFT = "left_roles result image.new kinds.new roles.new ledger.new block.now"
+WRITE_AFTER = "after_roles (lent image.old kinds.old) roles.old ledger.old (write (some v) block.now)"
 WRITE = f"{WRITE_LEFT} ≡ {WRITE_AFTER}"
-EXPORT = '#[no_mangle]\npub extern "C" fn {}(image: &[u8], kinds: &[u8], ledger: &[u8]) -> u64\n{{\n    0\n}}\n'
+EXPORT = '#[unsafe(no_mangle)]\npub extern "C" fn {}(image: &[u8], kinds: &[u8], ledger: &[u8]) -> u64\n{{\n    0\n}}\n'
 RELEASE = """pub extern "C" fn station_release_roles(
     image: &[u8],
     kinds: &[u8],
@@ -36,62 +36,75 @@ RELEASE = """pub extern "C" fn station_release_roles(
 ) -> u64"""
 
 # The calls that the code imports, as it names them.
-IMPORTED = " ".join(re.search(r"ghost use Rattle·recorder\.specs\.Calls\.\{[^}]*\}", (ROOT / CODE).read_text())[0].split())
-CLOSE = "(closeSession (extent «main_length» «main_location») (extent «reserve_length» «reserve_location») «partition_start»)"
+IMPORTED = " ".join(re.search(r"ghost use Rattle\.recorder\.specs\.Calls\.\{[^}]*\}", (ROOT / CODE).read_text())[0].split())
+EXTENT = "ghost use Rattle.extent.specs.Extents.{extent};"
+CLOSE = "(close_session (extent main_length main_location) (extent reserve_length reserve_location) partition_start)"
+
+EXPORTED = (ROOT / CODE).read_text().count("#[unsafe(no_mangle)]")
 
 # What is wrong: the file, text that stands once in it, what stands there instead, and what the refusal says.
 SOURCES = {
     # a contract that says less
-    "write_asks_for_31_sectors": (CODE, f"    ensures {{ λ r. ⌜ {WRITE}",
-        f"    requires {{ ⌜ length (now kinds) ≡ 31 ⌝ }}\n    ensures {{ λ r. ⌜ {WRITE}",
-        "lib.rt: station_write_roles: has a requires: ⌜ length (now kinds) ≡ 31 ⌝"),
-    "write_promises_its_answer_alone": (CODE, WRITE, f"r ≡ {WRITE_AFTER} .call .answer",
-        "lib.rt: station_write_roles: its ensures is not"),
-    "write_promises_nothing": (CODE, f"    ensures {{ λ r. ⌜ {WRITE} ⌝ }}\n", "",
+    "write_asks_for_31_sectors": (CODE, f"    ensures {{ {WRITE}",
+        f"    requires {{ length kinds.old ≡ 31 }}\n    ensures {{ {WRITE}",
+        "lib.rt: station_write_roles: has a requires: length kinds.old ≡ 31"),
+    "write_asks_for_31_sectors_by_name": (CODE, f"    ensures {{ {WRITE}",
+        f"    requires sized {{ length kinds.old ≡ 31 }}\n    ensures {{ {WRITE}",
+        "lib.rt: station_write_roles: has a requires: length kinds.old ≡ 31"),
+    "write_asks_for_31_sectors_with_a_star": (CODE, f"    ensures {{ {WRITE}",
+        f"    requires* {{ ⌜ length kinds.old ≡ 31 ⌝ }}\n    ensures {{ {WRITE}",
+        "lib.rt: station_write_roles: has a requires*: ⌜ length kinds.old ≡ 31 ⌝"),
+    "write_promises_with_a_star": (CODE, f"    ensures {{ {WRITE} }}\n", f"    ensures* {{ ⌜ {WRITE} ⌝ }}\n",
         "lib.rt: station_write_roles: has 0 ensures, not one"),
-    "write_promises_twice": (CODE, f"{WRITE_AFTER} ⌝ }}", f"{WRITE_AFTER} ⌝ }}\n    ensures {{ λ r. ⌜ r ≡ r ⌝ }}",
-        "lib.rt: station_write_roles: has 2 ensures, not one"),
-    "write_compares_the_roles_lent": (CODE, WRITE, WRITE.replace("roles .exit", "roles .entry"),
+    "write_promises_its_answer_alone": (CODE, WRITE, f"result ≡ ({WRITE_AFTER}).call.answer",
         "lib.rt: station_write_roles: its ensures is not"),
-    "write_compares_the_image_lent": (CODE, WRITE, WRITE.replace("image .exit", "image .entry"),
+    "write_promises_nothing": (CODE, f"    ensures {{ {WRITE} }}\n", "",
+        "lib.rt: station_write_roles: has 0 ensures, not one"),
+    "write_promises_twice": (CODE, f"    ensures {{ {WRITE} }}\n", f"    ensures all {{ {WRITE} }}\n    ensures more {{ result ≡ result }}\n",
+        "lib.rt: station_write_roles: has 2 ensures, not one"),
+    "write_compares_the_roles_lent": (CODE, WRITE, WRITE.replace("roles.new", "roles.old"),
+        "lib.rt: station_write_roles: its ensures is not"),
+    "write_compares_the_image_lent": (CODE, WRITE, WRITE.replace("image.new", "image.old"),
+        "lib.rt: station_write_roles: its ensures is not"),
+    "write_begins_from_what_it_leaves": (CODE, WRITE, WRITE.replace("lent image.old", "lent image.new"),
         "lib.rt: station_write_roles: its ensures is not"),
     "write_is_the_other_form": (CODE, WRITE, WRITE.replace("(some v)", "none"),
         "lib.rt: station_write_roles: its ensures is not"),
-    "write_unnumbered_has_a_number": (CODE, "(write none (now (block .entry)))", "(write (some 0) (now (block .entry)))",
+    "write_unnumbered_has_a_number": (CODE, "(write none block.now)", "(write (some 0) block.now)",
         "lib.rt: station_write_unnumbered_roles: its ensures is not"),
-    "view_of_another_number": (CODE, "v offset (now (buffer .entry))", "0 offset (now (buffer .entry))",
+    "view_of_another_number": (CODE, "v offset buffer.old", "0 offset buffer.old",
         "lib.rt: station_view: its ensures is not"),
-    "view_exchanges_number_and_offset": (CODE, "v offset (now (buffer .entry))", "offset v (now (buffer .entry))",
+    "view_exchanges_number_and_offset": (CODE, "v offset buffer.old", "offset v buffer.old",
         "lib.rt: station_view: its ensures is not"),
-    "view_compares_the_buffer_lent": (CODE, "(now (buffer .exit))", "(now (buffer .entry))",
+    "view_compares_the_buffer_lent": (CODE, "buffer.new", "buffer.old",
         "lib.rt: station_view: its ensures is not"),
-    "begin_is_another_call": (CODE, "(now (ledger .entry)) begin ⌝", "(now (ledger .entry)) mount ⌝",
+    "begin_is_another_call": (CODE, "ledger.old begin }", "ledger.old mount }",
         "lib.rt: station_begin_roles: its ensures is not"),
     "release_of_another_number": (CODE, "(release v)", "(release 0)",
         "lib.rt: station_release_roles: its ensures is not"),
-    "release_promises_behind_a_comment": (CODE, "(release v) ⌝ }", "(release v) ⌝ // }\n}",
+    "release_promises_behind_a_comment": (CODE, "(release v) }", "(release v) // }\n}",
         "lib.rt: station_release_roles: its ensures is not"),
-    "look_back_adds_a_clause": (CODE, "(lookBack k) ⌝ }", "(lookBack k) ⌝ }\n    where",
+    "look_back_adds_a_clause": (CODE, "(look_back k) }", "(look_back k) }\n    where",
         "lib.rt: station_look_back_roles: something else than"),
     "a_client_asks_for_31_sectors": ("crates/client/src/lib.rt", "pub fn begin_and_mount(image: &[u8], kinds: &[u8], roles: &mut [u8], ledger: &mut [u8]) -> u64\n",
-        "pub fn begin_and_mount(image: &[u8], kinds: &[u8], roles: &mut [u8], ledger: &mut [u8]) -> u64\n    requires { ⌜ length (now kinds) ≡ 31 ⌝ }\n",
+        "pub fn begin_and_mount(image: &[u8], kinds: &[u8], roles: &mut [u8], ledger: &mut [u8]) -> u64\n    requires { length kinds.now ≡ 31 }\n",
         "crates/client/src/lib.rt: has a requires"),
-    "commit_at_is_the_other_form": (CODE, "(commit (some (now (stamp .entry))))", "(commit none)",
+    "commit_at_is_the_other_form": (CODE, "(commit (some stamp.now))", "(commit none)",
         "lib.rt: station_commit_at_roles: its ensures is not"),
-    "commit_is_some_form": (CODE, "(now (ledger .entry)) (commit none) ⌝", "(now (ledger .entry)) (commit (some [])) ⌝",
+    "commit_is_some_form": (CODE, "ledger.old (commit none) }", "ledger.old (commit (some [])) }",
         "lib.rt: station_commit_roles: its ensures is not"),
-    "time_of_compares_the_answer_lent": (CODE, "(now (answer .exit))", "(now (answer .entry))",
+    "time_of_compares_the_answer_lent": (CODE, "answer.new", "answer.old",
         "lib.rt: station_time_of: its ensures is not"),
     "close_session_exchanges_the_extents": (CODE, CLOSE,
-        "(closeSession (extent «reserve_length» «reserve_location») (extent «main_length» «main_location») «partition_start»)",
+        "(close_session (extent reserve_length reserve_location) (extent main_length main_location) partition_start)",
         "lib.rt: station_close_session_roles: its ensures is not"),
-    "close_session_exchanges_length_and_location": (CODE, CLOSE, CLOSE.replace("«main_length» «main_location»", "«main_location» «main_length»"),
+    "close_session_exchanges_length_and_location": (CODE, CLOSE, CLOSE.replace("main_length main_location", "main_location main_length"),
         "lib.rt: station_close_session_roles: its ensures is not"),
-    "close_session_names_one_extent_twice": (CODE, CLOSE, CLOSE.replace("«reserve_length» «reserve_location»", "«main_length» «main_location»"),
+    "close_session_names_one_extent_twice": (CODE, CLOSE, CLOSE.replace("reserve_length reserve_location", "main_length main_location"),
         "lib.rt: station_close_session_roles: its ensures is not"),
-    "close_session_starts_at_0": (CODE, CLOSE, CLOSE.replace("«partition_start»", "0"),
+    "close_session_starts_at_0": (CODE, CLOSE, CLOSE.replace("partition_start", "0"),
         "lib.rt: station_close_session_roles: its ensures is not"),
-    "close_session_leaves_out_the_start": (CODE, CLOSE, CLOSE.replace(" «partition_start»", ""),
+    "close_session_leaves_out_the_start": (CODE, CLOSE, CLOSE.replace(" partition_start", ""),
         "lib.rt: station_close_session_roles: its ensures is not"),
     # a signature
     "release_number_of_64_bits": (CODE, RELEASE, RELEASE.replace("v: u32", "v: u64"),
@@ -104,8 +117,10 @@ SOURCES = {
         "lib.rt: station_release_roles: its parameters do not begin with image, kinds, roles, ledger"),
     "release_is_lent_no_roles": (CODE, RELEASE, RELEASE.replace("release_roles", "release").replace("    roles: &mut [u8],\n", ""),
         "lib.rt: station_release: a call is lent the roles, and named so, exactly if it alters disc or ledger"),
-    "release_alters_nothing": (CALLS, "mannerOf (release v) = manner false true", "mannerOf (release v) = manner false false",
+    "release_alters_nothing": (CALLS, "manner_of (release v) = manner false true", "manner_of (release v) = manner false false",
         "lib.rt: station_release_roles: a call is lent the roles, and named so, exactly if it alters disc or ledger"),
+    "release_of_any_kind_of_number": (CODE, RELEASE, RELEASE.replace("release_roles(", "release_roles<T>("),
+        "lib.rt: station_release_roles: something else than"),
     "release_hides_a_symbol": (CODE, RELEASE, RELEASE.replace("v: u32", "after: u32"),
         "lib.rt: station_release_roles: its parameter after hides a symbol"),
     "release_lends_another_buffer": (CODE, RELEASE, RELEASE.replace("v: u32", "v: &[u8]"),
@@ -126,11 +141,11 @@ SOURCES = {
     "view_defined_without_an_offset": (VIEW, "pub view : Disc → List ℕ → ℕ → ℕ → List ℕ → After", "pub view : Disc → List ℕ → ℕ → List ℕ → After",
         "lib.rt: station_view: crates/run/specs/View.antt defines view : Disc → List ℕ → ℕ → List ℕ → After, not"),
     "close_session_takes_the_location_first": (CODE, "    main_length: u32,\n    main_location: u32,\n", "    main_location: u32,\n    main_length: u32,\n",
-        "lib.rt: station_close_session_roles: crates/recorder/specs/Calls.antt has no constructor closeSession : ℕ → ℕ → Extent → ℕ → Call"),
+        "lib.rt: station_close_session_roles: crates/recorder/specs/Calls.antt has no constructor close_session : ℕ → ℕ → Extent → ℕ → Call"),
     "close_session_takes_no_start": (CODE, "    partition_start: u32,\n", "",
-        "lib.rt: station_close_session_roles: crates/recorder/specs/Calls.antt has no constructor closeSession : Extent → Extent → Call"),
-    "close_session_takes_no_reserve": (CALLS, "  closeSession : Extent → Extent → ℕ → Call", "  closeSession : Extent → ℕ → Call",
-        "lib.rt: station_close_session_roles: crates/recorder/specs/Calls.antt has no constructor closeSession : Extent → Extent → ℕ → Call"),
+        "lib.rt: station_close_session_roles: crates/recorder/specs/Calls.antt has no constructor close_session : Extent → Extent → Call"),
+    "close_session_takes_no_reserve": (CALLS, "  close_session : Extent → Extent → ℕ → Call", "  close_session : Extent → ℕ → Call",
+        "lib.rt: station_close_session_roles: crates/recorder/specs/Calls.antt has no constructor close_session : Extent → Extent → ℕ → Call"),
     # what is exported
     "exported_from_another_crate": ("crates/listing/src/lib.rt", "pub mod text;\n", "pub mod text;\n\n" + EXPORT.format("station_list"),
         "crates/listing/src/lib.rt: station_list: exported from another crate than station"),
@@ -138,7 +153,11 @@ SOURCES = {
         "crates/calls/src/lib.rt: 1 marks of an exported function"),
     "exported_and_not_declared": (CODE, "use extent::Extent;\n", "use extent::Extent;\n\n" + EXPORT.format("station_erase"),
         "station.h: station_erase is declared 0 times, not once"),
-    "exported_under_a_condition": (CODE, '#[no_mangle]\npub extern "C" fn station_begin_roles(', '#[cfg(none)]\n#[no_mangle]\npub extern "C" fn station_begin_roles(',
+    "exported_as_a_rust_function": (CODE, "use extent::Extent;\n", "use extent::Extent;\n\n" + EXPORT.format("station_erase").replace('extern "C" ', ""),
+        f'lib.rt: {EXPORTED + 1} marks of an exported function, and {EXPORTED} of the form'),
+    "exported_by_a_plain_mark": (CODE, '#[unsafe(no_mangle)]\npub extern "C" fn station_begin_roles(', '#[no_mangle]\npub extern "C" fn station_begin_roles(',
+        "lib.rt: `#[no_mangle]`: what it makes of the code is not known here"),
+    "exported_under_a_condition": (CODE, '#[unsafe(no_mangle)]\npub extern "C" fn station_begin_roles(', '#[cfg(none)]\n#[unsafe(no_mangle)]\npub extern "C" fn station_begin_roles(',
         "lib.rt: `#[cfg(none)]`: what it makes of the code is not known here"),
     "nothing_exported": (CODE, None, "", "no function is exported"),
     # the header
@@ -175,56 +194,70 @@ SOURCES = {
     "header_declares_commit_for_c_plus_plus_alone": (HEADER, "uint64_t station_commit_roles(", "#ifdef __cplusplus\nuint64_t station_commit_roles(",
         "station.h: `#ifdef __cplusplus`: what stands behind it may be declared or not"),
     # what the symbols mean
-    "after_from_another_module": (CODE, "specs.Effects.{left, after};", "specs.Effects.{left};\nghost use Rattle·recorder.specs.Weaker.{after};",
-        "lib.rt: no ghost use brings after from Rattle·recorder.specs.Effects"),
-    "after_twice": (CODE, "specs.Effects.{left, after};", "specs.Effects.{left, after};\nghost use Rattle·recorder.specs.Weaker.{after};",
-        "lib.rt: after from Rattle·recorder.specs.Weaker stands in for after from Rattle·recorder.specs.Effects"),
-    "after_with_roles_from_another_module": (CODE, "ghost use Rattle·roles.specs.Keeping.{leftRoles, afterRoles};",
-        "ghost use Rattle·roles.specs.Keeping.{leftRoles};\nghost use Rattle·roles.specs.Weaker.{afterRoles};",
-        "lib.rt: no ghost use brings afterRoles from Rattle·roles.specs.Keeping"),
-    "equality_from_another_module": (CODE, "ghost use mathlib.Core.Path.{_≡_};", "ghost use Rattle·recorder.specs.Weaker.{_≡_};",
-        "lib.rt: no ghost use brings _≡_ from mathlib.Core.Path"),
-    "an_operator_that_begins_with_left": (CODE, "ghost use mathlib.Core.List.{[]};", "ghost use mathlib.Core.List.{[]};\nghost use Rattle·recorder.specs.Weaker.{left_};",
-        "lib.rt: left_ from Rattle·recorder.specs.Weaker stands in for left"),
-    "now_from_another_module": (CODE, "ghost use mathlib.Core.List.{[]};", "ghost use mathlib.Core.List.{[]};\nghost use Rattle·recorder.specs.Weaker.{now};",
-        "lib.rt: now from Rattle·recorder.specs.Weaker stands in for now from the logic"),
-    "extent_from_another_module": (CODE, "ghost use Rattle·extent.specs.Extents.{extent};", "ghost use Rattle·recorder.specs.Weaker.{extent};",
-        "lib.rt: no ghost use brings extent from Rattle·extent.specs.Extents"),
-    "view_from_another_module": (CODE, "ghost use Rattle·run.specs.View.{view};", "ghost use Rattle·recorder.specs.Weaker.{view};",
-        "lib.rt: no ghost use brings view from Rattle·run.specs.View"),
-    "a_call_renamed": (CODE, ", commit, ", ", closePacket as commit, ",
-        f"lib.rt: `{IMPORTED.replace(', commit, ', ', closePacket as commit, ')}` is not of the form"),
+    "after_from_another_module": (CODE, "specs.Effects.{left, after};", "specs.Effects.{left};\nghost use Rattle.recorder.specs.Weaker.{after};",
+        "lib.rt: no ghost use brings after from Rattle.recorder.specs.Effects"),
+    "after_twice": (CODE, "specs.Effects.{left, after};", "specs.Effects.{left, after};\nghost use Rattle.recorder.specs.Weaker.{after};",
+        "lib.rt: after from Rattle.recorder.specs.Weaker stands in for after from Rattle.recorder.specs.Effects"),
+    "after_with_roles_from_another_module": (CODE, "ghost use Rattle.roles.specs.Keeping.{left_roles, after_roles};",
+        "ghost use Rattle.roles.specs.Keeping.{left_roles};\nghost use Rattle.roles.specs.Weaker.{after_roles};",
+        "lib.rt: no ghost use brings after_roles from Rattle.roles.specs.Keeping"),
+    "equality_from_another_module": (CODE, "Prelude.{◌≡◌, []};", "Prelude.{[]};\nghost use Rattle.recorder.specs.Weaker.{◌≡◌};",
+        "lib.rt: no ghost use brings ◌≡◌ from Rattle.std.specs.Prelude"),
+    "an_operator_that_begins_with_left": (CODE, EXTENT, EXTENT + "\nghost use Rattle.recorder.specs.Weaker.{left◌};",
+        "lib.rt: left◌ from Rattle.recorder.specs.Weaker stands in for left"),
+    "an_operator_of_an_answer": (CODE, EXTENT, EXTENT + "\nghost use Rattle.recorder.specs.Weaker.{result◌};",
+        "lib.rt: result◌ from Rattle.recorder.specs.Weaker stands in for result from the logic"),
+    "now_from_another_module": (CODE, EXTENT, EXTENT + "\nghost use Rattle.recorder.specs.Weaker.{now};",
+        "lib.rt: now from Rattle.recorder.specs.Weaker stands in for now from the logic"),
+    "extent_from_another_module": (CODE, EXTENT, "ghost use Rattle.recorder.specs.Weaker.{extent};",
+        "lib.rt: no ghost use brings extent from Rattle.extent.specs.Extents"),
+    "view_from_another_module": (CODE, "ghost use Rattle.run.specs.View.{view};", "ghost use Rattle.recorder.specs.Weaker.{view};",
+        "lib.rt: no ghost use brings view from Rattle.run.specs.View"),
+    "a_call_renamed": (CODE, ", commit, ", ", close_packet as commit, ",
+        f"lib.rt: `{IMPORTED.replace(', commit, ', ', close_packet as commit, ')}` is not of the form"),
     "a_call_not_imported": (CODE, ", commit, ", ", ",
-        "lib.rt: no ghost use brings commit from Rattle·recorder.specs.Calls"),
-    "a_name_that_no_contract_has": (CODE, "ghost use mathlib.Core.List.{[]};", "ghost use mathlib.Core.List.{[]};\nghost use Rattle·recorder.specs.Weaker.{_whenever_};",
-        "lib.rt: a ghost use brings _whenever_ from Rattle·recorder.specs.Weaker, which no contract here has"),
-    "after_passed_on_by_its_home": (EFFECTS, "unfoldable pub after : ", "pub use Rattle·recorder·specs.specs.Weaker.{after}\n\nunfoldable pub afterwards : ",
+        "lib.rt: no ghost use brings commit from Rattle.recorder.specs.Calls"),
+    "a_name_that_no_contract_has": (CODE, EXTENT, EXTENT + "\nghost use Rattle.recorder.specs.Weaker.{◌whenever◌};",
+        "lib.rt: a ghost use brings ◌whenever◌ from Rattle.recorder.specs.Weaker, which no contract here has"),
+    "after_passed_on_by_its_home": (EFFECTS, "unfoldable pub after : ", "pub use Rattle.recorder.specs.Weaker.{after}\n\nunfoldable pub afterwards : ",
         "crates/recorder/specs/Effects.antt: does not declare after, which the contracts take from it"),
     "a_call_passed_on_by_its_home": (CALLS, "  commit : Option (List ℕ) → Call", "  save : Option (List ℕ) → Call",
         "crates/recorder/specs/Calls.antt: does not declare commit, which the contracts take from it"),
-    "a_module_taken_whole": (CODE, "ghost use mathlib.Core.List.{[]};", "ghost use mathlib.Core.List.{[]};\nghost use Rattle·recorder.specs.Weaker;",
-        "lib.rt: `ghost use Rattle·recorder.specs.Weaker` is not of the form"),
+    "a_module_taken_whole": (CODE, EXTENT, EXTENT + "\nghost use Rattle.recorder.specs.Weaker;",
+        "lib.rt: `ghost use Rattle.recorder.specs.Weaker` is not of the form"),
     # who stands above whom
     "the_viewer_opens_the_calls": (FLOORS, "\nviewer: ", "\nviewer: calls ", "crates.txt: viewer imports calls"),
     "something_above_the_exports": (FLOORS, "\nlisting: ", "\nlisting: station ", "crates.txt: listing imports station"),
+    "another_archive_above_the_exports": (FLOORS, "\nlisting: ", "\nlisting staticlib opt_level=3: station ", "crates.txt: listing imports station"),
 }
 
 # One more number: the same rule calls for it in the signature, in the call, in the contract and in the header, in the same order.
 ANOTHER_NUMBER = [
     (CODE, "    ledger: &mut [u8],\n    k: u32,\n", "    ledger: &mut [u8],\n    k: u32,\n    from_block: u32,\n"),
-    (CODE, "(lookBack k)", "(lookBack k «from_block»)"),
-    (CALLS, "  lookBack : ℕ → Call\n", "  lookBack : ℕ → ℕ → Call\n"),
+    (CODE, "(look_back k)", "(look_back k from_block)"),
+    (CALLS, "  look_back : ℕ → Call\n", "  look_back : ℕ → ℕ → Call\n"),
     (HEADER, "uint32_t k)", "uint32_t k, uint32_t from_block)"),
 ]
 
-# The line that `rt staticlib station` ends in, and what the refusal says.
+# The line that `rt lib` ends in for the archive, behind that of a crate below it, and what the refusal says.
 COUNT = len(re.findall(r"^[^/\n]*\bfn ", (ROOT / CODE).read_text(), re.MULTILINE))
-PROVED = f"logic=proved functions={COUNT} sum=0 native=nat"
+TRUSTED = "native=nat,char,string logic-built=trusted libraries-built=trusted statements=trusted"
+PROVED = f"logic=proved functions={COUNT} target=x86_64-unknown-linux-gnu cpu=x86-64-v2 sum=0 {TRUSTED}"
+BELOW = f"logic=proved functions={COUNT} sum=0 {TRUSTED}"
 LINES = {
     "archive_not_proved": (PROVED.replace("proved", "not-proved"), "does not say logic=proved"),
     "archive_of_fewer_functions": (PROVED.replace(f"={COUNT}", f"={COUNT - 1}"), f"does not say functions={COUNT}"),
     "archive_with_an_axiom": (PROVED + " axioms=1", "says axioms=1"),
-    "archive_with_a_function_of_c": (PROVED + " foreign=1", "says foreign=1"),
+    "archive_with_a_function_of_c": (PROVED + " foreign=station::erase", "says foreign=station::erase"),
+    "archive_with_a_contract_that_says_nothing": (PROVED + " hides=1", "says hides=1"),
+    "archive_with_a_fault_in_what_rattle_made": (PROVED + " bugs=1", "says bugs=1"),
+    "archive_that_may_abort": (PROVED + " may-abort=1", "says may-abort=1"),
+    "archive_that_may_wait": (PROVED + " may-wait=1", "says may-wait=1"),
+    "archive_under_another_logic": (PROVED + " pinned=no", "says pinned=no"),
+    "archive_with_holes": (f"{PROVED}\nholes=2", "`holes=2` does not say logic=proved"),
+    "archive_with_no_verdict": (f"{PROVED}\nrattle: no verdict: it ran out of memory", "does not say logic=proved"),
+    "archive_over_a_crate_with_a_function_of_c": (f"{BELOW} foreign=le::erase\n{PROVED}", "says foreign=le::erase"),
+    "archive_of_which_only_the_crates_below_are_proved": (BELOW, "names no target"),
     "archive_that_says_nothing": ("", "does not say logic=proved"),
 }
 
@@ -304,14 +337,15 @@ def try_sources(folder):
         edited(folder, file, old, new)
     expect("another_number", statements.said_of(folder, ["--accept"]), 0, "exported functions, each with the contract of its signature")
     expect("another_number_accepted", statements.said_of(folder, []), 0, "exported functions, each with the contract of its signature")
-    edited(folder, CODE, "(lookBack k «from_block»)", "(lookBack «from_block» k)")
+    edited(folder, CODE, "(look_back k from_block)", "(look_back from_block k)")
     expect("another_number_in_another_order", statements.said_of(folder, []), 1, "lib.rt: station_look_back_roles: its ensures is not")
     copied(folder)
 
 
 def try_archives(folder):
     expect("line_as_it_is", statements.said_of(folder, ["--archive", PROVED]), 0, PROVED)
-    expect("line_on_standard_input", statements.said_of(folder, ["--archive", "-"], f"said before\n{PROVED}\n"), 0, PROVED)
+    expect("line_of_work_that_was_kept", statements.said_of(folder, ["--archive", f"{PROVED} incremental=trusted"]), 0, PROVED)
+    expect("line_on_standard_input", statements.said_of(folder, ["--archive", "-"], f"{BELOW}\naxioms std: none reached of the 2 declared\n{PROVED}\n"), 0, PROVED)
     for label, (line, refusal) in LINES.items():
         expect(label, statements.said_of(folder, ["--archive", line]), 1, refusal)
     expect("archive_as_declared", statements.said_of(folder, ["--archive", PROVED, archive_of(folder, NAMES)]), 0, PROVED)
