@@ -128,7 +128,7 @@ outside_vectors() {
 # The archive that the host program links: proved, with nothing that is only assumed, and with the functions of the header alone.
 archive() {
     local told
-    told=$(cd crates/station && rt lib 2>&1) || { echo "$told" | tail -n 20; return 1; }
+    told=$(cd crates/station && rt lib --cpu x86-64 2>&1) || { echo "$told" | tail -n 20; return 1; }
     python3 tests/statements.py --archive "$told" crates/station/out/libstation.a
 }
 

@@ -86,6 +86,6 @@ fn changed(path: &Path) -> io::Result<SystemTime> {
 }
 
 fn refuse(cause: &str) -> ! {
-    eprintln!("The recording core is {cause}. `rt lib`, in crates/station, makes it.");
+    eprintln!("The recording core is {cause}. `rt lib --cpu x86-64`, in crates/station, makes it.");
     exit(1);
 }

@@ -128,9 +128,9 @@ sources_newer_than() {
     find crates -mindepth 2 -maxdepth 2 \( -name src -o -name specs -o -name proofs \) -exec find {} -newer "$1" \;
 }
 
-# rt leaves an archive as it is where only comments changed.
+# For every processor of the kind: an archive does not look at which it runs on. rt leaves it as it is where only comments changed.
 make_archive() {
-    (cd crates/station && rt lib) && touch "$1" && echo "made $1"
+    (cd crates/station && rt lib --cpu x86-64) && touch "$1" && echo "made $1"
 }
 
 # The archive, made anew if a source is newer. It takes some 20 s, also where nothing changed, so not at every start.

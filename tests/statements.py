@@ -84,8 +84,8 @@ def check_sources(sources, accept):
 JUDGED = ("logic=", "holes=", "rattle: no verdict")
 
 # What the line of an archive says where nothing is only assumed. What else it could say is that something is: a function of C, an axiom, a hole, a contract
-# that may say nothing or a function that may not return.
-SAID = {"logic", "functions", "target", "cpu", "sum", "native", "logic-built", "libraries-built", "statements", "incremental"}
+# that may say nothing, a function that may not return or a processor of a later kind, at which a static library does not look when it runs.
+SAID = {"logic", "functions", "target", "sum", "native", "logic-built", "libraries-built", "statements", "incremental"}
 
 
 def check_archive(sources, said, path):

@@ -242,7 +242,7 @@ ANOTHER_NUMBER = [
 # The line that `rt lib` ends in for the archive, behind that of a crate below it, and what the refusal says.
 COUNT = len(re.findall(r"^[^/\n]*\bfn ", (ROOT / CODE).read_text(), re.MULTILINE))
 TRUSTED = "native=nat,char,string logic-built=trusted libraries-built=trusted statements=trusted"
-PROVED = f"logic=proved functions={COUNT} target=x86_64-unknown-linux-gnu cpu=x86-64-v2 sum=0 {TRUSTED}"
+PROVED = f"logic=proved functions={COUNT} target=x86_64-unknown-linux-gnu sum=0 {TRUSTED}"
 BELOW = f"logic=proved functions={COUNT} sum=0 {TRUSTED}"
 LINES = {
     "archive_not_proved": (PROVED.replace("proved", "not-proved"), "does not say logic=proved"),
@@ -253,6 +253,7 @@ LINES = {
     "archive_with_a_fault_in_what_rattle_made": (PROVED + " bugs=1", "says bugs=1"),
     "archive_that_may_abort": (PROVED + " may-abort=1", "says may-abort=1"),
     "archive_that_may_wait": (PROVED + " may-wait=1", "says may-wait=1"),
+    "archive_for_later_processors": (PROVED.replace(" sum=", " cpu=x86-64-v2 sum="), "says cpu=x86-64-v2"),
     "archive_under_another_logic": (PROVED + " pinned=no", "says pinned=no"),
     "archive_with_holes": (f"{PROVED}\nholes=2", "`holes=2` does not say logic=proved"),
     "archive_with_no_verdict": (f"{PROVED}\nrattle: no verdict: it ran out of memory", "does not say logic=proved"),

@@ -10,7 +10,7 @@ use common::Folder;
 
 const SETUP: &str = concat!(env!("CARGO_MANIFEST_DIR"), "/../setup.sh");
 
-/// As `rt lib`, in crates/station, tells it.
+/// As `rt lib --cpu x86-64`, in crates/station, tells it.
 const TOLD: &str = "\
 rt: chose --jobs 2 for le
 fn le::read16: proved
