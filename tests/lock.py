@@ -189,7 +189,7 @@ class Lock:
         for path in [*self.root.glob("crates/*/must-fail/*.edit"), *self.root.glob("tests/must-fail/*.edit")]:
             words, kept = [], True
             for line in path.read_text().splitlines():
-                word, _, text = line.partition(": ")
+                word, _, text = line.removeprefix("# ").partition(": ")
                 kept = not re.search(r"(^|/)proofs/", text) if word == "file" else kept
                 if word == "refused" or word in ("file", "old", "new") and kept:
                     words += [word, *antt.tokens(text)]
