@@ -133,7 +133,7 @@ make_archive() {
     (cd crates/station && rt lib --cpu x86-64) && touch "$1" && echo "made $1"
 }
 
-# The archive, made anew if a source is newer. It takes some 20 s, also where nothing changed, so not at every start.
+# The archive, made anew if a source is newer. It takes some seconds, also where nothing changed, so not at every start.
 fresh_archive() {
     local archive=crates/station/out/libstation.a log=host/target/archive.log
     if [ ! -e "$archive" ] || [ -n "$(sources_newer_than "$archive")" ]; then

@@ -25,7 +25,12 @@ fn listed(input: &[u8]) -> String {
         .stdin(Stdio::piped())
         .stdout(Stdio::piped())
         .spawn()
-        .unwrap_or_else(|error| panic!("{}: {error}; rt run in crates/list makes it", program.display()));
+        .unwrap_or_else(|error| {
+            panic!(
+                "{}: {error}; rt run in crates/list makes it",
+                program.display()
+            )
+        });
     // It may answer before it has read all of an input that is too long.
     let _ = running.stdin.take().expect("a pipe").write_all(input);
     let output = running.wait_with_output().expect("an answer");

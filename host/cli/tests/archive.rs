@@ -21,8 +21,7 @@ logic=proved functions=40 sum=dac8208d650f15bf
 rt: chose --jobs 2 for station
 fn station::station_read: proved";
 
-const CRATES: &str =
-    "# One line a crate\nle:\nvat: le\nlist: le vat\nstation staticlib: le vat\n";
+const CRATES: &str = "# One line a crate\nle:\nvat: le\nlist: le vat\nstation staticlib: le vat\n";
 
 /// A folder with crates, in which `rt` tells this and ends so.
 fn told_by(end: &str) -> String {
