@@ -34,8 +34,8 @@ OWN = {"view": (VIEW, "Rattle.run.specs.View")}
 HOMES = {
     "◌≡◌": "Rattle.std.specs.Prelude",
     "[]": "Rattle.std.specs.Prelude",
-    "none": "Rattle.std.proofs.Math.Option",
-    "some": "Rattle.std.proofs.Math.Option",
+    "None": "Rattle.std.specs.Prelude",
+    "Some": "Rattle.std.specs.Prelude",
     "extent": "Rattle.extent.specs.Extents",
     "lent": "Rattle.disc.specs.Disc",
     "left": "Rattle.recorder.specs.Effects",
@@ -48,8 +48,10 @@ CALLS_HOME = "Rattle.recorder.specs.Calls"
 # What Rattle itself says in a contract: the answer, and what a slice holds at the entry and at the exit.
 OF_RATTLE = ["result", "now", "old", "new"]
 
-# The marks that export nothing and leave nothing out: which proofs are tried, which functions are proved together, and what std makes of a type.
-MARKS = re.compile(r"#!?\[tactic\([^\[\]]*\)\]|#\[cycle\(\w+\)\]|#\[derive\((?:Clone|Copy|Drop|Debug|Default|PartialEq|Eq|PartialOrd|Ord|Hash|,\s*)+\)\]")
+# The marks that export nothing and leave nothing out: which proofs are tried, which functions are proved together, and what std makes of a type. Where no
+# proof is tried, goals are left to what is written by hand: that is none of these.
+TRIED = r"tactic\(\s*auto\s*(?:,\s*(?:using|unfolding)\([\w\s:,]*\)\s*)*,?\s*\)"
+MARKS = re.compile(rf"#!?\[{TRIED}\]|#\[cycle\(\w+\)\]|#\[derive\((?:Clone|Copy|Drop|Debug|Default|PartialEq|Eq|PartialOrd|Ord|Hash|,\s*)+\)\]")
 
 # The header's lines for the preprocessor, beside its macros: nothing is declared for some compilers alone.
 GUARD = ["#ifndef STATION_H", "#define STATION_H", "#include <stddef.h>", "#include <stdint.h>", "#endif"]
@@ -111,7 +113,7 @@ class Exported:
             return own
         _, kind, name = FORMS[self.form()]
         option = f"Option {kind}" if " " not in kind else f"Option ({kind})"
-        return [(option, "none"), *own] if name is None else [(option, f"(some {text})") for _, text in own[:1]] + own[1:]
+        return [(option, "None"), *own] if name is None else [(option, f"(Some {text})") for _, text in own[:1]] + own[1:]
 
     def takes(self):
         """The types that its constructor takes."""
@@ -147,7 +149,7 @@ def exported_functions(sources):
         marks = max(len(re.findall(r"no_mangle|export_name", text)), len(re.findall(r"\bextern\b", text)))
         if marks != len(found):
             sources.fail(file, f'{marks} marks of an exported function, and {len(found)} of the form `#[unsafe(no_mangle)] pub extern "C" fn`')
-        for attribute in re.findall(r"#!?\[[^\]]*\]", text):
+        for attribute in re.findall(r"#\s*!?\s*\[[^\]]*\]", text):
             if attribute != "#[unsafe(no_mangle)]" and "export_name" not in attribute and not MARKS.fullmatch(attribute):
                 sources.fail(file, f"`{attribute}`: what it makes of the code is not known here")
         exported += found
@@ -228,9 +230,12 @@ def check_contract(sources, function):
 
 def check_symbols(sources, file, homes):
     """Every symbol of the file's contracts is imported once, from its home, which defines it; nothing is renamed or taken whole, and nothing else comes."""
-    named, others = rattle.ghost_names(sources.text(file))
+    brought, members, others = rattle.ghosts(sources.text(file))
+    named = [(use.home, name) for use in brought for name in use.names]
     for item in others:
-        sources.fail(file, f"`ghost {item}` is not of the form `ghost use MODULE.{{names}}`, without `as`")
+        sources.fail(file, f"`{item}` is not of the form `ghost use MODULE.{{names}}`, without `as`")
+    for item in [*members, *(use for use in brought if use.block)]:
+        sources.fail(file, f"a ghost item stands in `{item.block.name}`, which no contract here is of")
     for symbol, home in homes.items():
         if (home, symbol) not in named:
             sources.fail(file, f"no ghost use brings {symbol} from {home}")

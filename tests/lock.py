@@ -1,4 +1,4 @@
-"""The lock of the statements: every definition, contract, theorem, worked row and edit by its name, with a sum of what it says.
+"""The lock of the statements: every definition, contract, ghost member, theorem, worked row and edit by its name, with a sum of what it says.
 
 A proof holds whatever its statement says, so nothing else refuses a statement that came to say less where no one uses what was lost. The lock,
 tests/statements.lock, has a line for each, and a statement that moved, is new or went is told by its name. A sum is of the tokens alone: comments and layout
@@ -50,6 +50,26 @@ WORKED = ["bench/proofs/*", "cuts/proofs/Dated", "cuts/proofs/Drawn", "cuts/proo
 
 def summed(words):
     return hashlib.sha256(" ".join(words).encode()).hexdigest()[:16]
+
+
+def numbered(name, counted):
+    """A name, and behind it how many of it there are up to here, if it is not the first."""
+    return name + (f" {counted[name]}" if counted[name] > 1 else "")
+
+
+def homes(brought, block):
+    """From each name that serves in a block, or outside of every block, to the modules that bring it: the file's, and the block's own."""
+    found = {}
+    for use in brought:
+        if use.block in (None, block):
+            for part in {part for name in use.names for part in [name, *antt.parts_of(name)]}:
+                found[part] = list(dict.fromkeys([*found.get(part, []), use.home]))
+    return found
+
+
+def resolved(text, known):
+    """The tokens of a text of the prover's, each name that a module brings with that module, and with both where two do."""
+    return ["@".join([token, *known.get(token, [])]) for token in antt.tokens(text)]
 
 
 class Lock:
@@ -154,26 +174,42 @@ class Lock:
                 self.counts["worked lists"] += 1
 
     def contracts(self, path):
-        """Each function's parameters and each of its clauses, and the declared types. A promise without a precondition has no line for one."""
+        """What a file of code states: its declared types, its impls and traits, each ghost member, and of each function the parameters and each clause. A
+        promise without a precondition has no line for one."""
         crate, _, place = str(path.relative_to(self.root / "crates")).removesuffix(".rt").partition("/")
         source = path.read_text()
-        named, others = rattle.ghost_names(source)
-        self.faults += [(f"crates/{crate}/{place}.rt", f"`ghost {item}` is not of the form `ghost use MODULE.{{names}}`, without `as`") for item in others]
-        homes = {part: home for home, name in named for part in {name, *antt.parts_of(name)}}
+        brought, members, others = rattle.ghosts(source)
+        self.faults += [(f"crates/{crate}/{place}.rt", f"`{item}` is of no known form") for item in others]
         for name, text in rattle.types(source):
             self.one(crate, place, name, (text or "").split(), "" if text else "its fields cannot be read")
-        for function in rattle.functions(source):
-            if not function.public and crate not in WHOLE:
-                continue
-            fault = "" if function.whole else "something else than `requires {..}` and `ensures {..}` stands between its result and its body"
-            self.one(crate, place, function.name, antt.tokens(f"{function.kinds} {function.parameters} -> {function.result}"), fault)
-            of_word = Counter()
-            for clause in function.clauses:
-                # A clause that is named stands under its name, and another by how many of its word stand before it.
-                key = clause.name and f"{clause.word} {clause.name}" or clause.word
-                of_word[key] += 1
-                words = [f"{token}@{homes[token]}" if token in homes else token for token in antt.tokens(clause.text)]
-                self.add(crate, f"{place}.{function.name} {key}" + (f" {of_word[key]}" if of_word[key] > 1 else ""), words)
+        self.blocks(crate, place, source)
+        for member in members:
+            self.one(crate, place, f"{member.block.name}.{member.name}", resolved(member.text, homes(brought, member.block)), "")
+        functions = [function for function in rattle.functions(source) if function.public or crate in WHOLE]
+        named = Counter(function.name for function in functions)
+        for function in functions:
+            # In a block it stands under the block's name too where the file has another of its name.
+            name = f"{function.block.name}.{function.name}" if function.block and named[function.name] > 1 else function.name
+            self.function(crate, place, name, function, homes(brought, function.block))
+
+    def blocks(self, crate, place, source):
+        """The impls and traits: a method's promise is about the type that its impl is of. What a struct says is said with the types."""
+        of_name = Counter()
+        for block in rattle.blocks(source):
+            if block.word != "struct":
+                of_name[block.name] += 1
+                fault = "" if block.start < block.end else "its header cannot be read"
+                self.one(crate, place, numbered(block.name, of_name), antt.tokens(rattle.said_by(source, block, crate in WHOLE)), fault)
+
+    def function(self, crate, place, name, function, known):
+        fault = "" if function.whole else "something else than `requires {..}` and `ensures {..}` stands between its result and its body"
+        self.one(crate, place, name, antt.tokens(f"{function.kinds} {function.parameters} -> {function.result}"), fault)
+        of_word = Counter()
+        for clause in function.clauses:
+            # A clause that is named stands under its name, and another by how many of its word stand before it.
+            key = clause.name and f"{clause.word} {clause.name}" or clause.word
+            of_word[key] += 1
+            self.add(crate, f"{place}.{name} {numbered(key, of_word)}", resolved(clause.text, known))
 
     def one(self, crate, place, name, words, fault):
         """A line of its own for what the code declares: two of one name would have one line."""

@@ -17,6 +17,7 @@ import statements
 
 ROOT = Path(__file__).resolve().parent.parent
 CODE = "crates/station/src/lib.rt"
+CLIENT = "crates/client/src/lib.rt"
 HEADER = "host/include/station.h"
 CALLS = "crates/recorder/specs/Calls.antt"
 EFFECTS = "crates/recorder/specs/Effects.antt"
@@ -24,7 +25,7 @@ VIEW = "crates/run/specs/View.antt"
 FLOORS = "crates.txt"
 
 WRITE_LEFT = "left_roles result image.new kinds.new roles.new ledger.new block.now"
-WRITE_AFTER = "after_roles (lent image.old kinds.old) roles.old ledger.old (write (some v) block.now)"
+WRITE_AFTER = "after_roles (lent image.old kinds.old) roles.old ledger.old (write (Some v) block.now)"
 WRITE = f"{WRITE_LEFT} ≡ {WRITE_AFTER}"
 EXPORT = '#[unsafe(no_mangle)]\npub extern "C" fn {}(image: &[u8], kinds: &[u8], ledger: &[u8]) -> u64\n{{\n    0\n}}\n'
 RELEASE = """pub extern "C" fn station_release_roles(
@@ -39,6 +40,9 @@ RELEASE = """pub extern "C" fn station_release_roles(
 IMPORTED = " ".join(re.search(r"ghost use Rattle\.recorder\.specs\.Calls\.\{[^}]*\}", (ROOT / CODE).read_text())[0].split())
 EXTENT = "ghost use Rattle.extent.specs.Extents.{extent};"
 CLOSE = "(close_session (extent main_length main_location) (extent reserve_length reserve_location) partition_start)"
+
+# A client's function that stands on one line.
+BEGIN_AND_MOUNT = lock_edits.line_of(CLIENT, "pub fn begin_and_mount(")
 
 EXPORTED = (ROOT / CODE).read_text().count("#[unsafe(no_mangle)]")
 
@@ -68,9 +72,9 @@ SOURCES = {
         "lib.rt: station_write_roles: its ensures is not"),
     "write_begins_from_what_it_leaves": (CODE, WRITE, WRITE.replace("lent image.old", "lent image.new"),
         "lib.rt: station_write_roles: its ensures is not"),
-    "write_is_the_other_form": (CODE, WRITE, WRITE.replace("(some v)", "none"),
+    "write_is_the_other_form": (CODE, WRITE, WRITE.replace("(Some v)", "None"),
         "lib.rt: station_write_roles: its ensures is not"),
-    "write_unnumbered_has_a_number": (CODE, "(write none block.now)", "(write (some 0) block.now)",
+    "write_unnumbered_has_a_number": (CODE, "(write None block.now)", "(write (Some 0) block.now)",
         "lib.rt: station_write_unnumbered_roles: its ensures is not"),
     "view_of_another_number": (CODE, "v offset buffer.old", "0 offset buffer.old",
         "lib.rt: station_view: its ensures is not"),
@@ -86,12 +90,11 @@ SOURCES = {
         "lib.rt: station_release_roles: its ensures is not"),
     "look_back_adds_a_clause": (CODE, "(look_back k) }", "(look_back k) }\n    where",
         "lib.rt: station_look_back_roles: something else than"),
-    "a_client_asks_for_31_sectors": ("crates/client/src/lib.rt", "pub fn begin_and_mount(image: &[u8], kinds: &[u8], roles: &mut [u8], ledger: &mut [u8]) -> u64\n",
-        "pub fn begin_and_mount(image: &[u8], kinds: &[u8], roles: &mut [u8], ledger: &mut [u8]) -> u64\n    requires { length kinds.now ≡ 31 }\n",
+    "a_client_asks_for_31_sectors": (CLIENT, BEGIN_AND_MOUNT, BEGIN_AND_MOUNT + "    requires { length kinds.now ≡ 31 }\n",
         "crates/client/src/lib.rt: has a requires"),
-    "commit_at_is_the_other_form": (CODE, "(commit (some stamp.now))", "(commit none)",
+    "commit_at_is_the_other_form": (CODE, "(commit (Some stamp.now))", "(commit None)",
         "lib.rt: station_commit_at_roles: its ensures is not"),
-    "commit_is_some_form": (CODE, "ledger.old (commit none) }", "ledger.old (commit (some [])) }",
+    "commit_is_some_form": (CODE, "ledger.old (commit None) }", "ledger.old (commit (Some [])) }",
         "lib.rt: station_commit_roles: its ensures is not"),
     "time_of_compares_the_answer_lent": (CODE, "answer.new", "answer.old",
         "lib.rt: station_time_of: its ensures is not"),
@@ -149,8 +152,10 @@ SOURCES = {
     # what is exported
     "exported_from_another_crate": ("crates/listing/src/lib.rt", "pub mod text;\n", "pub mod text;\n\n" + EXPORT.format("station_list"),
         "crates/listing/src/lib.rt: station_list: exported from another crate than station"),
-    "exported_under_another_name": ("crates/calls/src/lib.rt", "pub fn refused", '#[export_name = "station_refused"]\npub fn refused',
-        "crates/calls/src/lib.rt: 1 marks of an exported function"),
+    "exported_under_another_name": ("crates/crc/src/lib.rt", "pub fn crc(", '#[export_name = "station_crc"]\npub fn crc(',
+        "crates/crc/src/lib.rt: 1 marks of an exported function"),
+    "exported_from_an_impl": (CODE, "use extent::Extent;\n", "use extent::Extent;\n\nimpl Told {\n" + EXPORT.format("station_erase") + "}\n",
+        f"lib.rt: {EXPORTED + 1} marks of an exported function, and {EXPORTED} of the form"),
     "exported_and_not_declared": (CODE, "use extent::Extent;\n", "use extent::Extent;\n\n" + EXPORT.format("station_erase"),
         "station.h: station_erase is declared 0 times, not once"),
     "exported_as_a_rust_function": (CODE, "use extent::Extent;\n", "use extent::Extent;\n\n" + EXPORT.format("station_erase").replace('extern "C" ', ""),
@@ -159,6 +164,10 @@ SOURCES = {
         "lib.rt: `#[no_mangle]`: what it makes of the code is not known here"),
     "exported_under_a_condition": (CODE, '#[unsafe(no_mangle)]\npub extern "C" fn station_begin_roles(', '#[cfg(none)]\n#[unsafe(no_mangle)]\npub extern "C" fn station_begin_roles(',
         "lib.rt: `#[cfg(none)]`: what it makes of the code is not known here"),
+    "exported_with_no_proof_tried": (CODE, '#[unsafe(no_mangle)]\npub extern "C" fn station_begin_roles(', '#[unsafe(no_mangle)]\n#[tactic(none)]\npub extern "C" fn station_begin_roles(',
+        "lib.rt: `#[tactic(none)]`: what it makes of the code is not known here"),
+    "exported_from_a_file_with_no_proof_tried": (CODE, "#![tactic(auto)]", "#![tactic(none)]",
+        "lib.rt: `#![tactic(none)]`: what it makes of the code is not known here"),
     "nothing_exported": (CODE, None, "", "no function is exported"),
     # the header
     "header_lends_the_image_to_begin": (HEADER, "station_begin_roles(const uint8_t *image", "station_begin_roles(uint8_t *image",
@@ -223,6 +232,12 @@ SOURCES = {
         "crates/recorder/specs/Effects.antt: does not declare after, which the contracts take from it"),
     "a_call_passed_on_by_its_home": (CALLS, "  commit : Option (List ℕ) → Call", "  save : Option (List ℕ) → Call",
         "crates/recorder/specs/Calls.antt: does not declare commit, which the contracts take from it"),
+    "after_for_one_impl_from_another_module": (CODE, EXTENT, EXTENT + "\n\nimpl Told {\n    ghost use Rattle.recorder.specs.Weaker.{after};\n}",
+        "lib.rt: a ghost item stands in `impl Told`, which no contract here is of"),
+    "some_from_another_module": (CODE, "Prelude.{None, Some};", "Prelude.{None};\nghost use Rattle.recorder.specs.Weaker.{Some};",
+        "lib.rt: no ghost use brings Some from Rattle.std.specs.Prelude"),
+    "none_of_another_option": (CODE, "Prelude.{None, Some};", "Prelude.{Some};\nghost use Rattle.std.proofs.Math.Option.{None};",
+        "lib.rt: None from Rattle.std.proofs.Math.Option stands in for None from Rattle.std.specs.Prelude"),
     "a_module_taken_whole": (CODE, EXTENT, EXTENT + "\nghost use Rattle.recorder.specs.Weaker;",
         "lib.rt: `ghost use Rattle.recorder.specs.Weaker` is not of the form"),
     # who stands above whom
@@ -334,12 +349,27 @@ def try_sources(folder):
         right = edited(folder, file, old, new)
         expect(label, statements.said_of(folder, []), 0, "as the lock has them")
         restored(folder, file, right)
+    try_forms(folder)
     for file, old, new in ANOTHER_NUMBER:
         edited(folder, file, old, new)
     expect("another_number", statements.said_of(folder, ["--accept"]), 0, "exported functions, each with the contract of its signature")
     expect("another_number_accepted", statements.said_of(folder, []), 0, "exported functions, each with the contract of its signature")
     edited(folder, CODE, "(look_back k from_block)", "(look_back from_block k)")
     expect("another_number_in_another_order", statements.said_of(folder, []), 1, "lib.rt: station_look_back_roles: its ensures is not")
+    copied(folder)
+
+
+def try_forms(folder):
+    """Wrong copies and right ones of a file with each form of a ghost item, once the lock has it."""
+    edited(folder, lock_edits.FORMS, None, lock_edits.FORMS_TEXT)
+    expect("forms_accepted", statements.said_of(folder, ["--accept"]), 0, "as the lock has them")
+    wrong = [(label, old, new, 1, refusal) for label, (old, new, refusal) in lock_edits.WRONG_FORMS.items()]
+    right = [(label, old, new, 0, "as the lock has them") for label, (old, new) in lock_edits.RIGHT_FORMS.items()]
+    for label, old, new, status, told in [*wrong, *right]:
+        held = edited(folder, lock_edits.FORMS, old, new)
+        expect(label, statements.said_of(folder, []), status, told)
+        restored(folder, lock_edits.FORMS, held)
+    (folder / lock_edits.FORMS).unlink()
     copied(folder)
 
 

@@ -5,7 +5,7 @@ use Prim.Native.Nat.{ℕ, zero, suc, ◌+◌}
 use mathlib.Core.Path.{◌≡◌, refl, sym, ap, ◌∙◌, subst, subst₂}
 use mathlib.Core.Bool.{Bool, true, not, ◌||◌}
 use mathlib.Core.List.{List, [], ◌∷◌, ◌++◌}
-use mathlib.Core.Option.{Option, some}
+use Rattle.std.specs.Prelude.{Option, Some}
 use lib.Dec.{eqb, ltb}
 use lib.ListN.{length, replicate}
 use Rattle.extent.specs.declared.Extent.{Extent}
@@ -14,8 +14,8 @@ use Rattle.vat.specs.Table.{Lower, is_table}
 use Rattle.vat.specs.Sector.{no_stamp, table_bytes}
 use Rattle.anchor.specs.Anchor.{farthest_start, anchor_tagged}
 use Rattle.disc.specs.Disc.{Disc, recorded, Sector, link, puts}
-use Rattle.disc.specs.declared.Walk.{Walk}
-use Rattle.disc.specs.declared.Walk.TheVariants.{Reached}
+use Rattle.disc.specs.Tables.{Walk}
+use Rattle.std.specs.Prelude.{Ok}
 use Rattle.disc.specs.Tables.{table_at, map_at, named_by, newest, block_found}
 use Rattle.disc.specs.Session.{closing, closing_length}
 use Rattle.disc.specs.Again.{fresh_of}
@@ -124,14 +124,14 @@ module _ {d e : Disc} (a : Alike d e) where
   found_map : (l : List ℕ) → outcome d l mount ≡ 0 → map_at d (block_found (newest d)) ≡ map_at e (block_found (newest e))
   found_map l h =
       let b : ℕ = (mount-done d l h).1.0 in
-      let n : newest d ≡ some b = (mount-done d l h).1.1 in
+      let n : newest d ≡ Some b = (mount-done d l h).1.1 in
       let table : table_at d (block_found (newest d)) ≡ true = ap (λ (o : Option ℕ). table_at d (block_found o)) n ∙ newest-table (table_at d) (recorded d) b n in
       same_map a (block_found (newest d)) table ∙ ap (λ (o : Option ℕ). map_at e (block_found o)) (same-newest a)
 
   reached-map : (l : List ℕ) (k : ℕ) → outcome d l (look_back k) ≡ 0 → map_at d (block_reached (walked d k)) ≡ map_at e (block_reached (walked e k))
   reached-map l k h =
       let b : ℕ = (look-back-done d l k h).1.0 in
-      let n : walked d k ≡ Reached b = (look-back-done d l k h).1.1 in
+      let n : walked d k ≡ Ok b = (look-back-done d l k h).1.1 in
       let table : table_at d (block_reached (walked d k)) ≡ true = ap (λ (w : Walk). table_at d (block_reached w)) n ∙ walked-table d k b n in
       same_map a (block_reached (walked d k)) table ∙ ap (λ (w : Walk). map_at e (block_reached w)) (same-walked a k)
 

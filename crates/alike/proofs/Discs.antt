@@ -6,7 +6,7 @@ use native.Mathlib.Omega.{arith}
 use mathlib.Core.Path.{◌≡◌, refl, sym, ap, ap₂, fun_ext, ◌∙◌}
 use mathlib.Core.Bool.{Bool, true, false, ◌&&◌}
 use mathlib.Core.List.{List, [], ◌∷◌, ◌++◌}
-use mathlib.Core.Option.{Option, none, some}
+use Rattle.std.specs.Prelude.{Option, None, Some}
 use lib.Dec.{eqb, ltb, leb}
 use lib.ListN.{length, get_or, take, drop, set, length-append, length-take, length-drop}
 use lib.Seq.{get_or-set_other, take_at, drop-cons}
@@ -17,8 +17,9 @@ use Rattle.le.proofs.Rows.{and_left}
 use Rattle.vat.specs.Table.{sector_length, unused}
 use Rattle.anchor.specs.Anchor.{anchor_tagged}
 use Rattle.disc.specs.Disc.{Disc, lent, most_sectors, sized, leading, recorded, in_order, blanks, kind_at, sector_at, readable, content, Sector, link, plain, torn, stored, put, puts}
-use Rattle.disc.specs.declared.Walk.{Walk}
-use Rattle.disc.specs.declared.Walk.TheVariants.{Reached, Broken, Ended}
+use Rattle.disc.specs.Tables.{Walk}
+use Rattle.std.specs.Prelude.{Ok, Err}
+use Rattle.disc.specs.declared.Stop.TheVariants.{Broken, Ended}
 use Rattle.disc.specs.Tables.{table_at, map_at, previous_at, named_by, newest_below, newest, stepped, walk}
 use Rattle.disc.specs.Session.{closing_length, session_closed}
 use Rattle.disc.proofs.Recording.{Sound, Whole, leading_le, kind-recorded, AllWhole}
@@ -224,8 +225,8 @@ module _ {d e : Disc} (a : Alike d e) where
   same-walked k = go (newest d) refl ∙ ap (walk_from e k) same-newest
     where
       go : (o : Option ℕ) → newest d ≡ o → walk_from d k o ≡ walk_from e k o
-      go none z = refl
-      go (some b) z =
+      go None z = refl
+      go (Some b) z =
           walk_same (table_at d) (previous_at d) (previous_at e) same-previous k b (newest-table (table_at d) (recorded d) b z)
           ∙ ap (λ (t : ℕ → Bool). walk t (previous_at e) k b) (fun_ext same-table)
 
@@ -234,9 +235,9 @@ module _ {d e : Disc} (a : Alike d e) where
   same-time k = go (walked d k) refl ∙ ap (time_reached e) (same-walked k)
     where
       go : (w : Walk) → walked d k ≡ w → time_reached d w ≡ time_reached e w
-      go (Reached b) z = sym (same-held b (walked-table d k b z)).its-time
-      go Broken z = refl
-      go Ended z = refl
+      go (Ok b) z = sym (same-held b (walked-table d k b z)).its-time
+      go (Err Broken) z = refl
+      go (Err Ended) z = refl
 
   pub same-fits : (v : Volume) → fits d v ≡ fits e v
   unfolding fits

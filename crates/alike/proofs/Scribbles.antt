@@ -6,7 +6,7 @@ use Prim.Native.Nat.{ℕ, zero, suc, ◌+◌, ◌≤◌}
 use mathlib.Core.Path.{◌≡◌, refl, sym, ap, ◌∙◌, subst}
 use mathlib.Core.Bool.{Bool, true, false, ◌&&◌}
 use mathlib.Core.List.{List, [], ◌∷◌}
-use mathlib.Core.Option.{Option, none, some}
+use Rattle.std.specs.Prelude.{Option, None, Some}
 use lib.Dec.{eqb, ltb}
 use lib.ListN.{length, get_or, take}
 use Rattle.disc.specs.Disc.{Disc, Sector, recorded, puts}
@@ -32,8 +32,8 @@ record AlikeWorlds (w u : World) : Type 0 where
   same-ledger : w.ledger ≡ u.ledger
 
 torn-alike : (t : Bool) (tear : Option (List ℕ)) (b : ℕ) {d e : Disc} → Alike d e → Alike (torn_at t tear b d) (torn_at t tear b e)
-torn-alike true none b a = a
-torn-alike true (some bytes) b a = alike-torn a b bytes
+torn-alike true None b a = a
+torn-alike true (Some bytes) b a = alike-torn a b bytes
 torn-alike false tear b a = a
 
 module _ {d e : Disc} (a : Alike d e) (o : Option (List ℕ)) where
@@ -97,8 +97,8 @@ onto e r = record { answer = r.answer; disc = e; ledger = r.ledger; buffer = r.b
 
 reading-onto : (d e : Disc) (l block : List ℕ) (x : Entry) → onto e (reading d l block x) ≡ reading e l block x
 reading-onto d e l block unused_entry = refl
-reading-onto d e l block (shows b none) = refl
-reading-onto d e l block (shows b (some bytes)) = refl
+reading-onto d e l block (shows b None) = refl
+reading-onto d e l block (shows b (Some bytes)) = refl
 
 read-leaves : (d : Disc) (l : List ℕ) (n : ℕ) (block : List ℕ) → (after d l (read n block)).disc ≡ d
 unfolding after effect puts

@@ -10,10 +10,11 @@ use mathlib.Core.Path.{◌≡◌, refl, sym, ap, ap₂, ◌∙◌, subst}
 use mathlib.Core.Bool.{Bool, true, false, ◌&&◌}
 use mathlib.Core.List.{List, [], ◌∷◌, ◌++◌, append_assoc, append-nil}
 use mathlib.Core.Logic.{◌⊎◌, inl, inr}
-use lib.Dec.{eqb, ltb, leb, lit≤}
+use lib.Dec.{eqb, leb, lit≤}
 use lib.ListN.{length, get_or, get_or-append, get_or-eq_default}
 use lib.Seq.{drop_at, get_or-append-add}
-use borrow.Author.Tests.{eqb-true, ltb-true, ltb-false, leb-true}
+use borrow.Author.Tests.{eqb-true, leb-true}
+use Rattle.std.proofs.lemmas.Bool.{false_from_ne_true, cases_lt}
 use Rattle.le.specs.Bytes.{every}
 use Rattle.le.specs.Field.{le, read_le, le_words}
 use Rattle.le.proofs.Fields.{length-le, read-le, read-drop, read-add}
@@ -58,12 +59,8 @@ anchor-passes s c e =
 abbrev pub Neither : List ℕ → ℕ → Type 0
 Neither s c = ((lower : Lower) → is_table lower s c ≡ false) × (anchor_tagged s c ≡ false)
 
-is-not : (t : Bool) → (t ≡ true → ⊥) → t ≡ false
-is-not true h = absurd (h refl)
-is-not false h = refl
-
 neither : (s : List ℕ) (c : ℕ) → (Passing s c → ⊥) → Neither s c
-neither s c none_is = (λ lower. is-not (is_table lower s c) (λ e. none_is (table-passes lower s c e)), is-not (anchor_tagged s c) (λ e. none_is (anchor-passes s c e)))
+neither s c none_is = (λ lower. false_from_ne_true (is_table lower s c) (λ e. none_is (table-passes lower s c e)), false_from_ne_true (anchor_tagged s c) (λ e. none_is (anchor-passes s c e)))
 
 -- ---- a table as words
 
@@ -144,13 +141,6 @@ regid-fourth : get_or regid_words 4 0 ≡ 0x20636F6C
 unfolding regid_words
 regid-fourth = refl
 
-lt-or-ge : (a b : ℕ) → (a < b) ⊎ (b ≤ a)
-lt-or-ge a b = go (ltb a b) refl
-  where
-    go : (t : Bool) → ltb a b ≡ t → (a < b) ⊎ (b ≤ a)
-    go true e = inl (ltb-true a b e)
-    go false e = inr (ltb-false a b e)
-
 module _ (map : List ℕ) (previous : ℕ) (r : ℕ) (many : 4 ≤ length map) (entries : (k : ℕ) → k < length map → Named r (get_or map k 0)) (before : Named r previous) (fits : Words (table_words map previous)) where
   abbrev word : ℕ → ℕ
   word q = get_or (table_words map previous) q 0
@@ -196,7 +186,7 @@ module _ (map : List ℕ) (previous : ℕ) (r : ℕ) (many : 4 ≤ length map) (
         go (inr z) (inr w) a b u v = omega arith
 
     none_passes : Passing sector c → ⊥
-    none_passes p = cases (lt-or-ge q n)
+    none_passes p = cases (cases_lt q n)
       where
         n : ℕ
         n = length map
@@ -217,21 +207,21 @@ module _ (map : List ℕ) (previous : ℕ) (r : ℕ) (many : 4 ≤ length map) (
 
         -- word k behind the entries
         behind : (k : ℕ) → q ≡ n + k → ⊥
-        behind k e = go (lt-or-ge k 6)
+        behind k e = go (cases_lt k 6)
           where
             go : (k < 6) ⊎ (6 ≤ k) → ⊥
             go (inl h) =
                 let x : word q ≡ get_or regid_words k 0 = ap word e ∙ regid-word k (omega arith) in
                 omega (arith, x, big k h, upper)
-            go (inr h) = further (lt-or-ge k 8)
+            go (inr h) = further (cases_lt k 8)
               where
                 further : (k < 8) ⊎ (8 ≤ k) → ⊥
-                further (inl l) = which (lt-or-ge k 7)
+                further (inl l) = which (cases_lt k 7)
                   where
                     which : (k < 7) ⊎ (7 ≤ k) → ⊥
                     which (inl m) = text-not (get_or regid_words 3 0) (first_word 3 (omega arith) (lit≤ tt)) (inl regid-third) p.identified
                     which (inr m) = text-not (get_or regid_words 4 0) (first_word 4 (omega arith) (lit≤ tt)) (inr regid-fourth) p.identified
-                further (inr l) = last (lt-or-ge 8 k)
+                further (inr l) = last (cases_lt 8 k)
                   where
                     last : (8 < k) ⊎ (k ≤ 8) → ⊥
                     last (inr m) =

@@ -10,6 +10,7 @@ use extent::Extent;
 
 pub const FARTHEST_START: u32 = 400000;
 
+#[tactic(auto, unfolding(crate::specs::Anchor::anchor_rows, le::specs::Field::lay))]
 fn put_rows(s: &mut [u8], version: u16, main: Extent, reserve: Extent, location: u32)
     requires { length s.old ≡ sector_length }
     ensures { s.new ≡ lay s.old (anchor_rows version main reserve location) }
@@ -35,19 +36,11 @@ pub fn record(s: &mut [u8], version: u16, main: Extent, reserve: Extent, locatio
 }
 
 // The identifier first: nearly every sector that has no such tag is known by it.
+#[tactic(auto, unfolding(crate::specs::Anchor::anchor_tagged))]
 pub fn tagged(s: &[u8], b: u32) -> bool
     requires { length s.now ≡ sector_length }
     ensures { result ≡ anchor_tagged s.now b }
 {
-    if le::read16(s, 0) != 2 {
-        return false;
-    }
     let location = le::read32(s, 12);
-    if location < b {
-        return false;
-    }
-    if FARTHEST_START < location - b {
-        return false;
-    }
-    tag::summed(s)
+    le::read16(s, 0) == 2 && b <= location && location - b <= FARTHEST_START && tag::summed(s)
 }

@@ -7,12 +7,12 @@ use native.Mathlib.Omega.{arith}
 use mathlib.Core.Path.{◌≡◌, refl, sym, ap, ◌∙◌, subst}
 use mathlib.Core.Bool.{true, false}
 use mathlib.Core.List.{List}
-use mathlib.Core.Option.{Option, none, some}
+use Rattle.std.specs.Prelude.{Option, None, Some}
 use lib.Dec.{eqb, lit<}
 use lib.ListN.{length, get_or}
 use Rattle.vat.specs.Table.{unused}
 use Rattle.disc.specs.Disc.{Disc, recorded}
-use Rattle.disc.specs.declared.Walk.TheVariants.{Reached}
+use Rattle.std.specs.Prelude.{Ok}
 use Rattle.disc.specs.Tables.{table_at, map_at, newest}
 use Rattle.disc.proofs.Recording.{Sound, leading_le}
 use Rattle.disc.proofs.Found.{table-recorded, newest-table}
@@ -62,13 +62,13 @@ entries-stay w es = shown-alike (write-once w es)
 -- ---- of each save that a look back reaches
 
 -- the table that it reaches is so many steps back
-reached-behind : (d : Disc) → Sound d → (k t : ℕ) → walked d k ≡ Reached t → Behind F d k t
+reached-behind : (d : Disc) → Sound d → (k t : ℕ) → walked d k ≡ Ok t → Behind F d k t
 unfolding walked
 reached-behind d ok k t e = go (newest d) refl e
   where
-    go : (o : Option ℕ) → newest d ≡ o → walk_from d k o ≡ Reached t → Behind F d k t
-    go none n e = absurd (let z : ◌≡◌ {A = ℕ} 0 1 = cc in omega arith)
-    go (some b) n e =
+    go : (o : Option ℕ) → newest d ≡ o → walk_from d k o ≡ Ok t → Behind F d k t
+    go None n e = absurd (let z : ◌≡◌ {A = ℕ} 0 1 = cc in omega arith)
+    go (Some b) n e =
         record {
           newest = b;
           is-newest = n;

@@ -5,7 +5,7 @@ use Prim.Native.Nat.{ℕ, zero, suc}
 use native.Mathlib.Omega.{arith}
 use mathlib.Core.Path.{◌≡◌, refl, ap, ◌∙◌}
 use mathlib.Core.List.{List, []}
-use mathlib.Core.Option.{none}
+use Rattle.std.specs.Prelude.{None}
 use Rattle.disc.specs.Disc.{Disc, Sector, recorded, puts}
 use Rattle.recorder.specs.Calls.{Call, time_of}
 use Rattle.recorder.specs.Refusals.{outcome}
@@ -58,13 +58,13 @@ module _ (w : World) where
       go zero = refl
       go (suc n) = refl
 
-  cut-world : next w cut_viewing ≡ record { disc = w.disc; ledger = none }
+  cut-world : next w cut_viewing ≡ record { disc = w.disc; ledger = None }
   unfolding next
   cut-world =
-      let same : cut_disc w.disc (sectors_of w.disc held asked) 0 none ≡ w.disc = ap (λ (ss : List Sector). cut_disc w.disc ss 0 none) none-recorded ∙ cut-nothing w.disc 0 none in
-      λ i. record { disc = same i; ledger = none }
+      let same : cut_disc w.disc (sectors_of w.disc held asked) 0 None ≡ w.disc = ap (λ (ss : List Sector). cut_disc w.disc ss 0 None) none-recorded ∙ cut-nothing w.disc 0 None in
+      λ i. record { disc = same i; ledger = None }
 
-  cut-history : (h : History) → feed h (fed w cut_viewing) ≡ record { pages = h.pages; draft = none }
+  cut-history : (h : History) → feed h (fed w cut_viewing) ≡ record { pages = h.pages; draft = None }
   unfolding feed fed
   cut-history h = refl
 

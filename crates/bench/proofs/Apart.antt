@@ -3,7 +3,7 @@
 use Prim.Native.Nat.{ℕ}
 use mathlib.Core.Bool.{true, false}
 use mathlib.Core.List.{List, [], ◌∷◌, ◌++◌}
-use mathlib.Core.Option.{none, some}
+use Rattle.std.specs.Prelude.{None, Some}
 use lib.Dec.{T}
 use lib.ListN.{length, replicate}
 use lib.Seq.{sets}
@@ -56,12 +56,12 @@ apart =
     ∷ table-at (behind_own 1 twice (naming 0 (extent 2048 0 ∷ extent 4 0 ∷ []) 2052)) 1 true
     ∷ table-at (behind_own 1 twice (naming 0 (extent 2044 0 ∷ extent 8 0 ∷ []) 2052)) 1 false
     ∷ calls-on (behind_own 1 two_numbers (naming 0 (extent 44 0 ∷ []) 44)) most (begin ∷ mount ∷ []) (refused 6 ∷ 1 ∷ [])
-    ∷ calls-on (blank 18) most (begin ∷ write (some 0) two_numbers ∷ write (some 1) (naming 0 (extent 44 0 ∷ []) 44) ∷ []) (0 ∷ 0 ∷ refused 15 ∷ [])
-    ∷ calls-on (blank 18) most (begin ∷ write (some 0) (block 1) ∷ write (some 1) (naming 0 (extent 44 0 ∷ []) 44) ∷ []) (0 ∷ 0 ∷ 1 ∷ [])
-    ∷ calls-on (blank 1) (numbers 459) (commit none ∷ []) (refused 14 ∷ [])
-    ∷ calls-on (blank 2) (numbers 459) (commit none ∷ []) (1 ∷ [])
-    ∷ calls-on (blank 9) most (commit none ∷ []) (8 ∷ [])
-    ∷ calls-on (blank 5) (numbers 504) (commit none ∷ commit none ∷ []) (2 ∷ 4 ∷ [])
+    ∷ calls-on (blank 18) most (begin ∷ write (Some 0) two_numbers ∷ write (Some 1) (naming 0 (extent 44 0 ∷ []) 44) ∷ []) (0 ∷ 0 ∷ refused 15 ∷ [])
+    ∷ calls-on (blank 18) most (begin ∷ write (Some 0) (block 1) ∷ write (Some 1) (naming 0 (extent 44 0 ∷ []) 44) ∷ []) (0 ∷ 0 ∷ 1 ∷ [])
+    ∷ calls-on (blank 1) (numbers 459) (commit None ∷ []) (refused 14 ∷ [])
+    ∷ calls-on (blank 2) (numbers 459) (commit None ∷ []) (1 ∷ [])
+    ∷ calls-on (blank 9) most (commit None ∷ []) (8 ∷ [])
+    ∷ calls-on (blank 5) (numbers 504) (commit None ∷ commit None ∷ []) (2 ∷ 4 ∷ [])
     ∷ []
 
 pub apart-rows : T (all_right apart)

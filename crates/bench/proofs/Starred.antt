@@ -4,7 +4,7 @@
 use Prim.Native.Nat.{ℕ, ◌+◌, ◌*◌}
 use mathlib.Core.Bool.{Bool, true, false, not, ◌&&◌}
 use mathlib.Core.List.{List, [], ◌∷◌, ◌++◌}
-use mathlib.Core.Option.{none, some}
+use Rattle.std.specs.Prelude.{None, Some}
 use mathlib.Core.Path.{◌≡◌, refl, sym, ap₂, subst}
 use lib.Dec.{T, eqb, ltb, eqb→eq}
 use lib.ListN.{length, replicate, set}
@@ -51,7 +51,7 @@ behind a n b = lay (sets (block 0) (176 + a) (table_bytes (replicate n unused) u
 
 -- A reader for which nothing lies below: no table that its ICB holds asks it.
 abbrev pub nothing : Lower
-nothing b = none
+nothing b = None
 
 -- A disc of two sectors, the first with these bytes, the other blank.
 abbrev pub holding : List ℕ → Disc
@@ -59,7 +59,7 @@ holding s = record { image = s ++ block 0; kinds = 1 ∷ 0 ∷ [] }
 
 -- The first m blocks, and a reader for which the own sectors of a table lie there.
 abbrev pub first_blocks : ℕ → List ℕ
-first_blocks m = own_blocks (replicate m none) 0
+first_blocks m = own_blocks (replicate m None) 0
 
 abbrev pub lying : List ℕ → ℕ → Lower
 lying t m b = readable (ltb b m) (own_sector t b)
@@ -257,16 +257,16 @@ starred =
     ∷ lengths-apart 4087 8 16384 224
     ∷ no-table-apart 4088 8
     ∷ no-table-apart 4088 9
-    ∷ calls-on (blank 16) most (begin ∷ write (some 0) (block 1) ∷ commit none ∷ []) (0 ∷ refused 14 ∷ 0 ∷ [])
-    ∷ calls-on (blank 17) most (begin ∷ write (some 0) (block 1) ∷ write (some 1) (block 2) ∷ []) (0 ∷ 0 ∷ refused 14 ∷ [])
-    ∷ calls-on (blank 18) most (begin ∷ write (some 0) (block 1) ∷ write (some 1) (block 2) ∷ write (some 2) (block 3) ∷ []) (0 ∷ 0 ∷ 1 ∷ refused 14 ∷ [])
-    ∷ calls-on (blank 25) most (begin ∷ write (some 0) (block 1) ∷ close_packet ∷ write (some 1) (block 2) ∷ []) (0 ∷ 0 ∷ 0 ∷ 8 ∷ [])
-    ∷ calls-on (blank 24) most (begin ∷ write (some 0) (block 1) ∷ close_packet ∷ write (some 1) (block 2) ∷ []) (0 ∷ 0 ∷ 0 ∷ refused 14 ∷ [])
-    ∷ calls-on (blank 17) most (begin ∷ write (some 1) (block 1) ∷ []) (0 ∷ refused 12 ∷ [])
-    ∷ calls-on (blank 17) (numbers 458) (write (some 458) (block 1) ∷ []) (0 ∷ [])
-    ∷ calls-on (blank 17) most (write (some 4087) (block 1) ∷ []) (refused 13 ∷ [])
-    ∷ calls-on (blank 19) most (begin ∷ write (some 0) (block 1) ∷ write (some 1) (block 2) ∷ write (some 2) (icb (table_bytes [] unused) [] no_stamp 1) ∷ []) (0 ∷ 0 ∷ 1 ∷ 2 ∷ [])
-    ∷ calls-on (blank 19) most (begin ∷ write (some 0) (block 1) ∷ write (some 1) (block 2) ∷ write (some 2) (icb (table_bytes [] unused) [] no_stamp 2) ∷ []) (0 ∷ 0 ∷ 1 ∷ refused 15 ∷ [])
+    ∷ calls-on (blank 16) most (begin ∷ write (Some 0) (block 1) ∷ commit None ∷ []) (0 ∷ refused 14 ∷ 0 ∷ [])
+    ∷ calls-on (blank 17) most (begin ∷ write (Some 0) (block 1) ∷ write (Some 1) (block 2) ∷ []) (0 ∷ 0 ∷ refused 14 ∷ [])
+    ∷ calls-on (blank 18) most (begin ∷ write (Some 0) (block 1) ∷ write (Some 1) (block 2) ∷ write (Some 2) (block 3) ∷ []) (0 ∷ 0 ∷ 1 ∷ refused 14 ∷ [])
+    ∷ calls-on (blank 25) most (begin ∷ write (Some 0) (block 1) ∷ close_packet ∷ write (Some 1) (block 2) ∷ []) (0 ∷ 0 ∷ 0 ∷ 8 ∷ [])
+    ∷ calls-on (blank 24) most (begin ∷ write (Some 0) (block 1) ∷ close_packet ∷ write (Some 1) (block 2) ∷ []) (0 ∷ 0 ∷ 0 ∷ refused 14 ∷ [])
+    ∷ calls-on (blank 17) most (begin ∷ write (Some 1) (block 1) ∷ []) (0 ∷ refused 12 ∷ [])
+    ∷ calls-on (blank 17) (numbers 458) (write (Some 458) (block 1) ∷ []) (0 ∷ [])
+    ∷ calls-on (blank 17) most (write (Some 4087) (block 1) ∷ []) (refused 13 ∷ [])
+    ∷ calls-on (blank 19) most (begin ∷ write (Some 0) (block 1) ∷ write (Some 1) (block 2) ∷ write (Some 2) (icb (table_bytes [] unused) [] no_stamp 1) ∷ []) (0 ∷ 0 ∷ 1 ∷ 2 ∷ [])
+    ∷ calls-on (blank 19) most (begin ∷ write (Some 0) (block 1) ∷ write (Some 1) (block 2) ∷ write (Some 2) (icb (table_bytes [] unused) [] no_stamp 2) ∷ []) (0 ∷ 0 ∷ 1 ∷ refused 15 ∷ [])
     ∷ []
 
 pub starred-rows : T (all_right starred)
@@ -276,9 +276,9 @@ starred-rows = rows_right starred tt
 -- Document 02's: numbers above limit and size, tables behind attributes, timestamps.
 unfoldable pub requested : List Example
 requested =
-    calls-on (blank 17) most (write (some 4088) (block 1) ∷ []) (refused 13 ∷ [])
-    ∷ calls-on (blank 17) (numbers 3) (write (some 4087) (block 1) ∷ []) (refused 13 ∷ [])
-    ∷ calls-on (blank 17) (numbers 3) (write (some 500) (block 1) ∷ []) (refused 12 ∷ [])
+    calls-on (blank 17) most (write (Some 4088) (block 1) ∷ []) (refused 13 ∷ [])
+    ∷ calls-on (blank 17) (numbers 3) (write (Some 4087) (block 1) ∷ []) (refused 13 ∷ [])
+    ∷ calls-on (blank 17) (numbers 3) (write (Some 500) (block 1) ∷ []) (refused 12 ∷ [])
     ∷ lengths-of 220 2 44 424
     ∷ framed-behind 1832 0 true
     ∷ framed-behind 1836 0 false
@@ -286,7 +286,7 @@ requested =
     ∷ framed-behind 1828 2 false
     ∷ framed-behind 2 0 false
     ∷ framed-behind 4294967292 0 false
-    ∷ calls-on (blank 18) most (begin ∷ write (some 0) (seal (behind 220 2 1)) ∷ write (some 1) (seal (behind 220 2 1)) ∷ []) (0 ∷ 0 ∷ refused 15 ∷ [])
+    ∷ calls-on (blank 18) most (begin ∷ write (Some 0) (seal (behind 220 2 1)) ∷ write (Some 1) (seal (behind 220 2 1)) ∷ []) (0 ∷ 0 ∷ refused 15 ∷ [])
     ∷ calls-on (holding (seal (behind 220 2 0))) most (begin ∷ mount ∷ []) (refused 6 ∷ 1 ∷ [])
     ∷ told_of (stamp 60 1970 1 1 0 30) 0xFFFFFFE2 0
     ∷ told_of (stamp 2049 1970 1 1 0 30) 30 1
@@ -301,9 +301,9 @@ requested =
     ∷ wrong-stamp (stamp 2655 2099 12 31 23 59)
     ∷ told_of (with_seconds 59 (stamp 0 2096 2 29 12 0)) 66355920 0
     ∷ wrong-stamp (with_seconds 60 (stamp 0 2096 2 29 12 0))
-    ∷ calls-on (blank 3) most (begin ∷ commit (some (stamp 60 1970 1 1 0 30)) ∷ commit none ∷ time_of 0 answer ∷ time_of 1 answer ∷ time_of 2 answer ∷ [])
+    ∷ calls-on (blank 3) most (begin ∷ commit (Some (stamp 60 1970 1 1 0 30)) ∷ commit None ∷ time_of 0 answer ∷ time_of 1 answer ∷ time_of 2 answer ∷ [])
     (0 ∷ 0 ∷ 1 ∷ refused 16 ∷ 0 ∷ refused 9 ∷ [])
-    ∷ calls-on (blank 1) most (begin ∷ commit none ∷ commit (some (stamp 0 2099 2 29 12 0)) ∷ commit (some (stamp 0 2096 2 29 12 0)) ∷ look_back 0 ∷ commit (some (stamp 0 2099 2 29 12 0)) ∷ [])
+    ∷ calls-on (blank 1) most (begin ∷ commit None ∷ commit (Some (stamp 0 2099 2 29 12 0)) ∷ commit (Some (stamp 0 2096 2 29 12 0)) ∷ look_back 0 ∷ commit (Some (stamp 0 2099 2 29 12 0)) ∷ [])
     (0 ∷ 0 ∷ refused 16 ∷ refused 14 ∷ 0 ∷ refused 5 ∷ [])
     ∷ []
 
@@ -320,8 +320,8 @@ closings =
     ∷ tagged-at 400008 7 false
     ∷ reserve-of 999 16
     ∷ reserve-of 1000 264
-    ∷ calls-on (blank 18) most (begin ∷ write (some 0) (pointer 400001) ∷ write (some 1) (pointer 400001) ∷ []) (0 ∷ 0 ∷ refused 15 ∷ [])
-    ∷ calls-on (blank 2) most (begin ∷ commit none ∷ closing_at 400001 ∷ closing_at 400000 ∷ look_back 0 ∷ closing_at 400001 ∷ []) (0 ∷ 0 ∷ refused 18 ∷ refused 14 ∷ 0 ∷ refused 5 ∷ [])
+    ∷ calls-on (blank 18) most (begin ∷ write (Some 0) (pointer 400001) ∷ write (Some 1) (pointer 400001) ∷ []) (0 ∷ 0 ∷ refused 15 ∷ [])
+    ∷ calls-on (blank 2) most (begin ∷ commit None ∷ closing_at 400001 ∷ closing_at 400000 ∷ look_back 0 ∷ closing_at 400001 ∷ []) (0 ∷ 0 ∷ refused 18 ∷ refused 14 ∷ 0 ∷ refused 5 ∷ [])
     ∷ []
 
 pub closing-rows : T (all_right closings)
@@ -331,11 +331,11 @@ closing-rows = rows_right closings tt
 -- And of writes without a number: size and entries stay, also where all numbers are taken; 14, the links, and 5.
 unfoldable pub unnumbered : List Example
 unnumbered =
-    leaves (blank 17) most (begin ∷ write none (block 1) ∷ []) (numbers_on 0 1 1)
-    ∷ leaves (blank 17) most (write none (block 1) ∷ []) (numbers_on 4087 1 1)
-    ∷ calls-on (blank 18) most (write none (block 1) ∷ write none (block 2) ∷ write none (block 3) ∷ []) (0 ∷ 1 ∷ refused 14 ∷ [])
-    ∷ calls-on (blank 25) most (write none (block 1) ∷ close_packet ∷ write none (block 2) ∷ []) (0 ∷ 0 ∷ 8 ∷ [])
-    ∷ calls-on (blank 17) (numbers_on 4087 0 2) (write none (block 1) ∷ []) (refused 5 ∷ [])
+    leaves (blank 17) most (begin ∷ write None (block 1) ∷ []) (numbers_on 0 1 1)
+    ∷ leaves (blank 17) most (write None (block 1) ∷ []) (numbers_on 4087 1 1)
+    ∷ calls-on (blank 18) most (write None (block 1) ∷ write None (block 2) ∷ write None (block 3) ∷ []) (0 ∷ 1 ∷ refused 14 ∷ [])
+    ∷ calls-on (blank 25) most (write None (block 1) ∷ close_packet ∷ write None (block 2) ∷ []) (0 ∷ 0 ∷ 8 ∷ [])
+    ∷ calls-on (blank 17) (numbers_on 4087 0 2) (write None (block 1) ∷ []) (refused 5 ∷ [])
     ∷ []
 
 pub unnumbered-rows : T (all_right unnumbered)

@@ -5,7 +5,7 @@
 use Prim.Native.Nat.{ℕ, zero, suc, ◌+◌, ◌*◌}
 use mathlib.Core.Bool.{Bool, true, false, not, ◌&&◌}
 use mathlib.Core.List.{List, [], ◌∷◌, ◌++◌}
-use mathlib.Core.Option.{Option, none, some}
+use Rattle.std.specs.Prelude.{Option, None, Some}
 use mathlib.Core.Path.{◌≡◌, refl, sym, ap, subst, subst₂}
 use lib.Dec.{T, eqb, ltb, eqb→eq, ltb→lt}
 use lib.ListN.{length, replicate}
@@ -55,23 +55,23 @@ pub record Doing : Type 0 where
   pub buffer : List ℕ
 
 abbrev shows : ℕ → Volume → Doing
-shows second v = record { second = second; sectors = []; state = some v; buffer = [] }
+shows second v = record { second = second; sectors = []; state = Some v; buffer = [] }
 
 abbrev saves : Volume → Effect → Doing
-saves v e = record { second = e.second; sectors = e.sectors; state = some (committed e.second v); buffer = e.buffer }
+saves v e = record { second = e.second; sectors = e.sectors; state = Some (committed e.second v); buffer = e.buffer }
 
 unfoldable pub doing : Disc → Volume → Call → Doing
 doing d v begin = shows 0 (begun (recorded d))
 doing d v mount = let b : ℕ = block_found (newest d) in shows (clean_number (eqb (b + 1) (recorded d))) (shown_at d b idle)
 doing d v (write n block) =
-    record { second = target v; sectors = replicate (links v) link ++ (plain block ∷ []); state = some (wrote n (target v) v); buffer = block }
+    record { second = target v; sectors = replicate (links v) link ++ (plain block ∷ []); state = Some (wrote n (target v) v); buffer = block }
 doing d v (release n) = shows 0 (released n v)
 doing d v close_packet = shows 0 (closed v)
 doing d v (commit stamp) = let e : Effect = commits d v (stamp_of stamp) (stamp_buffer stamp) in saves v e
 doing d v (close_session main reserve start) = let e : Effect = closes d v main reserve start in saves v e
-doing d v (read n block) = record { second = 0; sectors = []; state = none; buffer = sector_at d (block_of v n) }
+doing d v (read n block) = record { second = 0; sectors = []; state = None; buffer = sector_at d (block_of v n) }
 doing d v (look_back k) = let b : ℕ = block_reached (walked d k) in shows b (shown_at d b read_only)
-doing d v (time_of k answer) = record { second = 0; sectors = []; state = none; buffer = told (time_back d k) }
+doing d v (time_of k answer) = record { second = 0; sectors = []; state = None; buffer = told (time_back d k) }
 
 -- ---- what it leaves
 
@@ -83,16 +83,16 @@ proper v =
     && (ltb v.size 4294967296 && (ltb v.recorded 4294967296 && (ltb v.last 4294967296 && ltb v.mode 4294967296))))
 
 abbrev long_after : Bool → Option Volume → Bool
-long_after long none = long
-long_after long (some v) = true
+long_after long None = long
+long_after long (Some v) = true
 
 abbrev state_after : Volume → Option Volume → Volume
-state_after v none = v
-state_after v (some u) = u
+state_after v None = v
+state_after v (Some u) = u
 
 abbrev proper_after : Option Volume → Bool
-proper_after none = true
-proper_after (some v) = proper v
+proper_after None = true
+proper_after (Some v) = proper v
 
 pub record Step : Type 0 where
   pub answer : ℕ
@@ -182,8 +182,8 @@ tests_same d l (look_back k) = refl
 tests_same d l (time_of k answer) = refl
 
 abbrev ledger_of : List ℕ → Option Volume → List ℕ
-ledger_of l none = l
-ledger_of l (some v) = pack v
+ledger_of l None = l
+ledger_of l (Some v) = pack v
 
 abbrev packed : List ℕ → Doing → Effect
 packed l x = record { second = x.second; sectors = x.sectors; ledger = ledger_of l x.state; buffer = x.buffer }
@@ -213,8 +213,8 @@ pub outcome-same : (d : Disc) (l : List ℕ) (c : Call) {long : Bool} {v : Volum
 outcome-same d l c h = along l (λ long v. outcome d l c ≡ outcome_of d long v c) (outcome-own d l c) h
 
 held_after : (l : List ℕ) (o : Option Volume) → T (proper_after o) → Holds (ledger_of l o) (long_after (ledger_lent l) o) (state_after (unpack l) o)
-held_after l none t = holds-own l
-held_after l (some v) t = holds-pack v t
+held_after l None t = holds-own l
+held_after l (Some v) t = holds-pack v t
 
 pub stepped : (d : Disc) (l : List ℕ) (c : Call) {long : Bool} {v : Volume} → Holds l long v → T (step d long v c).held → Left (after d l c) (step d long v c)
 unfolding after step

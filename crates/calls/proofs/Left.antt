@@ -5,7 +5,7 @@ use native.Mathlib.Omega.{arith}
 use mathlib.Core.Path.{◌≡◌, refl, sym, ap, ap₂, ◌∙◌, subst}
 use mathlib.Core.Bool.{Bool, true, false, ◌||◌}
 use mathlib.Core.List.{List, [], ◌∷◌, ◌++◌, append_assoc}
-use mathlib.Core.Option.{Option, some}
+use Rattle.std.specs.Prelude.{Option, Some}
 use lib.Dec.{eqb}
 use lib.ListN.{length, set, replicate, length-append, length-replicate}
 use Rattle.timestamp.specs.Timestamp.{stamp_length, told}
@@ -13,20 +13,24 @@ use Rattle.vat.specs.Table.{sector_length, limit, unused, tag_version}
 use Rattle.vat.specs.Sector.{no_stamp, table_bytes, icb}
 use Rattle.extent.specs.declared.Extent.{Extent}
 use Rattle.anchor.specs.Anchor.{farthest_start, anchor}
-use Rattle.disc.specs.declared.Walk.{Walk}
-use Rattle.disc.specs.declared.Walk.TheVariants.{Reached}
+use Rattle.disc.specs.Tables.{Walk}
+use Rattle.std.specs.Prelude.{Ok}
 use Rattle.disc.specs.Disc.{Disc, lent, most_sectors, sized, in_order, Sector, link, plain, recorded, sector_at, stored, put, puts}
 use Rattle.disc.specs.Tables.{table_at, time_at, block_found, newest}
 use Rattle.disc.specs.Session.{zero_sectors, zero_sector, closing, closing_length}
 use Rattle.disc.specs.Again.{own_blocks, again_of, fresh_of, plains}
 use Rattle.disc.specs.Save.{icb_of, save_sectors, last_block}
-use Rattle.disc.proofs.Recording.{Sound, sound, sound-sized, sound-order, leading_le, AllWhole, whole_append, puts-append, puts-links}
+use Rattle.disc.proofs.Recording.{Sound, sound, sound-sized, sound-order, leading_le, AllWhole, whole_append, puts-append, puts-links, stored-part}
 use Rattle.disc.proofs.Told.{table_same}
-use Rattle.disc.proofs.Found.{table-recorded}
+use Rattle.disc.proofs.Found.{table-recorded, table-within}
 use Rattle.disc.proofs.Growing.{Grew, puts-grew}
-use Rattle.disc.proofs.Save.{own_recorded, own-count, own-whole, save-ends, save-count, grown-save}
+use Rattle.disc.proofs.Save.{own_recorded, own-count, save-ends, save-count, grown-save}
+use Rattle.vat.proofs.Theorems.{few-own, limit-held, icb-long}
+use Rattle.anchor.proofs.Theorems.{length-anchor}
+use Rattle.volume.proofs.Fit.{entries_below}
+use Rattle.volume.proofs.Standing.{entries-committed}
 use Rattle.volume.specs.declared.Volume.{Volume}
-use Rattle.volume.specs.Volume.{ledger_length, idle, read_only, unpack, pack, map_of, begun, wrote, released, closed}
+use Rattle.volume.specs.Volume.{ledger_length, idle, read_only, unpack, pack, map_of, begun, wrote, released, closed, committed}
 use Rattle.recorder.specs.Calls.{Call, begin, mount, write, release, close_packet, commit, close_session, read, look_back, time_of, stamp_buffer, buffer_of, stamp_of}
 use Rattle.recorder.specs.Refusals.{links, target, block_of, walked, time_reached, outcome}
 use Rattle.recorder.specs.Effects.{Effect, effect, block_reached, clean_number, saved, closing_first, After, left, settled, after, shown_at}
@@ -61,15 +65,6 @@ module _ (d : Disc) (t : List ℕ) (previous : ℕ) (stamp : List ℕ) (b : ℕ)
       ∙ ap (λ (n : ℕ). put (puts d b first) (b + n) (plain last)) (sym (own-count d t previous))
       ∙ sym (ap (puts d b) (save-ends d t previous stamp b) ∙ puts-append first (plain last ∷ []) d b)
 
-  -- the disc behind the own sectors is as long
-  pub own-grew : Sound d → b ≡ recorded d → b + length (save_sectors d t previous stamp b) ≤ length d.kinds
-      → Grew d (puts d b (plains (fresh_of d t previous))) (length (fresh_of d t previous))
-  own-grew ok end room =
-      let first : List Sector = own_recorded d t previous in
-      subst (λ (n : ℕ). Grew d (puts d b first) n) (own-count d t previous)
-      (subst (λ (n : ℕ). Grew d (puts d n first) (length first)) (sym end)
-      (puts-grew first d ok (omega (arith, end, room, save-count d t previous stamp b, own-count d t previous)) (own-whole d t previous)))
-
 module _ (d : Disc) (l : List ℕ) where
   -- a refusal
   pub refused-left : (c : Call) (n : ℕ) → n ≡ outcome d l c → (n ≡ 0 → ⊥) → left (n * 4294967296) d.image d.kinds l (buffer_of c) ≡ after d l c
@@ -86,14 +81,14 @@ module _ (d : Disc) (l : List ℕ) where
   unfolding effect puts
   begin-left z = done-left begin z
 
-  pub mount-left : (b : ℕ) → outcome d l mount ≡ 0 → newest d ≡ some b
+  pub mount-left : (b : ℕ) → outcome d l mount ≡ 0 → newest d ≡ Some b
       → left (clean_number (eqb (b + 1) (recorded d))) d.image d.kinds (pack (shown_at d b idle)) [] ≡ after d l mount
   unfolding effect puts
   mount-left b z e =
       ap (λ (o : Option ℕ). left (clean_number (eqb (block_found o + 1) (recorded d))) d.image d.kinds (pack (shown_at d (block_found o) idle)) []) (sym e)
       ∙ done-left mount z
 
-  pub look-back-left : (k b : ℕ) → outcome d l (look_back k) ≡ 0 → walked d k ≡ Reached b
+  pub look-back-left : (k b : ℕ) → outcome d l (look_back k) ≡ 0 → walked d k ≡ Ok b
       → left b d.image d.kinds (pack (shown_at d b read_only)) [] ≡ after d l (look_back k)
   unfolding effect puts
   look-back-left k b z e =
@@ -113,7 +108,7 @@ module _ (d : Disc) (l : List ℕ) where
   unfolding effect puts
   read_left n block z = done-left (read n block) z
 
-  pub time-left : (k b : ℕ) (answer : List ℕ) → outcome d l (time_of k answer) ≡ 0 → walked d k ≡ Reached b
+  pub time-left : (k b : ℕ) (answer : List ℕ) → outcome d l (time_of k answer) ≡ 0 → walked d k ≡ Ok b
       → left 0 d.image d.kinds l (told (time_at d b)) ≡ after d l (time_of k answer)
   unfolding effect puts
   time-left k b answer z e =
@@ -176,6 +171,13 @@ module _ (d : Disc) (l : List ℕ) where
   abbrev pub table_sectors : List Sector → List ℕ → List Sector
   table_sectors first stamp = save_sectors d table_of (unpack l).last stamp (target (unpack l) + length first)
 
+  -- what a save answers and leaves, part by part
+  abbrev pub Saved : List Sector → List ℕ → ℕ → List ℕ → List ℕ → List ℕ → Type 0
+  Saved first stamp answer image kinds ledger =
+      (answer ≡ (saved_by first stamp []).second)
+      × (lent image kinds ≡ puts d (unpack l).recorded (saved_by first stamp []).sectors)
+      × (ledger ≡ (saved_by first stamp []).ledger)
+
   -- what is known before a save
   pub record Ready (first : List Sector) (stamp : List ℕ) : Type 0 where
     pub sound-disc : Sound d
@@ -184,15 +186,20 @@ module _ (d : Disc) (l : List ℕ) where
     pub whole : AllWhole first
     pub room : target (unpack l) + (length first + length (table_sectors first stamp)) ≤ length d.kinds
 
-  -- the links and what a save puts first are recorded: then the disc is sound, and its table's sectors are the same
-  module _ (first : List Sector) (stamp : List ℕ) (ready : Ready first stamp) (x : Disc) (b : ℕ) (e : x ≡ puts (lent d.image linked_kinds) (target (unpack l)) first)
-      (at : b ≡ target (unpack l) + length first) where
+  -- the links and what a save puts first are recorded, as far as block b
+  pub record Behind (first : List Sector) (stamp : List ℕ) (x : Disc) (b : ℕ) : Type 0 where
+    pub ready : Ready first stamp
+    pub disc : x ≡ puts (lent d.image linked_kinds) (target (unpack l)) first
+    pub end : b ≡ target (unpack l) + length first
+
+  -- then the disc is sound, and its table's sectors are the same
+  module _ (first : List Sector) (stamp : List ℕ) (x : Disc) (b : ℕ) (k : Behind first stamp x b) where
     linked : List Sector
     linked = replicate (links (unpack l)) link
 
     ahead : x ≡ puts d (recorded d) (linked ++ first)
     unfolding linked
-    ahead = e ∙ sym (linked-puts first) ∙ ap (λ (n : ℕ). puts d n (replicate (links (unpack l)) link ++ first)) ready.same-recorded
+    ahead = k.disc ∙ sym (linked-puts first) ∙ ap (λ (n : ℕ). puts d n (replicate (links (unpack l)) link ++ first)) k.ready.same-recorded
 
     length-ahead : length (linked ++ first) ≡ links (unpack l) + length first
     unfolding linked
@@ -202,30 +209,30 @@ module _ (d : Disc) (l : List ℕ) where
     unfolding linked
     grew =
         subst (λ (y : Disc). Grew d y (length (linked ++ first))) (sym ahead)
-        (puts-grew (linked ++ first) d ready.sound-disc (omega (arith, length-ahead, ready.room, ready.same-recorded)) (whole_append linked first (links-whole (links (unpack l))) ready.whole))
+        (puts-grew (linked ++ first) d k.ready.sound-disc (omega (arith, length-ahead, k.ready.room, k.ready.same-recorded)) (whole_append linked first (links-whole (links (unpack l))) k.ready.whole))
 
     pub behind-sound : (sized x ≡ true) × (in_order x.kinds ≡ true)
     behind-sound = (sound-sized x grew.still-sound, sound-order x grew.still-sound)
 
     pub behind-at : b ≡ recorded x
-    behind-at = omega (arith, at, grew.counted, length-ahead, ready.same-recorded)
+    behind-at = omega (arith, k.end, grew.counted, length-ahead, k.ready.same-recorded)
 
     same-sectors : save_sectors x table_of (unpack l).last stamp b ≡ table_sectors first stamp
     same-sectors =
-        grown-save d x ready.sound-disc grew.kept grew.still-sound.few table_of (unpack l).last ready.last-known stamp b
-        ∙ ap (save_sectors d table_of (unpack l).last stamp) at
+        grown-save d x k.ready.sound-disc grew.kept grew.still-sound.few table_of (unpack l).last k.ready.last-known stamp b
+        ∙ ap (save_sectors d table_of (unpack l).last stamp) k.end
 
     pub behind-known : (eqb (unpack l).last unused || table_at x (unpack l).last) ≡ true
-    behind-known = go (eqb (unpack l).last unused) ready.last-known
+    behind-known = go (eqb (unpack l).last unused) k.ready.last-known
       where
         go : (t : Bool) → (t || table_at d (unpack l).last) ≡ true → (t || table_at x (unpack l).last) ≡ true
         go true h = refl
         go false h =
-            let low : (unpack l).last < recorded d = table-recorded d ready.sound-disc (unpack l).last h in
+            let low : (unpack l).last < recorded d = table-recorded d k.ready.sound-disc (unpack l).last h in
             table_same d x (unpack l).last (λ c n. grew.kept c (omega arith)) (grew.kept (unpack l).last low) ∙ h
 
     pub behind-room : b + length (save_sectors x table_of (unpack l).last stamp b) ≤ length x.kinds
-    behind-room = omega (arith, ap length same-sectors, at, ready.room, grew.same_length)
+    behind-room = omega (arith, ap length same-sectors, k.end, k.ready.room, grew.same_length)
 
     -- and the table's sectors behind them
     pub saved-disc : puts x b (save_sectors x table_of (unpack l).last stamp b) ≡ puts d (unpack l).recorded (saved_by first stamp []).sectors
@@ -234,19 +241,33 @@ module _ (d : Disc) (l : List ℕ) where
         let v : Volume = unpack l in
         let save : List Sector = table_sectors first stamp in
         ap (puts x b) same-sectors
-        ∙ ap₂ (λ (y : Disc) (n : ℕ). puts y n save) ahead (omega (arith, at, length-ahead, ready.same-recorded))
+        ∙ ap₂ (λ (y : Disc) (n : ℕ). puts y n save) ahead (omega (arith, k.end, length-ahead, k.ready.same-recorded))
         ∙ sym (puts-append (linked ++ first) save d (recorded d))
-        ∙ ap₂ (λ (n : ℕ) (ss : List Sector). puts d n ss) (sym ready.same-recorded) (append_assoc (replicate (links v) link) first save)
+        ∙ ap₂ (λ (n : ℕ) (ss : List Sector). puts d n ss) (sym k.ready.same-recorded) (append_assoc (replicate (links v) link) first save)
 
     pub saved-at : last_block b (save_sectors x table_of (unpack l).last stamp b) ≡ (saved_by first stamp []).second
-    saved-at = ap₂ last_block at same-sectors
+    saved-at = ap₂ last_block k.end same-sectors
 
-  -- what a save answers and leaves, part by part
-  abbrev pub Saved : List Sector → List ℕ → ℕ → List ℕ → List ℕ → List ℕ → Type 0
-  Saved first stamp answer image kinds ledger =
-      (answer ≡ (saved_by first stamp []).second)
-      × (lent image kinds ≡ puts d (unpack l).recorded (saved_by first stamp []).sectors)
-      × (ledger ≡ (saved_by first stamp []).ledger)
+    -- so a save there has what it asks for, and leaves what a save leaves
+    pub save-asks : length l ≡ ledger_length → (unpack l).size ≤ limit → length stamp ≡ stamp_length
+        → (length l ≡ ledger_length)
+        × (sized x ≡ true)
+        × (in_order x.kinds ≡ true)
+        × (b ≡ recorded x)
+        × ((unpack l).size ≤ limit)
+        × ((eqb (unpack l).last unused || table_at x (unpack l).last) ≡ true)
+        × (length stamp ≡ stamp_length)
+        × (b + length (save_sectors x table_of (unpack l).last stamp b) ≤ length x.kinds)
+    save-asks long few timely = (long, behind-sound.0, behind-sound.1, behind-at, few, behind-known, timely, behind-room)
+
+    pub save-leaves : {a : ℕ} {i k m : List ℕ}
+        → (a ≡ last_block b (save_sectors x table_of (unpack l).last stamp b))
+        × (lent i k ≡ puts x b (save_sectors x table_of (unpack l).last stamp b))
+        × (m ≡ pack (committed a (unpack l)))
+        → Saved first stamp a i k m
+    save-leaves s =
+        let at : _ = s.0 ∙ saved-at in
+        (at, s.1 ∙ saved-disc, s.2 ∙ ap (λ (n : ℕ). pack (committed n (unpack l))) at)
 
   -- a save that is done
   saved-left : (c : Call) (first : List Sector) (stamp buffer : List ℕ) → outcome d l c ≡ 0 → effect d l c ≡ saved_by first stamp buffer → (unpack l).recorded ≡ recorded d
@@ -316,3 +337,6 @@ module _ (d : Disc) (l : List ℕ) where
       let all : length first + own ≡ closing_length = length-closing main reserved start (target (unpack l)) own (omega (arith, own-few d (unpack l) s.4)) in
       ready_of first no_stamp s (closing-whole main reserved start (target (unpack l)) own)
       (omega (arith, all, save-count d table_of (unpack l).last no_stamp (target (unpack l) + length first)))
+
+-- what the check is to know of sectors made in their place, and of a save's
+pub ruleset saves = (table-within, stored-part, length-anchor, icb-long, leading_le, entries_below, entries-committed, few-own, limit-held, own-few, save-count)

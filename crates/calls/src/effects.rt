@@ -1,4 +1,6 @@
 // What the calls that are done have in common: links, a block behind them, a save, and a table that is shown.
+#![tactic(auto, using(crate::proofs::Left::saves), unfolding(disc::specs::Disc::sized))]
+
 ghost use Rattle.std.specs.Prelude.{◌≡◌, true, ◌||◌, [], ◌∷◌, ◌++◌, ◌+◌, ◌*◌, ◌≤◌, ◌<◌, eqb, length, take, set, replicate};
 ghost use Rattle.timestamp.specs.Timestamp.{stamp_length};
 ghost use Rattle.vat.specs.Table.{sector_length, most_own, limit, unused, tag_version, table_length};
@@ -14,6 +16,7 @@ ghost use Rattle.recorder.specs.Refusals.{links, target};
 ghost use Rattle.recorder.specs.Effects.{commits, closes};
 
 use crate::Plan;
+use disc::Kind;
 use disc::session::{CLOSING, ZEROS};
 use extent::Extent;
 use vat::table::{SECTOR, TAG_VERSION};
@@ -58,7 +61,7 @@ fn record_icb(
     let at = SECTOR * place;
     let end = at + SECTOR;
     vat::sector::record(&mut image[at..end], ledger, size, last, blocks, stamp, b);
-    kinds[place] = 1;
+    kinds[place] = Kind::Data as u8;
 }
 
 // The pointer at block b; its tag location is the partition's start plus that block.
@@ -77,7 +80,7 @@ fn record_anchor(
     let at = SECTOR * place;
     let end = at + SECTOR;
     anchor::record(&mut image[at..end], TAG_VERSION, main, reserve, start + b);
-    kinds[place] = 1;
+    kinds[place] = Kind::Data as u8;
 }
 
 // The sectors of a save of the ledger's state, from block b on, behind all that is recorded: own sectors that are not named again, and the ICB; and the state after

@@ -8,7 +8,7 @@ use native.Mathlib.Omega.{arith}
 use mathlib.Core.Path.{◌≡◌, refl, sym, ap, ap₂, ◌∙◌, subst}
 use mathlib.Core.Bool.{true, false}
 use mathlib.Core.List.{List, [], ◌∷◌, ◌++◌, append-nil, map}
-use mathlib.Core.Option.{Option, none, some}
+use Rattle.std.specs.Prelude.{Option, None, Some}
 use lib.Dec.{eqb, lit≤}
 use lib.ListN.{length, take, drop}
 use lib.Seq.{drop-cons, take-take}
@@ -50,7 +50,7 @@ block-behind {d} {d'} {v} {n} p = ap target p.unpacked ∙ next-block v n (targe
 
 abbrev pub Stand : Disc → ℕ → List (List ℕ) → Type 0
 Stand d t [] = Unit
-Stand d t (b ∷ bs) = (content d t ≡ some b) × Stand d (suc t) bs
+Stand d t (b ∷ bs) = (content d t ≡ Some b) × Stand d (suc t) bs
 
 stand-on : {d d' : Disc} → Extends F d d' → (bs : List (List ℕ)) (t : ℕ) → t + length bs ≤ recorded d → Stand d t bs → Stand d' t bs
 stand-on e [] t h s = tt
@@ -87,19 +87,19 @@ pub record StoredBlocks (x y : Day) (bs : List (List ℕ)) : Type 0 where
   pub counted : recorded y.disc ≡ recorded x.disc + length bs
   pub stand : Stand y.disc (recorded x.disc) bs
 
-pub stored-blocks : (bs : List (List ℕ)) (x : Day) → x.answer < 4294967296 → Open x → AllDone x (map (write none) bs) → StoredBlocks x (day x (map (write none) bs)) bs
+pub stored-blocks : (bs : List (List ℕ)) (x : Day) → x.answer < 4294967296 → Open x → AllDone x (map (write None) bs) → StoredBlocks x (day x (map (write None) bs)) bs
 unfolding day
 stored-blocks [] x ok o a = record { still_open = o; more = extends-same F x.disc; counted = sym (add-zero (recorded x.disc)); stand = tt }
 stored-blocks (b ∷ bs) x ok o a =
-    let c : Call = write none b in
-    let cs : List Call = map (write none) bs in
+    let c : Call = write None b in
+    let cs : List Call = map (write None) bs in
     let e : outcome x.disc x.ledger c ≡ 0 = done_first x c cs ok a in
     let w : Day = did x c in
     let r : ℕ = recorded x.disc in
-    let p : Wrote x.disc (unpack x.ledger) none b w.disc w.ledger = written x.disc x.ledger o.proper none b e in
+    let p : Wrote x.disc (unpack x.ledger) None b w.disc w.ledger = written x.disc x.ledger o.proper None b e in
     let one_more : recorded w.disc ≡ suc r = omega (arith, p.counted, o.next) in
     let q : StoredBlocks w (day w cs) bs = stored-blocks bs w (called-done x c cs ok a) (open-behind p) (rest-done x c cs ok a) in
-    let here : content (day w cs).disc r ≡ some b = q.more.contents r (omega (arith, one_more)) ∙ ap (content w.disc) (sym o.next) ∙ p.holds in
+    let here : content (day w cs).disc r ≡ Some b = q.more.contents r (omega (arith, one_more)) ∙ ap (content w.disc) (sym o.next) ∙ p.holds in
     subst (λ (y : Day). StoredBlocks x y (b ∷ bs)) (sym (first_done x c cs ok a))
     (record {
       still_open = q.still_open;
@@ -118,7 +118,7 @@ one-total : (n t : ℕ) → total_length (extent n t ∷ []) ≡ n
 unfolding total_length
 one-total n t = add-zero n
 
-module _ {d₁ d₂ : Disc} (l₁ l₂ : List ℕ) (v n t : ℕ) (bs : List (List ℕ)) (some_bytes : 0 < n) (few_bytes : n < 1073741824) (short : n ≤ sector_length * length bs) (good : Proper (unpack l₁)) (here : target (unpack l₁) ≡ t + length bs) (counted : recorded d₁ ≡ t + length bs) (standing : Stand d₁ t bs) (q : Wrote d₁ (unpack l₁) (some v) (entry (extent n t ∷ []) (t + length bs)) d₂ l₂) (w : Writable (unpack l₁) (some v)) where
+module _ {d₁ d₂ : Disc} (l₁ l₂ : List ℕ) (v n t : ℕ) (bs : List (List ℕ)) (some_bytes : 0 < n) (few_bytes : n < 1073741824) (short : n ≤ sector_length * length bs) (good : Proper (unpack l₁)) (here : target (unpack l₁) ≡ t + length bs) (counted : recorded d₁ ≡ t + length bs) (standing : Stand d₁ t bs) (q : Wrote d₁ (unpack l₁) (Some v) (entry (extent n t ∷ []) (t + length bs)) d₂ l₂) (w : Writable (unpack l₁) (Some v)) where
   abbrev es : List Extent
   es = extent n t ∷ []
 

@@ -7,7 +7,7 @@ use native.Mathlib.Omega.{arith}
 use mathlib.Core.Path.{◌≡◌, refl, sym, ap, ◌∙◌, subst, subst₂}
 use mathlib.Core.Bool.{Bool, true, false}
 use mathlib.Core.List.{List, [], ◌∷◌}
-use mathlib.Core.Option.{Option, none, some}
+use Rattle.std.specs.Prelude.{Option, None, Some}
 use Rattle.disc.specs.Disc.{Disc}
 use Rattle.disc.specs.Tables.{map_at, newest, block_found}
 use Rattle.recorder.specs.Calls.{Call, begin, mount, write, release, close_packet, commit, close_session, read, look_back, time_of, only_tells}
@@ -24,7 +24,7 @@ use Rattle.client.proofs.Days.{did, first_done, called-done, done_first, rest-do
 
 -- ---- calls that are done, and then whatever happens
 
-pub not-lost : (l : List ℕ) → ◌≡◌ {A = Option (List ℕ)} (some l) none → ⊥
+pub not-lost : (l : List ℕ) → ◌≡◌ {A = Option (List ℕ)} (Some l) None → ⊥
 not-lost l e = let z : ◌≡◌ {A = ℕ} 0 1 = cc in omega arith
 
 abbrev calls_then : List Call → List Happening → List Happening
@@ -37,7 +37,7 @@ history x h [] = h
 history x h (c ∷ cs) = history (did x c) (done (told c) (second_number x.disc x.ledger c) h) cs
 
 -- a call that only tells leaves the ledger that it was lent
-still-held : (d : Disc) (l : List ℕ) (c : Call) → outcome d l c ≡ 0 → ledger_after (only_tells c) 0 (some l) (after d l c).ledger ≡ some (after d l c).ledger
+still-held : (d : Disc) (l : List ℕ) (c : Call) → outcome d l c ≡ 0 → ledger_after (only_tells c) 0 (Some l) (after d l c).ledger ≡ Some (after d l c).ledger
 unfolding after effect
 still-held d l begin e = refl
 still-held d l mount e = refl
@@ -109,7 +109,7 @@ start_pages true d = []
 start_pages false d = start_page false d ∷ []
 
 abbrev pub start_history : Bool → Disc → History
-start_history fresh d = record { pages = start_pages fresh d; draft = some (start_page fresh d) }
+start_history fresh d = record { pages = start_pages fresh d; draft = Some (start_page fresh d) }
 
 start-claim : (fresh : Bool) (d : Disc) (l : List ℕ) → outcome d l (opening fresh) ≡ 0
     → (hs : List Happening) → AllHappen (after_call d l (opening fresh)) hs

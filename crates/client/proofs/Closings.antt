@@ -8,7 +8,7 @@ use mathlib.Core.Path.{◌≡◌, refl, sym, ap, ◌∙◌, subst, subst₂}
 use mathlib.Core.Bool.{Bool, true, false, ◌||◌, not, or-true}
 use mathlib.Core.List.{List, [], ◌∷◌, ◌++◌}
 use mathlib.Core.Logic.{inl, inr}
-use mathlib.Core.Option.{Option, some}
+use Rattle.std.specs.Prelude.{Option, Some}
 use lib.Dec.{eqb}
 use lib.ListN.{length, get_or}
 use Rattle.vat.specs.Table.{sector_length}
@@ -20,7 +20,6 @@ use Rattle.recorder.specs.Calls.{Call, mount, write, close_session, buffer_of, r
 use Rattle.recorder.specs.Refusals.{Test, test, first, tests, outcome}
 use Rattle.recorder.specs.Effects.{After, after}
 use Rattle.roles.specs.Keeping.{roles_tests, outcome_roles, AfterRoles, left_roles, after_roles}
-use Rattle.roles.proofs.Lent.{fit_same, call_same}
 use Rattle.history.specs.History.{unused_entry, Snapshot, History}
 use Rattle.history.specs.Events.{Event, AllAllowed, runs, remembers, after_call}
 use Rattle.history.specs.Claim.{DoneShowing}
@@ -29,7 +28,7 @@ use Rattle.history.proofs.Log.{some_same}
 use Rattle.history.proofs.Closed.{closed-discs}
 use Rattle.space.specs.Called.{as_events}
 use Rattle.client.specs.Day.{Day, ended, day, AllDone, opening, left_by, world, ClosedAnswer}
-use Rattle.client.proofs.Days.{joined, part-done, did, done_first, called-done, first_done, rest-done, last_done, Fit}
+use Rattle.client.proofs.Days.{joined, part-done, did, done_first, called-done, first_done, rest-done, last_done, Fit, without-roles}
 use Rattle.client.proofs.Claimed.{history, start_history, opened, remembered}
 use Rattle.client.proofs.Shown.{Reads, mount-reads}
 use Rattle.client.proofs.Saves.{first_page, first-there}
@@ -45,7 +44,7 @@ module _ (x : Day) (fresh : Bool) (ok : x.answer < 4294967296) (before : List Ca
   closing = close_session main reserve n
 
   -- the disc that the day left is closed, and shows the draft that was there before the closing
-  pub left-closed : (p : Snapshot) × ((remembered x fresh before).draft ≡ some p) × ClosedShowing (day x (opening fresh ∷ (before ++ (closing ∷ [])))).disc p
+  pub left-closed : (p : Snapshot) × ((remembered x fresh before).draft ≡ Some p) × ClosedShowing (day x (opening fresh ∷ (before ++ (closing ∷ [])))).disc p
   left-closed =
       let o : Day = opened x fresh in
       let h : History = start_history fresh x.disc in
@@ -67,19 +66,18 @@ module _ (x : Day) (fresh : Bool) (ok : x.answer < 4294967296) (before : List Ca
   closing-clean held tried i k o l same fit long e =
       let d : Disc = (day x (opening fresh ∷ (before ++ (closing ∷ [])))).disc in
       let unchanged : left_by d held tried ≡ d = closed-discs.unchanged (record { disc = d; ledger = held }) left-closed.2.is-closed tried in
-      ap (λ (y : AfterRoles). y.call.answer) e
-      ∙ ap (λ (y : After). y.answer) (call_same (lent i k) o l mount (fit_same (lent i k) o l mount fit))
+      ap (λ (y : After). y.answer) (without-roles (lent i k) o l mount fit e)
       ∙ ap (λ (z : Disc). (after z l mount).answer) (same ∙ unchanged)
       ∙ left-closed.2.clean l long
 
 -- whatever is tried leaves it
 pub closing-reads : (x : Day) (fresh : Bool) → x.answer < 4294967296 → (v : ℕ) (block : List ℕ) (main reserve : Extent) (n : ℕ)
-    → AllDone x (opening fresh ∷ write (some v) block ∷ close_session main reserve n ∷ []) → (held : Option (List ℕ)) (tried : List Event) (y : Day) (out : List ℕ) → y.answer < 4294967296 → Fit y
-    → y.disc ≡ left_by (day x (opening fresh ∷ write (some v) block ∷ close_session main reserve n ∷ [])).disc held tried → length y.ledger ≡ ledger_length → length out ≡ sector_length
+    → AllDone x (opening fresh ∷ write (Some v) block ∷ close_session main reserve n ∷ []) → (held : Option (List ℕ)) (tried : List Event) (y : Day) (out : List ℕ) → y.answer < 4294967296 → Fit y
+    → y.disc ≡ left_by (day x (opening fresh ∷ write (Some v) block ∷ close_session main reserve n ∷ [])).disc held tried → length y.ledger ≡ ledger_length → length out ≡ sector_length
     → Reads y mount v out 0 block
 closing-reads x fresh ok v block main reserve n a held tried y out y-ok fit same long whole =
-    let d : Disc = (day x (opening fresh ∷ write (some v) block ∷ close_session main reserve n ∷ [])).disc in
-    let left = left-closed x fresh ok (write (some v) block ∷ []) main reserve n a in
+    let d : Disc = (day x (opening fresh ∷ write (Some v) block ∷ close_session main reserve n ∷ [])).disc in
+    let left = left-closed x fresh ok (write (Some v) block ∷ []) main reserve n a in
     let unchanged : left_by d held tried ≡ d = closed-discs.unchanged (record { disc = d; ledger = held }) left.2.is-closed tried in
     let page : left.0 ≡ first_page x fresh v block = some_same left.0 (first_page x fresh v block) (sym left.1) in
     let shown : DoneShowing y.disc y.ledger mount left.0 = subst (λ (z : Disc). DoneShowing z y.ledger mount left.0) (sym (same ∙ unchanged)) (left.2.mounts y.ledger long) in

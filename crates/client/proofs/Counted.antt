@@ -1,18 +1,18 @@
 -- What the roles tell a host, from the claim about them.
---     counted-on, most-counted   one role more, and no more counted than there are
+--     counts, most-counted       each role as std counts, and no more counted than there are
 --     all-accounted              the six counts together
 --     is_held, is-not-held       the role of one block
 -- Assumes nothing.
 use Prim.Native.Nat.{ℕ, zero, suc, ◌+◌, ◌≤◌, ◌<◌}
 use native.Mathlib.Omega.{arith}
-use native.Mathlib.Numerals.{add-one}
 use mathlib.Core.Path.{◌≡◌, refl, sym, ap, ◌∙◌}
-use mathlib.Core.Bool.{Bool, true, false, ◌&&◌, ◌||◌, not}
+use mathlib.Core.Bool.{Bool, true, false, cond, ◌&&◌, ◌||◌, not}
 use mathlib.Core.List.{List, [], ◌∷◌}
 use lib.Dec.{eqb}
-use lib.ListN.{length, get_or, drop, get_or-eq_default}
-use lib.Seq.{drop-cons}
+use lib.ListN.{length, get_or, get_or-eq_default}
 use borrow.Author.Tests.{ne_eqb}
+use Rattle.std.specs.List.{count_by}
+use Rattle.std.proofs.lemmas.List.Recursion.{is_count_by}
 use Rattle.disc.specs.Disc.{Disc, recorded, kind_at}
 use Rattle.volume.specs.Volume.{unpack, map_of, grown}
 use Rattle.recorder.specs.Calls.{Call, may_record}
@@ -28,20 +28,14 @@ use Rattle.client.specs.Account.{RolesLeft, holding}
 
 -- ---- counts
 
-pub at_most_one : (t : Bool) → grown t 0 ≤ 1
-at_most_one true = omega arith
-at_most_one false = omega arith
-
-pub counted-on : (role n : ℕ) (rs : List ℕ) (i : ℕ) → i < length rs → n + grown (eqb (get_or rs i 0) role) 0 + count role (drop (i + 1) rs) ≡ n + count role (drop i rs)
+-- counting a role is std's counting
+pub counts : (role : ℕ) (rs : List ℕ) → count role rs ≡ count_by (λ r. eqb r role) rs
 unfolding count
-counted-on role n rs i h =
-    ap (λ (k : ℕ). n + grown (eqb (get_or rs i 0) role) 0 + count role (drop k rs)) (add-one i)
-    ∙ go (eqb (get_or rs i 0) role) (count role (drop (suc i) rs))
-    ∙ ap (λ (xs : List ℕ). n + count role xs) (sym (drop-cons rs i 0 h))
+counts role = is_count_by (count role) (λ r. eqb r role) refl (λ r rs. one (eqb r role) (count role rs))
   where
-    go : (t : Bool) (m : ℕ) → n + grown t 0 + m ≡ n + grown t m
-    go true m = omega arith
-    go false m = omega arith
+    one : (t : Bool) (n : ℕ) → grown t n ≡ cond t (1 + n) n
+    one true n = omega arith
+    one false n = refl
 
 pub most-counted : (rs : List ℕ) → recorded_roles rs ≤ length rs
 unfolding count

@@ -1,7 +1,8 @@
 -- Days, call by call: what the promise of one call says of the day, and how one part of a day follows another.
---     one, one-read, one_time    a call of the station, as a day of one call
---     stops                      a refusal ends the day
---     goes_on                    after calls that are done the rest goes on with what they left
+--     one                        a call of the station, as a day of one call
+--     without-roles              what such a call does that is lent one role a sector
+--     goes_on, then-called, then-read, then-time   after calls that are done the rest goes on with what they left, or one call more
+--     stops, not_done            a refusal ends the day, and then not all of its calls were done
 --     first_done, last_done      a call that is done leaves disc and ledger as it leaves them where no roles are lent
 --     first-fit, last_fit        so does any call that is lent one role a sector
 --     start-fit, opening-fit     as a day does that is opened
@@ -11,14 +12,18 @@ use native.Mathlib.Omega.{arith}
 use mathlib.Core.Path.{◌≡◌, refl, sym, ap, ◌∙◌, subst}
 use mathlib.Core.Bool.{Bool, true, false, ◌||◌}
 use mathlib.Core.List.{List, [], ◌∷◌, ◌++◌}
+use Rattle.std.specs.Prelude.{Result, Err}
 use lib.Dec.{ltb}
 use lib.ListN.{length}
 use borrow.Author.Tests.{lt-ltb, le-ltb, ltb-true, ltb-false}
-use Rattle.disc.specs.Disc.{lent}
+use Rattle.disc.specs.Disc.{Disc, lent}
 use Rattle.volume.specs.Volume.{ledger_length}
 use Rattle.recorder.specs.Calls.{Call, read, time_of, restores, may_record}
 use Rattle.recorder.specs.Refusals.{outcome}
+use Rattle.recorder.specs.Refused.{answer_of}
+use Rattle.recorder.specs.declared.Refusal.{Refusal}
 use Rattle.recorder.specs.Effects.{After, left, after}
+use Rattle.recorder.proofs.Refused.{refusal-high}
 use Rattle.recorder.proofs.Done.{ledger-accepted}
 use Rattle.recorder.proofs.Answers.{settled-done}
 use Rattle.roles.specs.Keeping.{outcome_roles, AfterRoles, left_roles, after_roles}
@@ -33,17 +38,13 @@ this_day x = record { answer = x.call.answer; disc = x.call.disc; roles = x.role
 abbrev beside : List ℕ → After → AfterRoles
 beside o x = record { call = x; roles = o }
 
-module _ (i₀ k₀ o₀ m₀ : List ℕ) {a : ℕ} {i k m b : List ℕ} where
-  pub one : (c : Call) {o : List ℕ} → left_roles a i k o m b ≡ after_roles (lent i₀ k₀) o₀ m₀ c → ended a i k o m ≡ day (morning i₀ k₀ o₀ m₀) (c ∷ [])
-  unfolding day
-  one c e = ap this_day e
+pub one : (i₀ k₀ o₀ m₀ : List ℕ) {a : ℕ} {i k o m b : List ℕ} (c : Call) → left_roles a i k o m b ≡ after_roles (lent i₀ k₀) o₀ m₀ c → ended a i k o m ≡ day (morning i₀ k₀ o₀ m₀) (c ∷ [])
+unfolding day
+one i₀ k₀ o₀ m₀ c e = ap this_day e
 
-  -- a call that is not lent the roles
-  pub one-read : (v : ℕ) (out : List ℕ) → left a i k m b ≡ after (lent i₀ k₀) m₀ (read v out) → ended a i k o₀ m ≡ day (morning i₀ k₀ o₀ m₀) (read v out ∷ [])
-  one-read v out e = one (read v out) (ap (beside o₀) e ∙ sym (read_same (lent i₀ k₀) o₀ m₀ v out))
-
-  pub one_time : (n : ℕ) (answer : List ℕ) → left a i k m b ≡ after (lent i₀ k₀) m₀ (time_of n answer) → ended a i k o₀ m ≡ day (morning i₀ k₀ o₀ m₀) (time_of n answer ∷ [])
-  one_time n answer e = one (time_of n answer) (ap (beside o₀) e ∙ sym (time-same (lent i₀ k₀) o₀ m₀ n answer))
+-- a call that is lent one role a sector answers, and leaves disc and ledger, as without roles
+pub without-roles : (d : Disc) (o l : List ℕ) (c : Call) → length o ≡ length d.kinds → {a : ℕ} {i k o₁ l₁ b : List ℕ} → left_roles a i k o₁ l₁ b ≡ after_roles d o l c → left a i k l₁ b ≡ after d l c
+without-roles d o l c fit e = ap (λ (x : AfterRoles). x.call) e ∙ call_same d o l c (fit_same d o l c fit)
 
 pub joined : (cs ds : List Call) (x : Day) → day x (cs ++ ds) ≡ day (day x cs) ds
 unfolding day
@@ -59,13 +60,22 @@ first-called : (x : Day) (c : Call) (cs : List Call) → x.answer < 4294967296 �
 unfolding day
 first-called x c cs h = ap (λ (t : Bool). day (going_on t x (called x.disc x.roles x.ledger c)) cs) (lt-ltb x.answer 4294967296 h)
 
-module _ (x : Day) (cs ds : List Call) {r : ℕ} {i k o m : List ℕ} (e : ended r i k o m ≡ day x cs) where
-  pub stops : 4294967296 ≤ r → ended r i k o m ≡ day x (cs ++ ds)
-  stops h = sym (refused-stays ds (ended r i k o m) h) ∙ ap (λ (y : Day). day y ds) e ∙ sym (joined cs ds x)
-
-  pub goes_on : (c : Call) → r < 4294967296 → day (morning i k o m) (c ∷ ds) ≡ day x (cs ++ (c ∷ ds))
+-- after calls that are done the rest goes on with what they left
+module _ (x : Day) (cs : List Call) {r : ℕ} {i k o m : List ℕ} (e : ended r i k o m ≡ day x cs) (low : r < 4294967296) where
+  pub goes_on : (c : Call) (ds : List Call) → day (morning i k o m) (c ∷ ds) ≡ day x (cs ++ (c ∷ ds))
   unfolding day
-  goes_on c h = sym (first-called (ended r i k o m) c ds h) ∙ ap (λ (y : Day). day y (c ∷ ds)) e ∙ sym (joined cs (c ∷ ds) x)
+  goes_on c ds = sym (first-called (ended r i k o m) c ds low) ∙ ap (λ (y : Day). day y (c ∷ ds)) e ∙ sym (joined cs (c ∷ ds) x)
+
+  module _ {a : ℕ} {i₁ k₁ m₁ b : List ℕ} where
+    pub then-called : (c : Call) {o₁ : List ℕ} → left_roles a i₁ k₁ o₁ m₁ b ≡ after_roles (lent i k) o m c → ended a i₁ k₁ o₁ m₁ ≡ day x (cs ++ (c ∷ []))
+    then-called c f = one i k o m c f ∙ goes_on c []
+
+    -- a call that is not lent the roles
+    pub then-read : (v : ℕ) (out : List ℕ) → left a i₁ k₁ m₁ b ≡ after (lent i k) m (read v out) → ended a i₁ k₁ o m₁ ≡ day x (cs ++ (read v out ∷ []))
+    then-read v out f = then-called (read v out) (ap (beside o) f ∙ sym (read_same (lent i k) o m v out))
+
+    pub then-time : (n : ℕ) (answer : List ℕ) → left a i₁ k₁ m₁ b ≡ after (lent i k) m (time_of n answer) → ended a i₁ k₁ o m₁ ≡ day x (cs ++ (time_of n answer ∷ []))
+    then-time n answer f = then-called (time_of n answer) (ap (beside o) f ∙ sym (time-same (lent i k) o m n answer))
 
 -- ---- calls that are done
 
@@ -121,9 +131,16 @@ module _ (x : Day) (c : Call) (cs : List Call) (ok : x.answer < 4294967296) (a :
   pub first-long : length x.ledger ≡ ledger_length
   first-long = ledger-accepted x.disc x.ledger c done_first
 
--- a day that a refusal ended did not do all of its calls
-pub not_done : (x : Day) (cs ds : List Call) {r : ℕ} {i k o m : List ℕ} → ended r i k o m ≡ day x cs → 4294967296 ≤ r → AllDone x (cs ++ ds) → ⊥
-not_done x cs ds e h a = let same = ap (λ (y : Day). y.answer) e in let d : (day x cs).answer < 4294967296 = part-done cs ds x a in omega (arith, same, d)
+-- a refusal ends the day, and `?` hands it on
+module _ (x : Day) (cs ds : List Call) (refusal : Refusal) {i k o m : List ℕ} (e : ended (answer_of (Err refusal)) i k o m ≡ day x cs) where
+  pub stops : (told : Result ℕ Refusal) → told ≡ Err refusal → ended (answer_of told) i k o m ≡ day x (cs ++ ds)
+  stops told same =
+      ap (λ (r : Result ℕ Refusal). ended (answer_of r) i k o m) same
+      ∙ sym (refused-stays ds (ended (answer_of (Err refusal)) i k o m) (refusal-high refusal)) ∙ ap (λ (y : Day). day y ds) e ∙ sym (joined cs ds x)
+
+  -- so not all of its calls were done
+  pub not_done : {A : Type 0} → AllDone x (cs ++ ds) → A
+  not_done a = absurd (let same = ap (λ (y : Day). y.answer) e in let d : (day x cs).answer < 4294967296 = part-done cs ds x a in omega (arith, same, d, refusal-high refusal))
 
 -- a last call that is done too
 pub last_done : (x : Day) (cs : List Call) (c : Call) → AllDone x (cs ++ (c ∷ [])) → day x (cs ++ (c ∷ [])) ≡ did (day x cs) c

@@ -8,7 +8,7 @@ use native.Mathlib.Omega.{arith}
 use mathlib.Core.Path.{◌≡◌, sym, ap, ap₂, ◌∙◌, subst, subst₂}
 use mathlib.Core.Bool.{Bool, true, false}
 use mathlib.Core.List.{List, [], ◌∷◌, ◌++◌, append-nil, map}
-use mathlib.Core.Option.{none, some}
+use Rattle.std.specs.Prelude.{None, Some, Result, Err}
 use lib.ListN.{length, take, drop}
 use borrow.Author.Tests.{lt-ltb, le-ltb}
 use Rattle.vat.specs.Table.{sector_length}
@@ -18,11 +18,13 @@ use Rattle.volume.specs.Volume.{ledger_length, unpack}
 use Rattle.volume.proofs.State.{Proper}
 use Rattle.recorder.specs.Calls.{Call, write, look_back}
 use Rattle.recorder.specs.Refusals.{target, outcome}
+use Rattle.recorder.specs.Refused.{answer_of}
+use Rattle.recorder.specs.declared.Refusal.{Refusal}
 use Rattle.recorder.specs.Effects.{After, left, after}
 use Rattle.recorder.proofs.Done.{write_done}
 use Rattle.recorder.proofs.Answers.{done-small}
-use Rattle.roles.specs.Keeping.{AfterRoles, left_roles, after_roles}
-use Rattle.roles.proofs.Lent.{fit_same, call_same}
+use Rattle.recorder.proofs.Refused.{refusal-high}
+use Rattle.roles.specs.Keeping.{left_roles, after_roles}
 use Rattle.run.specs.Entry.{entry}
 use Rattle.run.specs.View.{most_viewed, view}
 use Rattle.history.specs.History.{History}
@@ -34,7 +36,7 @@ use Rattle.alike.specs.Alike.{Alike}
 use Rattle.alike.proofs.Views.{mean-nothing}
 use Rattle.space.specs.Called.{as_events}
 use Rattle.client.specs.Day.{Day, ended, going_on, day, AllDone, opening, saves_among, world, filling, storing, joined_blocks, viewed}
-use Rattle.client.proofs.Days.{joined, part-done, did, done_first, called-done, first_done, last_done, rest-done, first-fit}
+use Rattle.client.proofs.Days.{without-roles, joined, part-done, did, done_first, called-done, first_done, last_done, rest-done, first-fit}
 use Rattle.client.proofs.Claimed.{start_history, start-kept, opened, remembered, claim-at}
 use Rattle.client.proofs.Since.{Went, went, history-joined, saved, book, SavedThere}
 use Rattle.client.proofs.Written.{Wrote, write-told, write-small, written}
@@ -42,42 +44,45 @@ use Rattle.client.proofs.Blocks.{Stand, open-behind, StoredBlocks, stored-blocks
 
 -- ---- a day that goes on with a view
 
-module _ (x : Day) (v offset : ℕ) (out : List ℕ) {r : ℕ} {i k o l : List ℕ} (e : ended r i k o l ≡ x) where
-  pub stops-unviewed : 4294967296 ≤ r → ended r i k o l ≡ viewed x v offset out
-  stops-unviewed h =
-      let y : Day = ended r i k o l in
-      let next : Day = ended (view (lent i k) l v offset out).answer i k o l in
-      ap (λ (t : Bool). going_on t y next) (sym (le-ltb r 4294967296 h)) ∙ ap (λ (z : Day). viewed z v offset out) e
+module _ (x : Day) (v offset : ℕ) (out : List ℕ) where
+  module _ (refusal : Refusal) {i k o l : List ℕ} (e : ended (answer_of (Err refusal)) i k o l ≡ x) where
+    pub stops-unviewed : (told : Result ℕ Refusal) → told ≡ Err refusal → ended (answer_of told) i k o l ≡ viewed x v offset out
+    stops-unviewed told same =
+        let y : Day = ended (answer_of (Err refusal)) i k o l in
+        let next : Day = ended (view (lent i k) l v offset out).answer i k o l in
+        ap (λ (r : Result ℕ Refusal). ended (answer_of r) i k o l) same
+        ∙ ap (λ (t : Bool). going_on t y next) (sym (le-ltb y.answer 4294967296 (refusal-high refusal))) ∙ ap (λ (z : Day). viewed z v offset out) e
 
-  pub goes-on-viewed : r < 4294967296 → {a : ℕ} {got : List ℕ} → left a i k l got ≡ view (lent i k) l v offset out → ended a i k o l ≡ viewed x v offset out
-  goes-on-viewed h shown =
-      let y : Day = ended r i k o l in
-      let next : Day = ended (view (lent i k) l v offset out).answer i k o l in
-      ap (λ (z : After). ended z.answer i k o l) shown ∙ ap (λ (t : Bool). going_on t y next) (sym (lt-ltb r 4294967296 h)) ∙ ap (λ (z : Day). viewed z v offset out) e
+  module _ {r : ℕ} {i k o l : List ℕ} (e : ended r i k o l ≡ x) where
+    pub goes-on-viewed : r < 4294967296 → {a : ℕ} {got : List ℕ} → left a i k l got ≡ view (lent i k) l v offset out → ended a i k o l ≡ viewed x v offset out
+    goes-on-viewed h shown =
+        let y : Day = ended r i k o l in
+        let next : Day = ended (view (lent i k) l v offset out).answer i k o l in
+        ap (λ (z : After). ended z.answer i k o l) shown ∙ ap (λ (t : Bool). going_on t y next) (sym (lt-ltb r 4294967296 h)) ∙ ap (λ (z : Day). viewed z v offset out) e
 
 -- ---- a run that was stored
 
 module _ (x : Day) (fresh : Bool) (ok : x.answer < 4294967296) (block : List ℕ) where
   -- the block that the unnumbered write took
   abbrev taken : ℕ
-  taken = (day x (opening fresh ∷ write none block ∷ [])).answer
+  taken = (day x (opening fresh ∷ write None block ∷ [])).answer
 
-  module _ (cs : List Call) (a : AllDone x (opening fresh ∷ write none block ∷ cs)) where
+  module _ (cs : List Call) (a : AllDone x (opening fresh ∷ write None block ∷ cs)) where
     abbrev opened-done : (opened x fresh).answer < 4294967296
-    opened-done = called-done x (opening fresh) (write none block ∷ cs) ok a
+    opened-done = called-done x (opening fresh) (write None block ∷ cs) ok a
 
-    write-is-done : outcome (opened x fresh).disc (opened x fresh).ledger (write none block) ≡ 0
-    write-is-done = done_first (opened x fresh) (write none block) cs opened-done (rest-done x (opening fresh) (write none block ∷ cs) ok a)
+    write-is-done : outcome (opened x fresh).disc (opened x fresh).ledger (write None block) ≡ 0
+    write-is-done = done_first (opened x fresh) (write None block) cs opened-done (rest-done x (opening fresh) (write None block ∷ cs) ok a)
 
     taken-target : taken ≡ target (unpack (opened x fresh).ledger)
     unfolding day
     taken-target =
-        let both : AllDone x (opening fresh ∷ write none block ∷ []) = part-done (opening fresh ∷ write none block ∷ []) cs x a in
-        ap (λ (y : Day). y.answer) (first_done x (opening fresh) (write none block ∷ []) ok both ∙ first_done (opened x fresh) (write none block) [] opened-done (rest-done x (opening fresh) (write none block ∷ []) ok both))
-        ∙ write-told (opened x fresh).disc (opened x fresh).ledger none block write-is-done
+        let both : AllDone x (opening fresh ∷ write None block ∷ []) = part-done (opening fresh ∷ write None block ∷ []) cs x a in
+        ap (λ (y : Day). y.answer) (first_done x (opening fresh) (write None block ∷ []) ok both ∙ first_done (opened x fresh) (write None block) [] opened-done (rest-done x (opening fresh) (write None block ∷ []) ok both))
+        ∙ write-told (opened x fresh).disc (opened x fresh).ledger None block write-is-done
 
     pub taken-small : taken < 400000
-    taken-small = subst (λ (b : ℕ). b < 400000) (sym taken-target) (write-small (opened x fresh).disc (opened x fresh).ledger none block write-is-done)
+    taken-small = subst (λ (b : ℕ). b < 400000) (sym taken-target) (write-small (opened x fresh).disc (opened x fresh).ledger None block write-is-done)
 
   module _ (more : List (List ℕ)) (v n : ℕ) (a : AllDone x (storing x fresh v block more n)) (some_bytes : 0 < n) (few_bytes : n < 1073741824) (short : n ≤ sector_length * length (block ∷ more)) (offset : ℕ) (out : List ℕ) (inside : offset ≤ n) (room : length out ≤ most_viewed) where
     pub stored-shows : seen (view (day x (storing x fresh v block more n)).disc (day x (storing x fresh v block more n)).ledger v offset out)
@@ -85,17 +90,17 @@ module _ (x : Day) (fresh : Bool) (ok : x.answer < 4294967296) (block : List ℕ
     stored-shows =
         let bs : List (List ℕ) = block ∷ more in
         let entered : List ℕ = entry (extent n taken ∷ []) (taken + length bs) in
-        let last : Call = write (some v) entered in
-        let cs : List Call = map (write none) more in
+        let last : Call = write (Some v) entered in
+        let cs : List Call = map (write None) more in
         let tail : List Call = cs ++ (last ∷ []) in
         let o : Day = opened x fresh in
         let o-done : o.answer < 4294967296 = opened-done tail a in
-        let rest : AllDone o (write none block ∷ tail) = rest-done x (opening fresh) (write none block ∷ tail) ok a in
-        let good : Proper (unpack o.ledger) = (start-kept fresh x.disc x.ledger (done_first x (opening fresh) (write none block ∷ tail) ok a)).good.ledger-good in
-        let w : Day = did o (write none block) in
-        let w-done : w.answer < 4294967296 = called-done o (write none block) tail o-done rest in
-        let w-rest : AllDone w tail = rest-done o (write none block) tail o-done rest in
-        let p : Wrote o.disc (unpack o.ledger) none block w.disc w.ledger = written o.disc o.ledger good none block (write-is-done tail a) in
+        let rest : AllDone o (write None block ∷ tail) = rest-done x (opening fresh) (write None block ∷ tail) ok a in
+        let good : Proper (unpack o.ledger) = (start-kept fresh x.disc x.ledger (done_first x (opening fresh) (write None block ∷ tail) ok a)).good.ledger-good in
+        let w : Day = did o (write None block) in
+        let w-done : w.answer < 4294967296 = called-done o (write None block) tail o-done rest in
+        let w-rest : AllDone w tail = rest-done o (write None block) tail o-done rest in
+        let p : Wrote o.disc (unpack o.ledger) None block w.disc w.ledger = written o.disc o.ledger good None block (write-is-done tail a) in
         let y : Day = day w cs in
         let y-done : AllDone w cs = part-done cs (last ∷ []) w w-rest in
         let s : StoredBlocks w y more = stored-blocks more w w-done (open-behind p) y-done in
@@ -107,10 +112,10 @@ module _ (x : Day) (fresh : Bool) (ok : x.answer < 4294967296) (block : List ℕ
         let standing : Stand y.disc taken bs =
         (s.more.contents taken (omega (arith, one-recorded)) ∙ ap (content w.disc) first_taken ∙ p.holds, subst (λ (t : ℕ). Stand y.disc t more) one-recorded s.stand) in
         let same : day x (storing x fresh v block more n) ≡ did y last =
-        first_done x (opening fresh) (write none block ∷ tail) ok a ∙ first_done o (write none block) tail o-done rest ∙ last_done w cs last w-rest in
+        first_done x (opening fresh) (write None block ∷ tail) ok a ∙ first_done o (write None block) tail o-done rest ∙ last_done w cs last w-rest in
         ap (λ (z : Day). seen (view z.disc z.ledger v offset out)) same
-        ∙ entry-shows y.ledger (did y last).ledger v n taken bs some_bytes few_bytes short s.still_open.proper (s.still_open.next ∙ counted) counted standing (written y.disc y.ledger s.still_open.proper (some v) entered e)
-        (write_done y.disc y.ledger (some v) entered e).writable offset out inside room
+        ∙ entry-shows y.ledger (did y last).ledger v n taken bs some_bytes few_bytes short s.still_open.proper (s.still_open.next ∙ counted) counted standing (written y.disc y.ledger s.still_open.proper (Some v) entered e)
+        (write_done y.disc y.ledger (Some v) entered e).writable offset out inside room
 
     -- what a program is shown of such a disc and ledger
     pub stored-seen : {a : ℕ} {i k l got : List ℕ} → lent i k ≡ (day x (storing x fresh v block more n)).disc → l ≡ (day x (storing x fresh v block more n)).ledger
@@ -180,4 +185,4 @@ seen_alike d e a l k n offset buffer =
 pub seen-given : (i k o l : List ℕ) → length o ≡ length k → (n v offset : ℕ) (out : List ℕ) {a r : ℕ} {o' l' b got : List ℕ} → left_roles a i k o' l' b ≡ after_roles (lent i k) o l (look_back n)
     → left r i k l' got ≡ view (lent i k) l' v offset out → showing r got ≡ seen_back (lent i k) l n v offset out
 seen-given i k o l fit n v offset out looked viewed =
-    ap seen viewed ∙ ap (λ (m : List ℕ). seen (view (lent i k) m v offset out)) (ap (λ (x : AfterRoles). x.call.ledger) looked ∙ ap (λ (x : After). x.ledger) (call_same (lent i k) o l (look_back n) (fit_same (lent i k) o l (look_back n) fit)))
+    ap seen viewed ∙ ap (λ (m : List ℕ). seen (view (lent i k) m v offset out)) (ap (λ (x : After). x.ledger) (without-roles (lent i k) o l (look_back n) fit looked))

@@ -1,5 +1,6 @@
 -- What a host wants of its days: what was saved is read back, where the answers said, however long ago and whatever was cut since.
 --     saved-shows, saved-reads, saved-back   a save, mounted, read, and one step back from it
+--     left-later                             the disc as a program leaves it that made such calls
 --     long-ago-reads                         a save with any calls behind it
 --     released-reads, nothing-mounts         a number released; a disc without a save
 --     cut-reads                              a save, a write, and any call that was cut
@@ -10,7 +11,7 @@ use native.Mathlib.Omega.{arith}
 use mathlib.Core.Path.{◌≡◌, refl, sym, ap, ◌∙◌, subst, subst₂}
 use mathlib.Core.Bool.{Bool, true, false, ◌&&◌}
 use mathlib.Core.List.{List, [], ◌∷◌, ◌++◌}
-use mathlib.Core.Option.{Option, none, some}
+use Rattle.std.specs.Prelude.{Option, None, Some}
 use borrow.Author.Tests.{eqb-true, eqb-false, ne_eqb, lt-ltb}
 use lib.Dec.{eqb, ltb}
 use lib.ListN.{length, get_or, take, set, length-set, length-append}
@@ -37,31 +38,31 @@ use Rattle.history.specs.Times.{saved_stamp}
 use Rattle.alike.specs.Scribbles.{event, scribble, AllHappen, ends, recalls}
 use Rattle.history.proofs.Saving.{told-save, unsaved, Saving, saving-done, small, table_block, at_table}
 use Rattle.history.proofs.Theorem.{Kept, saved-page, Remounted, remounts}
-use Rattle.client.specs.Day.{Day, ended, day, AllDone, opening, ShowsSave, back_if, one_back, saves_among, struck, OneSector, sectors_behind, CutBehind, table_kept, reads_of, StoppedStoring, StoppedMarking, world}
-use Rattle.client.proofs.Days.{joined, part-done, did, done_first, called-done, first_done, rest-done, last_done, Fit, first-fit, opening-fit, last_fit}
+use Rattle.client.specs.Day.{Day, ended, morning, day, AllDone, opening, ShowsSave, back_if, one_back, saves_among, struck, OneSector, sectors_behind, CutBehind, table_kept, reads_of, StoppedStoring, StoppedMarking, world}
+use Rattle.client.proofs.Days.{joined, part-done, did, done_first, called-done, first_done, rest-done, last_done, first-long, Fit, first-fit, opening-fit, last_fit}
 use Rattle.client.proofs.Claimed.{not-lost, history, kept_next, start_page, start_pages, opened, remembered, claim-behind, claim-at, kept_at}
 use Rattle.client.proofs.Shown.{Reads, mount-disc, mount-reads, mount-unused, look-reads}
 
 -- ---- entries of a page
 
 abbrev pub written : Snapshot → ℕ → ℕ → List ℕ → Snapshot
-written p v b block = placed (eqb v (length p)) p v (shows b (some block))
+written p v b block = placed (eqb v (length p)) p v (shows b (Some block))
 
 -- an entry that was placed is there
 module _ (p : Snapshot) (v b : ℕ) (block : List ℕ) (no_gap : v ≤ length p) where
-  written-there : get_or (written p v b block) v unused_entry ≡ shows b (some block)
+  written-there : get_or (written p v b block) v unused_entry ≡ shows b (Some block)
   written-there = go (eqb v (length p)) refl
     where
-      go : (t : Bool) → eqb v (length p) ≡ t → get_or (placed t p v (shows b (some block))) v unused_entry ≡ shows b (some block)
-      go true z = ap (λ (k : ℕ). get_or (p ++ (shows b (some block) ∷ [])) k unused_entry) (eqb-true v (length p) z) ∙ get_or-append_seam p (shows b (some block)) [] unused_entry
-      go false z = get_or-set_same p v (shows b (some block)) unused_entry (let other = eqb-false v (length p) z in omega (arith, other))
+      go : (t : Bool) → eqb v (length p) ≡ t → get_or (placed t p v (shows b (Some block))) v unused_entry ≡ shows b (Some block)
+      go true z = ap (λ (k : ℕ). get_or (p ++ (shows b (Some block) ∷ [])) k unused_entry) (eqb-true v (length p) z) ∙ get_or-append_seam p (shows b (Some block)) [] unused_entry
+      go false z = get_or-set_same p v (shows b (Some block)) unused_entry (let other = eqb-false v (length p) z in omega (arith, other))
 
 length-written : (p : Snapshot) (v b : ℕ) (block : List ℕ) → length (written p v b block) ≡ grown (eqb v (length p)) (length p)
 length-written p v b block = go (eqb v (length p))
   where
-    go : (t : Bool) → length (placed t p v (shows b (some block))) ≡ grown t (length p)
-    go true = length-append p (shows b (some block) ∷ [])
-    go false = length-set p v (shows b (some block))
+    go : (t : Bool) → length (placed t p v (shows b (Some block))) ≡ grown t (length p)
+    go true = length-append p (shows b (Some block) ∷ [])
+    go false = length-set p v (shows b (Some block))
 
 grown-more : (t : Bool) (n : ℕ) → n ≤ grown t n
 grown-more true n = omega arith
@@ -84,12 +85,12 @@ begun-size d l e =
 
 module _ (d : Disc) (l : List ℕ) (good : Proper (unpack l)) where
   -- a write leaves the last table
-  written_last : (v : ℕ) (block : List ℕ) → outcome d l (write (some v) block) ≡ 0 → (unpack (after d l (write (some v) block)).ledger).last ≡ (unpack l).last
+  written_last : (v : ℕ) (block : List ℕ) → outcome d l (write (Some v) block) ≡ 0 → (unpack (after d l (write (Some v) block)).ledger).last ≡ (unpack l).last
   unfolding after effect wrote
   written_last v block e =
-      let f : WriteDone d l (some v) block = write_done d l (some v) block e in
+      let f : WriteDone d l (Some v) block = write_done d l (Some v) block e in
       let s : Volume = unpack l in
-      rw e (ap (λ v. v.last) (unpack-pack (wrote (some v) (target s) s) (proper-wrote s good (some v) (target s) f.fit.few (omega (arith, few d f.sound-disc, f.fit.same-recorded, links-few s)))))
+      rw e (ap (λ v. v.last) (unpack-pack (wrote (Some v) (target s) s) (proper-wrote s good (Some v) (target s) f.fit.few (omega (arith, few d f.sound-disc, f.fit.same-recorded, links-few s)))))
 
   save-long : (c : Call) → saves c ≡ true → outcome d l c ≡ 0 → length (after d l c).ledger ≡ ledger_length
   unfolding after
@@ -113,7 +114,7 @@ one-step last {answer} none-there there = go (eqb last unused) refl
 
 -- the block that the write took, and the page that it makes
 abbrev pub taken : Day → Bool → ℕ → List ℕ → ℕ
-taken x fresh v block = second_number (opened x fresh).disc (opened x fresh).ledger (write (some v) block)
+taken x fresh v block = second_number (opened x fresh).disc (opened x fresh).ledger (write (Some v) block)
 
 abbrev pub first_page : Day → Bool → ℕ → List ℕ → Snapshot
 first_page x fresh v block = written (start_page fresh x.disc) v (taken x fresh v block) block
@@ -133,59 +134,59 @@ module _ (x : Day) (fresh : Bool) (ok : x.answer < 4294967296) where
           ((claim-at y false (omega arith) [] (subst (λ (z : Day). z.answer < 4294967296) (sym mounted) (done-small x.disc x.ledger mount e))).mounts x.ledger (ledger-accepted x.disc x.ledger mount e)).showing.size
 
   -- number v is written first
-  module _ (v : ℕ) (block : List ℕ) (cs : List Call) (a : AllDone x (opening fresh ∷ write (some v) block ∷ cs)) where
+  module _ (v : ℕ) (block : List ℕ) (cs : List Call) (a : AllDone x (opening fresh ∷ write (Some v) block ∷ cs)) where
     abbrev start-done : outcome x.disc x.ledger (opening fresh) ≡ 0
-    start-done = done_first x (opening fresh) (write (some v) block ∷ cs) ok a
+    start-done = done_first x (opening fresh) (write (Some v) block ∷ cs) ok a
 
     abbrev opened-done : (opened x fresh).answer < 4294967296
-    opened-done = called-done x (opening fresh) (write (some v) block ∷ cs) ok a
+    opened-done = called-done x (opening fresh) (write (Some v) block ∷ cs) ok a
 
-    pub write-is-done : outcome (opened x fresh).disc (opened x fresh).ledger (write (some v) block) ≡ 0
-    write-is-done = done_first (opened x fresh) (write (some v) block) cs opened-done (rest-done x (opening fresh) (write (some v) block ∷ cs) ok a)
+    pub write-is-done : outcome (opened x fresh).disc (opened x fresh).ledger (write (Some v) block) ≡ 0
+    write-is-done = done_first (opened x fresh) (write (Some v) block) cs opened-done (rest-done x (opening fresh) (write (Some v) block ∷ cs) ok a)
 
     no_gap : v ≤ length (start_page fresh x.disc)
-    no_gap = omega (arith, (write_done (opened x fresh).disc (opened x fresh).ledger (some v) block write-is-done).writable.1, start-size start-done)
+    no_gap = omega (arith, (write_done (opened x fresh).disc (opened x fresh).ledger (Some v) block write-is-done).writable.1, start-size start-done)
 
-    pub first-there : get_or (first_page x fresh v block) v unused_entry ≡ shows (taken x fresh v block) (some block)
+    pub first-there : get_or (first_page x fresh v block) v unused_entry ≡ shows (taken x fresh v block) (Some block)
     first-there = written-there (start_page fresh x.disc) v (taken x fresh v block) block no_gap
 
     below-first : v ≤ length (first_page x fresh v block)
     below-first = omega (arith, no_gap, length-written (start_page fresh x.disc) v (taken x fresh v block) block, grown-more (eqb v (length (start_page fresh x.disc))) (length (start_page fresh x.disc)))
 
-    answered-taken : (day x (opening fresh ∷ write (some v) block ∷ [])).answer ≡ taken x fresh v block
+    answered-taken : (day x (opening fresh ∷ write (Some v) block ∷ [])).answer ≡ taken x fresh v block
     unfolding day
     answered-taken =
-        let both : AllDone x (opening fresh ∷ write (some v) block ∷ []) = part-done (opening fresh ∷ write (some v) block ∷ []) cs x a in
-        ap (λ (y : Day). y.answer) (first_done x (opening fresh) (write (some v) block ∷ []) ok both ∙ first_done (opened x fresh) (write (some v) block) [] opened-done (rest-done x (opening fresh) (write (some v) block ∷ []) ok both))
-        ∙ answer-of (opened x fresh).disc (opened x fresh).ledger (write (some v) block) write-is-done
+        let both : AllDone x (opening fresh ∷ write (Some v) block ∷ []) = part-done (opening fresh ∷ write (Some v) block ∷ []) cs x a in
+        ap (λ (y : Day). y.answer) (first_done x (opening fresh) (write (Some v) block ∷ []) ok both ∙ first_done (opened x fresh) (write (Some v) block) [] opened-done (rest-done x (opening fresh) (write (Some v) block ∷ []) ok both))
+        ∙ answer-of (opened x fresh).disc (opened x fresh).ledger (write (Some v) block) write-is-done
 
   -- ---- a save
 
-  module _ (v : ℕ) (block : List ℕ) (c : Call) (is-save : saves c ≡ true) (a : AllDone x (opening fresh ∷ write (some v) block ∷ c ∷ [])) where
+  module _ (v : ℕ) (block : List ℕ) (c : Call) (is-save : saves c ≡ true) (a : AllDone x (opening fresh ∷ write (Some v) block ∷ c ∷ [])) where
     abbrev recorded-day : Day
-    recorded-day = day x (opening fresh ∷ write (some v) block ∷ [])
+    recorded-day = day x (opening fresh ∷ write (Some v) block ∷ [])
 
     abbrev pub saved-day : Day
-    saved-day = day x (opening fresh ∷ write (some v) block ∷ c ∷ [])
+    saved-day = day x (opening fresh ∷ write (Some v) block ∷ c ∷ [])
 
     -- the write, as the history goes on from it
     abbrev written-first : Day
-    written-first = did (opened x fresh) (write (some v) block)
+    written-first = did (opened x fresh) (write (Some v) block)
 
-    record-done : AllDone x (opening fresh ∷ write (some v) block ∷ [])
-    record-done = part-done (opening fresh ∷ write (some v) block ∷ []) (c ∷ []) x a
+    record-done : AllDone x (opening fresh ∷ write (Some v) block ∷ [])
+    record-done = part-done (opening fresh ∷ write (Some v) block ∷ []) (c ∷ []) x a
 
     save-called : saved-day ≡ did recorded-day c
-    save-called = last_done x (opening fresh ∷ write (some v) block ∷ []) c a
+    save-called = last_done x (opening fresh ∷ write (Some v) block ∷ []) c a
 
     saved-fit : Fit saved-day
-    saved-fit = opening-fit x fresh (write (some v) block ∷ c ∷ []) ok a
+    saved-fit = opening-fit x fresh (write (Some v) block ∷ c ∷ []) ok a
 
     save-is-done : outcome recorded-day.disc recorded-day.ledger c ≡ 0
-    save-is-done = done_first recorded-day c [] record-done (subst (λ (y : Day). y.answer < 4294967296) (joined (opening fresh ∷ write (some v) block ∷ []) (c ∷ []) x) a)
+    save-is-done = done_first recorded-day c [] record-done (subst (λ (y : Day). y.answer < 4294967296) (joined (opening fresh ∷ write (Some v) block ∷ []) (c ∷ []) x) a)
 
     recorded-good : Proper (unpack recorded-day.ledger)
-    recorded-good = (kept_at x fresh ok (write (some v) block ∷ []) record-done).good.ledger-good
+    recorded-good = (kept_at x fresh ok (write (Some v) block ∷ []) record-done).good.ledger-good
 
     pub saved-long : length saved-day.ledger ≡ ledger_length
     saved-long = ap (λ (y : Day). length y.ledger) save-called ∙ save-long recorded-day.disc recorded-day.ledger recorded-good c is-save save-is-done
@@ -198,8 +199,8 @@ module _ (x : Day) (fresh : Bool) (ok : x.answer < 4294967296) where
 
     mounts : DoneShowing saved-day.disc saved-day.ledger mount (first_page x fresh v block)
     mounts =
-        subst (λ (t : Told). Mounts saved-day.disc saved-day.ledger (done t (second_number written-first.disc written-first.ledger c) (remembered x fresh (write (some v) block ∷ []))).pages) (told-save c is-save)
-        ((claim-at x fresh ok (write (some v) block ∷ c ∷ []) a).mounts saved-day.ledger saved-long)
+        subst (λ (t : Told). Mounts saved-day.disc saved-day.ledger (done t (second_number written-first.disc written-first.ledger c) (remembered x fresh (write (Some v) block ∷ []))).pages) (told-save c is-save)
+        ((claim-at x fresh ok (write (Some v) block ∷ c ∷ []) a).mounts saved-day.ledger saved-long)
 
     pub saved-shows : ShowsSave x (opening fresh) v block c (after saved-day.disc saved-day.ledger mount).answer (after saved-day.disc saved-day.ledger mount).ledger
     unfolding day
@@ -214,31 +215,31 @@ module _ (x : Day) (fresh : Bool) (ok : x.answer < 4294967296) where
           entry = mounts.showing.entry v ∙ ap block_number (first-there v block (c ∷ []) a) ∙ sym (answered-taken v block (c ∷ []) a);
           size =
               mounts.showing.size ∙ length-written p v b block
-              ∙ ap (λ (k : ℕ). grown (eqb v k) k) (sym sized ∙ ap (λ (y : Day). (unpack y.ledger).size) (sym (first_done x (opening fresh) [] ok (part-done (opening fresh ∷ []) (write (some v) block ∷ c ∷ []) x a))));
+              ∙ ap (λ (k : ℕ). grown (eqb v k) k) (sym sized ∙ ap (λ (y : Day). (unpack y.ledger).size) (sym (first_done x (opening fresh) [] ok (part-done (opening fresh ∷ []) (write (Some v) block ∷ c ∷ []) x a))));
         }
 
     -- what a program sees that mounts it
-    pub mounted-shows : {r : ℕ} {i k o m : List ℕ} → ended r i k o m ≡ day x (opening fresh ∷ write (some v) block ∷ c ∷ mount ∷ []) → ShowsSave x (opening fresh) v block c r m
+    pub mounted-shows : {r : ℕ} {i k o m : List ℕ} → ended r i k o m ≡ day x (opening fresh ∷ write (Some v) block ∷ c ∷ mount ∷ []) → ShowsSave x (opening fresh) v block c r m
     mounted-shows e =
-        subst (λ (y : Day). ShowsSave x (opening fresh) v block c y.answer y.ledger) (sym (e ∙ last_fit x (opening fresh ∷ write (some v) block ∷ c ∷ []) mount a saved-fit)) saved-shows
+        subst (λ (y : Day). ShowsSave x (opening fresh) v block c y.answer y.ledger) (sym (e ∙ last_fit x (opening fresh ∷ write (Some v) block ∷ c ∷ []) mount a saved-fit)) saved-shows
 
     pub saved-reads : (out : List ℕ) → length out ≡ sector_length → Reads saved-day mount v out 0 block
     saved-reads out long = mount-reads saved-day a saved-fit v out long mounts (first-there v block (c ∷ []) a)
 
     -- one step back: the table that was last when the day was opened
-    pub saved-back : {r : ℕ} {i k o m : List ℕ} → ended r i k o m ≡ day x (opening fresh ∷ write (some v) block ∷ c ∷ look_back 1 ∷ [])
+    pub saved-back : {r : ℕ} {i k o m : List ℕ} → ended r i k o m ≡ day x (opening fresh ∷ write (Some v) block ∷ c ∷ look_back 1 ∷ [])
         → r ≡ one_back (unpack (day x (opening fresh ∷ [])).ledger).last
     unfolding day
     saved-back e =
         let o : Day = day x (opening fresh ∷ []) in
-        let o-done : AllDone x (opening fresh ∷ []) = part-done (opening fresh ∷ []) (write (some v) block ∷ c ∷ []) x a in
+        let o-done : AllDone x (opening fresh ∷ []) = part-done (opening fresh ∷ []) (write (Some v) block ∷ c ∷ []) x a in
         let same : (unpack recorded-day.ledger).last ≡ (unpack o.ledger).last =
-        ap (λ (y : Day). (unpack y.ledger).last) (last_done x (opening fresh ∷ []) (write (some v) block) record-done)
+        ap (λ (y : Day). (unpack y.ledger).last) (last_done x (opening fresh ∷ []) (write (Some v) block) record-done)
         ∙ written_last o.disc o.ledger (kept_at x fresh ok [] o-done).good.ledger-good v block
-        (done_first o (write (some v) block) [] o-done (subst (λ (y : Day). y.answer < 4294967296) (joined (opening fresh ∷ []) (write (some v) block ∷ []) x) record-done)) in
+        (done_first o (write (Some v) block) [] o-done (subst (λ (y : Day). y.answer < 4294967296) (joined (opening fresh ∷ []) (write (Some v) block ∷ []) x) record-done)) in
         let here : (after saved-day.disc saved-day.ledger (look_back 1)).answer ≡ (after (after recorded-day.disc recorded-day.ledger c).disc saved-day.ledger (look_back 1)).answer =
         ap (λ (d : Disc). (after d saved-day.ledger (look_back 1)).answer) saved-disc in
-        ap (λ (y : Day). y.answer) (e ∙ last_fit x (opening fresh ∷ write (some v) block ∷ c ∷ []) (look_back 1) a saved-fit)
+        ap (λ (y : Day). y.answer) (e ∙ last_fit x (opening fresh ∷ write (Some v) block ∷ c ∷ []) (look_back 1) a saved-fit)
         ∙ here ∙ one-step (unpack o.ledger).last (λ z. again.none-back (same ∙ z)) (λ used. again.one-back (λ z. used (sym same ∙ z)) ∙ same)
 
 -- ---- any calls behind a save
@@ -283,51 +284,63 @@ pub record Later (x : Day) (cs : List Call) (y : Day) (out : List ℕ) : Type 0 
   pub ledger-long : length y.ledger ≡ ledger_length
   pub block-long : length out ≡ sector_length
 
+-- as a program leaves it that made the calls, whatever it did then to the roles and the ledger
+pub left-later : (x : Day) (fresh : Bool) → x.answer < 4294967296 → (cs : List Call) → AllDone x (opening fresh ∷ cs) → {r : ℕ} {i k o m : List ℕ} → ended r i k o m ≡ day x (opening fresh ∷ cs)
+    → (o₁ m₁ out : List ℕ) → length o₁ ≡ length o → length m₁ ≡ length x.ledger → length out ≡ sector_length → Later x (opening fresh ∷ cs) (morning i k o₁ m₁) out
+left-later x fresh ok cs a e o₁ m₁ out as_many same whole =
+    record {
+      ok = omega arith;
+      there = ap (λ (y : Day). y.disc) (sym e);
+      roles-fit = as_many ∙ subst Fit (sym e) (opening-fit x fresh cs ok a);
+      ledger-long = same ∙ first-long x (opening fresh) cs ok a;
+      block-long = whole;
+    }
+
 module _ (x : Day) (fresh : Bool) (ok : x.answer < 4294967296) (v : ℕ) where
   claim-later : (cs : List Call) → AllDone x (opening fresh ∷ cs) → {y : Day} {out : List ℕ} → Later x (opening fresh ∷ cs) y out → Claim y.disc (remembered x fresh cs)
   claim-later cs a g = subst (λ (d : Disc). Claim d (remembered x fresh cs)) g.there (claim-at x fresh ok cs a)
 
-  pub long-ago-reads : (c : Call) → saves c ≡ true → (block : List ℕ) (since : List Call) → AllDone x (opening fresh ∷ write (some v) block ∷ c ∷ since)
-      → (y : Day) (out : List ℕ) → Later x (opening fresh ∷ write (some v) block ∷ c ∷ since) y out
+  pub long-ago-reads : (c : Call) → saves c ≡ true → (block : List ℕ) (since : List Call) → AllDone x (opening fresh ∷ write (Some v) block ∷ c ∷ since)
+      → (y : Day) (out : List ℕ) → Later x (opening fresh ∷ write (Some v) block ∷ c ∷ since) y out
       → Reads y (look_back (saves_among since)) v out 0 block
   unfolding day
   long-ago-reads c is-save block since a y out g =
       let o : Day = opened x fresh in
-      let w : Day = did o (write (some v) block) in
+      let w : Day = did o (write (Some v) block) in
       let z : Day = did w c in
-      let h : History = remembered x fresh (write (some v) block ∷ c ∷ []) in
-      let o-done : o.answer < 4294967296 = called-done x (opening fresh) (write (some v) block ∷ c ∷ since) ok a in
-      let o-rest : AllDone o (write (some v) block ∷ c ∷ since) = rest-done x (opening fresh) (write (some v) block ∷ c ∷ since) ok a in
-      let w-done : w.answer < 4294967296 = called-done o (write (some v) block) (c ∷ since) o-done o-rest in
-      let w-rest : AllDone w (c ∷ since) = rest-done o (write (some v) block) (c ∷ since) o-done o-rest in
-      let first : AllDone x (opening fresh ∷ write (some v) block ∷ c ∷ []) = part-done (opening fresh ∷ write (some v) block ∷ c ∷ []) since x a in
-      let o-first : AllDone o (write (some v) block ∷ c ∷ []) = rest-done x (opening fresh) (write (some v) block ∷ c ∷ []) ok first in
-      let same : day x (opening fresh ∷ write (some v) block ∷ c ∷ []) ≡ z = first_done x (opening fresh) (write (some v) block ∷ c ∷ []) ok first ∙ first_done o (write (some v) block) (c ∷ []) o-done o-first ∙ first_done w c [] w-done (rest-done o (write (some v) block) (c ∷ []) o-done o-first) in
-      let k : Kept (world z) h = subst (λ (d : Day). Kept (world d) h) same (kept_at x fresh ok (write (some v) block ∷ c ∷ []) first) in
-      let m : MovedBack h.pages (remembered x fresh (write (some v) block ∷ c ∷ since)).pages (saves_among since) =
+      let h : History = remembered x fresh (write (Some v) block ∷ c ∷ []) in
+      let o-done : o.answer < 4294967296 = called-done x (opening fresh) (write (Some v) block ∷ c ∷ since) ok a in
+      let o-rest : AllDone o (write (Some v) block ∷ c ∷ since) = rest-done x (opening fresh) (write (Some v) block ∷ c ∷ since) ok a in
+      let w-done : w.answer < 4294967296 = called-done o (write (Some v) block) (c ∷ since) o-done o-rest in
+      let w-rest : AllDone w (c ∷ since) = rest-done o (write (Some v) block) (c ∷ since) o-done o-rest in
+      let first : AllDone x (opening fresh ∷ write (Some v) block ∷ c ∷ []) = part-done (opening fresh ∷ write (Some v) block ∷ c ∷ []) since x a in
+      let o-first : AllDone o (write (Some v) block ∷ c ∷ []) = rest-done x (opening fresh) (write (Some v) block ∷ c ∷ []) ok first in
+      let same : day x (opening fresh ∷ write (Some v) block ∷ c ∷ []) ≡ z = first_done x (opening fresh) (write (Some v) block ∷ c ∷ []) ok first ∙ first_done o (write (Some v) block) (c ∷ []) o-done o-first ∙ first_done w c [] w-done (rest-done o (write (Some v) block) (c ∷ []) o-done o-first) in
+      let k : Kept (world z) h = subst (λ (d : Day). Kept (world d) h) same (kept_at x fresh ok (write (Some v) block ∷ c ∷ []) first) in
+      let m : MovedBack h.pages (remembered x fresh (write (Some v) block ∷ c ∷ since)).pages (saves_among since) =
       moved_back since z h (called-done w c since w-done w-rest) (rest-done w c since w-done w-rest) k in
       let made : h.pages ≡ first_page x fresh v block ∷ start_pages fresh x.disc =
-      ap (λ (t : Told). (done t (second_number w.disc w.ledger c) (remembered x fresh (write (some v) block ∷ []))).pages) (told-save c is-save) in
-      let page : get_or (remembered x fresh (write (some v) block ∷ c ∷ since)).pages (saves_among since) [] ≡ first_page x fresh v block =
-      ap (λ (n : ℕ). get_or (remembered x fresh (write (some v) block ∷ c ∷ since)).pages n []) (let e : saves_among since ≡ 0 + saves_among since = omega arith in e) ∙ m.page 0 ∙ ap (λ (ps : List Snapshot). get_or ps 0 []) made in
+      ap (λ (t : Told). (done t (second_number w.disc w.ledger c) (remembered x fresh (write (Some v) block ∷ []))).pages) (told-save c is-save) in
+      let page : get_or (remembered x fresh (write (Some v) block ∷ c ∷ since)).pages (saves_among since) [] ≡ first_page x fresh v block =
+      ap (λ (n : ℕ). get_or (remembered x fresh (write (Some v) block ∷ c ∷ since)).pages n []) (let e : saves_among since ≡ 0 + saves_among since = omega arith in e) ∙ m.page 0 ∙ ap (λ (ps : List Snapshot). get_or ps 0 []) made in
       let some-page : length h.pages ≡ suc (length (start_pages fresh x.disc)) = ap length made in
       look-reads y g.ok g.roles-fit v out g.block-long (saves_among since)
-      ((claim-later (write (some v) block ∷ c ∷ since) a g).looks y.ledger g.ledger-long (saves_among since) (omega (arith, m.count, some-page)))
+      ((claim-later (write (Some v) block ∷ c ∷ since) a g).looks y.ledger g.ledger-long (saves_among since) (omega (arith, m.count, some-page)))
       (ap (λ (p : Snapshot). get_or p v unused_entry) page ∙ first-there x fresh ok v block (c ∷ since) a)
 
   -- two saves: the newer reads what was written last
-  pub newer-reads : (old new : List ℕ) → (a : AllDone x (opening fresh ∷ write (some v) old ∷ commit none ∷ write (some v) new ∷ close_packet ∷ commit none ∷ []))
-      → (y : Day) (out : List ℕ) → Later x (opening fresh ∷ write (some v) old ∷ commit none ∷ write (some v) new ∷ close_packet ∷ commit none ∷ []) y out → Reads y mount v out 0 new
+  pub newer-reads : (old new : List ℕ) → (a : AllDone x (opening fresh ∷ write (Some v) old ∷ commit None ∷ write (Some v) new ∷ close_packet ∷ commit None ∷ []))
+      → (y : Day) (out : List ℕ) → Later x (opening fresh ∷ write (Some v) old ∷ commit None ∷ write (Some v) new ∷ close_packet ∷ commit None ∷ []) y out → Reads y mount v out 0 new
   newer-reads old new a y out g =
-      mount-reads y g.ok g.roles-fit v out g.block-long ((claim-later (write (some v) old ∷ commit none ∷ write (some v) new ∷ close_packet ∷ commit none ∷ []) a g).mounts y.ledger g.ledger-long)
-      (written-there (first_page x fresh v old) v _ new (below-first x fresh ok v old (commit none ∷ write (some v) new ∷ close_packet ∷ commit none ∷ []) a))
+      mount-reads y g.ok g.roles-fit v out g.block-long ((claim-later (write (Some v) old ∷ commit None ∷ write (Some v) new ∷ close_packet ∷ commit None ∷ []) a g).mounts y.ledger g.ledger-long)
+      (written-there (first_page x fresh v old) v _ new (below-first x fresh ok v old (commit None ∷ write (Some v) new ∷ close_packet ∷ commit None ∷ []) a))
 
 -- ---- a number released, and a disc without a save
 
-pub released-reads : (x : Day) → x.answer < 4294967296 → (v : ℕ) → AllDone x (mount ∷ release v ∷ commit none ∷ [])
-    → (y : Day) (out : List ℕ) → Later x (mount ∷ release v ∷ commit none ∷ []) y out → Reads y mount v out (10 * 4294967296) out
+pub released-reads : (x : Day) → x.answer < 4294967296 → (v : ℕ) → AllDone x (mount ∷ release v ∷ commit None ∷ [])
+    → (y : Day) (out : List ℕ) → Later x (mount ∷ release v ∷ commit None ∷ []) y out → Reads y mount v out (10 * 4294967296) out
 released-reads x ok v a y out g =
-    mount-unused y g.ok g.roles-fit v out g.block-long ((claim-later x false ok v (release v ∷ commit none ∷ []) a g).mounts y.ledger g.ledger-long) (released-there (start_page false x.disc) v)
+    mount-unused y g.ok g.roles-fit v out g.block-long ((claim-later x false ok v (release v ∷ commit None ∷ []) a g).mounts y.ledger g.ledger-long) (released-there (start_page false x.disc) v)
 
 refused-answer : (d : Disc) (l : List ℕ) (c : Call) (n : ℕ) → outcome d l c ≡ suc n → (after d l c).answer ≡ suc n * 4294967296
 unfolding after
@@ -348,14 +361,14 @@ nothing-mounts x ok a =
 -- ---- a call that is cut
 
 struck-torn : (t : Bool) (tear : Option (List ℕ)) (b : ℕ) (d : Disc) → struck t tear b d ≡ torn_at t tear b d
-struck-torn true (some bytes) b d = refl
-struck-torn true none b d = refl
-struck-torn false (some bytes) b d = refl
-struck-torn false none b d = refl
+struck-torn true (Some bytes) b d = refl
+struck-torn true None b d = refl
+struck-torn false (Some bytes) b d = refl
+struck-torn false None b d = refl
 
 torn-sector : (tear : Option (List ℕ)) → OneSector tear → Torn tear
-torn-sector none t = t
-torn-sector (some bytes) t = t
+torn-sector None t = t
+torn-sector (Some bytes) t = t
 
 ends-in : (ss : List Sector) (s : Sector) → 0 < length (ss ++ (s ∷ []))
 ends-in ss s = omega (arith, length-append ss (s ∷ []))
@@ -375,17 +388,17 @@ kept_table d l c is-save j = go (outcome d l c) refl
     go (suc n) e = ap (λ (t : Bool). t && eqb j 0) (ne_eqb (suc n) 0 (λ e. omega (arith, e)))
 
 pub cut-history : (d : Disc) (l : List ℕ) (h : History) (c : Call) (j : ℕ)
-    → feed h (cut_short d l c j) ≡ record { pages = saved_if (table_kept c j (length (sectors_of d l c))) h.draft h.pages; draft = none }
+    → feed h (cut_short d l c j) ≡ record { pages = saved_if (table_kept c j (length (sectors_of d l c))) h.draft h.pages; draft = None }
 unfolding feed
 cut-history d l h c j = go (saves c) refl
   where
-    go : (t : Bool) → saves c ≡ t → feed h (cut_if t (told c) (kept d l c j)) ≡ record { pages = saved_if (t && (ltb 0 (length (sectors_of d l c)) && eqb j (length (sectors_of d l c)))) h.draft h.pages; draft = none }
-    go true is = ap {B = History} (λ k. record { pages = saved_if k h.draft h.pages; draft = none }) (kept_table d l c is j)
+    go : (t : Bool) → saves c ≡ t → feed h (cut_if t (told c) (kept d l c j)) ≡ record { pages = saved_if (t && (ltb 0 (length (sectors_of d l c)) && eqb j (length (sectors_of d l c)))) h.draft h.pages; draft = None }
+    go true is = ap {B = History} (λ k. record { pages = saved_if k h.draft h.pages; draft = None }) (kept_table d l c is j)
     go false is = refl
 
 module _ (x : Day) (fresh : Bool) (ok : x.answer < 4294967296) (v : ℕ) (stamp : Option (List ℕ)) (old new : List ℕ) (c : Call) (j : ℕ) (tear : Option (List ℕ)) where
   abbrev before-cut : List Call
-  before-cut = write (some v) old ∷ commit stamp ∷ write (some v) new ∷ []
+  before-cut = write (Some v) old ∷ commit stamp ∷ write (Some v) new ∷ []
 
   abbrev cut-day : Day
   cut-day = day x (opening fresh ∷ before-cut)
@@ -395,7 +408,7 @@ module _ (x : Day) (fresh : Bool) (ok : x.answer < 4294967296) (v : ℕ) (stamp 
 
   -- bytes that mean nothing may have changed since
   cut-claim : {d e : Disc} → CutBehind x (opening fresh ∷ before-cut) c j tear d → Alike d e
-      → Claim e (record { pages = saved_if keeps (remembered x fresh before-cut).draft (remembered x fresh before-cut).pages; draft = none })
+      → Claim e (record { pages = saved_if keeps (remembered x fresh before-cut).draft (remembered x fresh before-cut).pages; draft = None })
   unfolding AllHappen ends recalls next fed cut_disc
   cut-claim {d} {e} g alike =
       let ss : List Sector = sectors_behind x (opening fresh ∷ before-cut) c in
@@ -409,38 +422,38 @@ module _ (x : Day) (fresh : Bool) (ok : x.answer < 4294967296) (v : ℕ) (stamp 
       → Reads y mount v out 0 (reads_of keeps old new)
   cut-reads d y out y-ok fit g alike long whole = go keeps (cut-claim g alike)
     where
-      go : (t : Bool) → Claim y.disc (record { pages = saved_if t (remembered x fresh before-cut).draft (remembered x fresh before-cut).pages; draft = none }) → Reads y mount v out 0 (reads_of t old new)
-      go true claim = mount-reads y y-ok fit v out whole (claim.mounts y.ledger long) (written-there (first_page x fresh v old) v _ new (below-first x fresh ok v old (commit stamp ∷ write (some v) new ∷ []) g.all_done))
-      go false claim = mount-reads y y-ok fit v out whole (claim.mounts y.ledger long) (first-there x fresh ok v old (commit stamp ∷ write (some v) new ∷ []) g.all_done)
+      go : (t : Bool) → Claim y.disc (record { pages = saved_if t (remembered x fresh before-cut).draft (remembered x fresh before-cut).pages; draft = None }) → Reads y mount v out 0 (reads_of t old new)
+      go true claim = mount-reads y y-ok fit v out whole (claim.mounts y.ledger long) (written-there (first_page x fresh v old) v _ new (below-first x fresh ok v old (commit stamp ∷ write (Some v) new ∷ []) g.all_done))
+      go false claim = mount-reads y y-ok fit v out whole (claim.mounts y.ledger long) (first-there x fresh ok v old (commit stamp ∷ write (Some v) new ∷ []) g.all_done)
 
 -- ---- a program that is stopped
 
-unstruck : (t : Bool) (b : ℕ) (d : Disc) → struck t none b d ≡ d
+unstruck : (t : Bool) (b : ℕ) (d : Disc) → struck t None b d ≡ d
 unstruck true b d = refl
 unstruck false b d = refl
 
 module _ (x : Day) (fresh : Bool) (ok : x.answer < 4294967296) (v : ℕ) (stamp : Option (List ℕ)) (old new : List ℕ) (y : Day) (out : List ℕ) (y-ok : y.answer < 4294967296) (fit : Fit y) (long : length y.ledger ≡ ledger_length) (whole : length out ≡ sector_length) where
   abbrev written-day : Day
-  written-day = day x (opening fresh ∷ write (some v) old ∷ commit stamp ∷ write (some v) new ∷ [])
+  written-day = day x (opening fresh ∷ write (Some v) old ∷ commit stamp ∷ write (Some v) new ∷ [])
 
   -- no sector marked: as if a call that saves nothing had been cut before its first sector
-  pub storing-reads : StoppedStoring x (opening fresh ∷ write (some v) old ∷ commit stamp ∷ write (some v) new ∷ []) y.disc → Reads y mount v out 0 old
+  pub storing-reads : StoppedStoring x (opening fresh ∷ write (Some v) old ∷ commit stamp ∷ write (Some v) new ∷ []) y.disc → Reads y mount v out 0 old
   unfolding puts
   storing-reads s =
       let d : Disc = written-day.disc in
-      let ss : List Sector = sectors_behind x (opening fresh ∷ write (some v) old ∷ commit stamp ∷ write (some v) new ∷ []) mount in
-      let good : Sound d = (kept_at x fresh ok (write (some v) old ∷ commit stamp ∷ write (some v) new ∷ []) s.all_done).good.sound-disc in
+      let ss : List Sector = sectors_behind x (opening fresh ∷ write (Some v) old ∷ commit stamp ∷ write (Some v) new ∷ []) mount in
+      let good : Sound d = (kept_at x fresh ok (write (Some v) old ∷ commit stamp ∷ write (Some v) new ∷ []) s.all_done).good.sound-disc in
       let alike : Alike d y.disc = subst (λ (ks : List ℕ). Alike d (lent y.disc.image ks)) s.same-kinds (blank-bytes d good y.disc.image s.same_length s.same-recorded) in
-      cut-reads x fresh ok v stamp old new mount 0 none d y out y-ok fit
+      cut-reads x fresh ok v stamp old new mount 0 None d y out y-ok fit
       (record { all_done = s.all_done; within = omega arith; one-sector = tt; is-left = sym (unstruck (ltb 0 (length ss)) (recorded d + 0) d) }) alike long whole
 
   -- the first j sectors marked: as if the call had been cut after them
-  pub marking-reads : (c : Call) (j : ℕ) → StoppedMarking x (opening fresh ∷ write (some v) old ∷ commit stamp ∷ write (some v) new ∷ []) c j y.disc
-      → Reads y mount v out 0 (reads_of (table_kept c j (length (sectors_behind x (opening fresh ∷ write (some v) old ∷ commit stamp ∷ write (some v) new ∷ []) c))) old new)
+  pub marking-reads : (c : Call) (j : ℕ) → StoppedMarking x (opening fresh ∷ write (Some v) old ∷ commit stamp ∷ write (Some v) new ∷ []) c j y.disc
+      → Reads y mount v out 0 (reads_of (table_kept c j (length (sectors_behind x (opening fresh ∷ write (Some v) old ∷ commit stamp ∷ write (Some v) new ∷ []) c))) old new)
   marking-reads c j s =
       let d : Disc = written-day.disc in
-      let ss : List Sector = sectors_behind x (opening fresh ∷ write (some v) old ∷ commit stamp ∷ write (some v) new ∷ []) c in
+      let ss : List Sector = sectors_behind x (opening fresh ∷ write (Some v) old ∷ commit stamp ∷ write (Some v) new ∷ []) c in
       let cut : Disc = puts d (recorded d) (take j ss) in
       let alike : Alike cut y.disc = subst₂ (λ (i ks : List ℕ). Alike cut (lent i ks)) s.all-stored s.some-marked (marked-call d written-day.ledger c j) in
-      cut-reads x fresh ok v stamp old new c j none cut y out y-ok fit
+      cut-reads x fresh ok v stamp old new c j None cut y out y-ok fit
       (record { all_done = s.all_done; within = s.within; one-sector = tt; is-left = sym (unstruck (ltb j (length ss)) (recorded d + j) cut) }) alike long whole

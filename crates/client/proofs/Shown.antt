@@ -3,7 +3,7 @@
 use Prim.Native.Nat.{ℕ, zero, suc, ◌*◌, ◌<◌}
 use mathlib.Core.Path.{◌≡◌, refl, sym, ap, ◌∙◌, subst}
 use mathlib.Core.List.{List, [], ◌∷◌, ◌++◌}
-use mathlib.Core.Option.{some}
+use Rattle.std.specs.Prelude.{Some}
 use lib.ListN.{length, get_or}
 use Rattle.vat.specs.Table.{sector_length}
 use Rattle.disc.specs.Disc.{Disc, recorded, puts}
@@ -70,7 +70,7 @@ module _ (x : Day) (ok : x.answer < 4294967296) (fit : Fit x) (c : Call) {p : Sn
       }
 
   -- in use: the page's bytes
-  reads-block : {b : ℕ} {block : List ℕ} → get_or p v unused_entry ≡ shows b (some block) → Reads x c v out 0 block
+  reads-block : {b : ℕ} {block : List ℕ} → get_or p v unused_entry ≡ shows b (Some block) → Reads x c v out 0 block
   reads-block e = subst (λ (y : Entry). Reads x c v out (reads y).answer (reads y).buffer) e reads-page
 
   -- not in use: 10, and the lent block as it was
@@ -79,11 +79,11 @@ module _ (x : Day) (ok : x.answer < 4294967296) (fit : Fit x) (c : Call) {p : Sn
 
 module _ (x : Day) (ok : x.answer < 4294967296) (fit : Fit x) {p : Snapshot} (v : ℕ) (out : List ℕ) (long : length out ≡ sector_length) where
   module _ (s : DoneShowing x.disc x.ledger mount p) where
-    pub mount-reads : {b : ℕ} {block : List ℕ} → get_or p v unused_entry ≡ shows b (some block) → Reads x mount v out 0 block
+    pub mount-reads : {b : ℕ} {block : List ℕ} → get_or p v unused_entry ≡ shows b (Some block) → Reads x mount v out 0 block
     mount-reads = reads-block x ok fit mount s (mount-disc x.disc x.ledger) (done-small x.disc x.ledger mount s.is-done) v out long
 
     pub mount-unused : get_or p v unused_entry ≡ unused_entry → Reads x mount v out (10 * 4294967296) out
     mount-unused = reads-unused x ok fit mount s (mount-disc x.disc x.ledger) (done-small x.disc x.ledger mount s.is-done) v out long
 
-  pub look-reads : (k : ℕ) → DoneShowing x.disc x.ledger (look_back k) p → {b : ℕ} {block : List ℕ} → get_or p v unused_entry ≡ shows b (some block) → Reads x (look_back k) v out 0 block
+  pub look-reads : (k : ℕ) → DoneShowing x.disc x.ledger (look_back k) p → {b : ℕ} {block : List ℕ} → get_or p v unused_entry ≡ shows b (Some block) → Reads x (look_back k) v out 0 block
   look-reads k s = reads-block x ok fit (look_back k) s (look-disc x.disc x.ledger k) (done-small x.disc x.ledger (look_back k) s.is-done) v out long

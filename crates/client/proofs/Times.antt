@@ -1,10 +1,10 @@
 -- The time of a save, put to a day on which every call is done: a save among any calls, told as many saves back as saves follow it.
 -- Assumes nothing.
 use Prim.Native.Nat.{ℕ, ◌*◌}
-use mathlib.Core.Path.{◌≡◌, ap, ◌∙◌, subst, subst₂}
+use mathlib.Core.Path.{◌≡◌, sym, ap, ◌∙◌, subst, subst₂}
 use mathlib.Core.Bool.{Bool, true, false}
 use mathlib.Core.List.{List, [], ◌∷◌, ◌++◌}
-use mathlib.Core.Option.{some}
+use Rattle.std.specs.Prelude.{Some}
 use lib.ListN.{length}
 use borrow.Author.Tests.{not-false}
 use Rattle.timestamp.specs.Timestamp as stamps
@@ -51,23 +51,25 @@ module _ (x : Day) (fresh : Bool) (before since : List Call) (c : Call) (s : Sav
       subst (λ (d : Disc). TellsTime d (saves_among since) (saved_stamp c)) s.same-disc (told-later (as_events since) s.went-since.allowed (saves_among since) s.counted)
 
 -- a commit that was done with a timestamp was given a right one
-pub right-stamp : (x : Day) (fresh : Bool) (before since : List Call) (s : List ℕ) → SavedThere x fresh before (commit (some s)) since → valid s ≡ true
+pub right-stamp : (x : Day) (fresh : Bool) (before since : List Call) (s : List ℕ) → SavedThere x fresh before (commit (Some s)) since → valid s ≡ true
 right-stamp x fresh before since s there =
-    not-false (valid s) (commit-done (up_to x fresh before).disc (up_to x fresh before).ledger (some s) there.is-done).right-stamp
+    not-false (valid s) (commit-done (up_to x fresh before).disc (up_to x fresh before).ledger (Some s) there.is-done).right-stamp
 
 -- ---- what a program is told
 
-module _ (i k l : List ℕ) (n : ℕ) (answer : List ℕ) (long : length l ≡ ledger_length) (whole : length answer ≡ told_length) {r : ℕ} {got : List ℕ} (e : left r i k l got ≡ after (lent i k) l (time_of n answer)) where
-  shown : (stamp : List ℕ) → TellsTime (lent i k) n stamp → left r i k l got ≡ telling (valid stamp) (lent i k) l answer stamp
-  shown stamp t = e ∙ t l answer long whole
+module _ (x : Day) (fresh : Bool) (before since : List Call) (c : Call) (s : SavedThere x fresh before c since) (i k l : List ℕ) (n : ℕ) (answer : List ℕ) (there : lent i k ≡ (day x (opening fresh ∷ (before ++ (c ∷ since)))).disc) (counted : saves_among since ≡ n) (long : length l ≡ ledger_length) (whole : length answer ≡ told_length) {r : ℕ} {got : List ℕ} (e : left r i k l got ≡ after (lent i k) l (time_of n answer)) where
+  shown : {stamp : List ℕ} → saved_stamp c ≡ stamp → left r i k l got ≡ telling (valid stamp) (lent i k) l answer stamp
+  shown is =
+      let t : TellsTime (lent i k) n (saved_stamp c) = subst₂ (λ (d : Disc) (k : ℕ). TellsTime d k (saved_stamp c)) (sym there) counted (told-since x fresh before since c s) in
+      e ∙ t l answer long whole ∙ ap (λ (stamp : List ℕ). telling (valid stamp) (lent i k) l answer stamp) is
 
-  pub time-given : (stamp : List ℕ) → TellsTime (lent i k) n stamp → valid stamp ≡ true → (r ≡ 0) × (got ≡ stamps.told stamp)
-  time-given stamp t right =
-      let both = shown stamp t ∙ ap (λ (b : Bool). telling b (lent i k) l answer stamp) right in
+  pub time-given : {stamp : List ℕ} → saved_stamp c ≡ stamp → valid stamp ≡ true → (r ≡ 0) × (got ≡ stamps.told stamp)
+  time-given {stamp} is right =
+      let both = shown is ∙ ap (λ (b : Bool). telling b (lent i k) l answer stamp) right in
       (ap (λ (x : After). x.answer) both, ap (λ (x : After). x.buffer) both)
 
   -- zeros are no time
-  pub no-time-given : TellsTime (lent i k) n no_stamp → (r ≡ 16 * 4294967296) × (got ≡ answer)
-  no-time-given t =
-      let both = shown no_stamp t ∙ ap (λ (b : Bool). telling b (lent i k) l answer no_stamp) zeros-wrong in
+  pub no-time-given : saved_stamp c ≡ no_stamp → (r ≡ 16 * 4294967296) × (got ≡ answer)
+  no-time-given is =
+      let both = shown is ∙ ap (λ (b : Bool). telling b (lent i k) l answer no_stamp) zeros-wrong in
       (ap (λ (x : After). x.answer) both, ap (λ (x : After). x.buffer) both)

@@ -5,7 +5,7 @@ use Prim.Native.Nat.{ℕ, ◌<◌}
 use mathlib.Core.Path.{◌≡◌, refl, subst, subst₂}
 use mathlib.Core.Bool.{Bool}
 use mathlib.Core.List.{List, [], ◌∷◌}
-use mathlib.Core.Option.{Option, some}
+use Rattle.std.specs.Prelude.{Option, Some}
 use lib.ListN.{length}
 use Rattle.vat.specs.Table.{sector_length}
 use Rattle.disc.specs.Disc.{Disc}
@@ -44,7 +44,7 @@ recalls-all (e ∷ es) w h d = recalls-all es (next w e) (feed h (fed w e)) d
 
 module _ (x : Day) (fresh : Bool) (ok : x.answer < 4294967296) (v : ℕ) (stamp : Option (List ℕ)) (block : List ℕ) (since : List Event) where
   abbrev calls-made : List Call
-  calls-made = write (some v) block ∷ commit stamp ∷ []
+  calls-made = write (Some v) block ∷ commit stamp ∷ []
 
   abbrev left_behind : World
   left_behind = world (day x (opening fresh ∷ calls-made))

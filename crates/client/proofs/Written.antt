@@ -7,7 +7,7 @@ use native.Mathlib.Omega.{arith}
 use mathlib.Core.Path.{◌≡◌, refl, sym, ap, ap₂, ◌∙◌, subst}
 use mathlib.Core.Bool.{Bool, true, false, ◌&&◌, ◌||◌}
 use mathlib.Core.List.{List, [], ◌∷◌}
-use mathlib.Core.Option.{Option, none, some}
+use Rattle.std.specs.Prelude.{Option, None, Some}
 use lib.Dec.{eqb}
 use lib.ListN.{length, get_or, drop, set, replicate, length-replicate}
 use lib.Seq.{get_or-set_same, drop-set-lt}
@@ -54,8 +54,8 @@ module _ (f : ℕ → Bool) where
 -- the entries and the size, with the number or without one
 behind-fits : (v : Volume) (n : Option ℕ) (b : ℕ) → Writable v n → every is_unused (drop v.size v.entries) ≡ true
     → every is_unused (drop (size_with n v.size) (entries_with n b v.entries)) ≡ true
-behind-fits v none b w e = e
-behind-fits v (some n) b w e = go (eqb n v.size) refl
+behind-fits v None b w e = e
+behind-fits v (Some n) b w e = go (eqb n v.size) refl
   where
     go : (t : Bool) → eqb n v.size ≡ t → every is_unused (drop (grown t v.size) (set v.entries n b)) ≡ true
     go true z =
@@ -75,8 +75,8 @@ map-fits v n b w few long low e = go n w
     itself = rw (lt-ltb b (b + 1) (omega arith))
 
     go : (n : Option ℕ) → Writable v n → every (unused_or_below (b + 1)) (map_of (wrote n b v)) ≡ true
-    go none w = named
-    go (some n) w =
+    go None w = named
+    go (Some n) w =
         ap (every (unused_or_below (b + 1))) (map-wrote v n b w.1 (omega (arith, few, long)) (omega (arith, w.0, long)))
         ∙ every-placed (unused_or_below (b + 1)) (eqb n v.size) (map_of v) n b named itself
 
@@ -102,7 +102,7 @@ pub record Wrote (d : Disc) (v : Volume) (n : Option ℕ) (block : List ℕ) (d'
   pub sound-disc : Sound d'
   pub more : Extends F d d'
   pub counted : recorded d' ≡ target v + 1
-  pub holds : content d' (target v) ≡ some block
+  pub holds : content d' (target v) ≡ Some block
   pub long : length l' ≡ ledger_length
   pub unpacked : unpack l' ≡ wrote n (target v) v
   pub proper : Proper (unpack l')
@@ -138,7 +138,7 @@ module _ (d : Disc) (l : List ℕ) (good : Proper (unpack l)) (n : Option ℕ) (
       let fine : Proper (wrote n (target v) v) = proper-wrote v good n (target v) f.fit.few (omega arith) in
       let same : unpack (pack (wrote n (target v) v)) ≡ wrote n (target v) v = unpack-pack (wrote n (target v) v) fine in
       let one_more : recorded d' ≡ target v + 1 = omega (arith, here, behind-counted d ok ss (links-whole (links v)) no-links block f.block-long room) in
-      let there : content d' (target v) ≡ some block = ap (content d') here ∙ behind-content d ok ss (links-whole (links v)) no-links block f.block-long room in
+      let there : content d' (target v) ≡ Some block = ap (content d') here ∙ behind-content d ok ss (links-whole (links v)) no-links block f.block-long room in
       subst (λ (x : After). Wrote d v n block x.disc x.ledger) (sym (write-leaves d l n block e))
       (record {
         small = small;
@@ -155,8 +155,8 @@ module _ (d : Disc) (l : List ℕ) (good : Proper (unpack l)) (n : Option ℕ) (
       })
 
 -- what the ledger says of the number
-pub names-block : (v : Volume) (n b : ℕ) → Writable v (some n) → length v.entries ≡ limit → b < 400000
-    → (not_in_use (wrote (some n) b v) n ≡ false) × (block_of (wrote (some n) b v) n ≡ b)
+pub names-block : (v : Volume) (n b : ℕ) → Writable v (Some n) → length v.entries ≡ limit → b < 400000
+    → (not_in_use (wrote (Some n) b v) n ≡ false) × (block_of (wrote (Some n) b v) n ≡ b)
 unfolding wrote
 names-block v n b w long small =
     let there : get_or (set v.entries n b) n unused ≡ b = get_or-set_same v.entries n b unused (omega (arith, w.0, long)) in

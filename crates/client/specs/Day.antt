@@ -1,6 +1,6 @@
 -- A host program's day: calls one after another, each on what the one before left, until one is refused.
 use Rattle.std.specs.Prelude.{ℕ, ◌+◌, ◌*◌, ◌<◌, ◌≤◌, Bool, true, false, ◌&&◌, List, [], ◌∷◌, ◌++◌, map, ◌≡◌, eqb, ltb, length, get_or, take}
-use Rattle.std.proofs.Math.Option.{Option, none, some}
+use Rattle.std.specs.Prelude.{Option, None, Some}
 use Rattle.vat.specs.Table.{sector_length, unused}
 use Rattle.extent.specs.Extents.{extent}
 use Rattle.disc.specs.Disc.{Disc, lent, Sector, torn, recorded, put, puts}
@@ -61,8 +61,8 @@ read_at x v out = (after x.disc x.ledger (read v out)).buffer
 -- and as many numbers as before, or one more.
 pub record ShowsSave (x : Day) (start : Call) (v : ℕ) (block : List ℕ) (c : Call) (answer : ℕ) (ledger : List ℕ) : Type 0 where
   pub clean : answer ≡ 1
-  pub table : (unpack ledger).last ≡ (day x (start ∷ write (some v) block ∷ c ∷ [])).answer
-  pub entry : get_or (unpack ledger).entries v unused ≡ (day x (start ∷ write (some v) block ∷ [])).answer
+  pub table : (unpack ledger).last ≡ (day x (start ∷ write (Some v) block ∷ c ∷ [])).answer
+  pub entry : get_or (unpack ledger).entries v unused ≡ (day x (start ∷ write (Some v) block ∷ [])).answer
   pub size :
       let before : ℕ = (unpack (day x (start ∷ [])).ledger).size in
       (unpack ledger).size ≡ grown (eqb v before) before
@@ -82,13 +82,13 @@ saves_among (c ∷ cs) = grown (saves c) (saves_among cs)
 
 -- What a cut leaves at the call's next sector, if there is one: it stays as it was, or is torn to 2048 bytes of any kind.
 abbrev pub struck : Bool → Option (List ℕ) → ℕ → Disc → Disc
-struck true (some bytes) b d = put d b (torn bytes)
-struck true none b d = d
+struck true (Some bytes) b d = put d b (torn bytes)
+struck true None b d = d
 struck false tear b d = d
 
 abbrev pub OneSector : Option (List ℕ) → Type 0
-OneSector none = Unit
-OneSector (some bytes) = length bytes ≡ sector_length
+OneSector None = Unit
+OneSector (Some bytes) = length bytes ≡ sector_length
 
 -- The sectors that the call c records behind these calls.
 abbrev pub sectors_behind : Day → List Call → Call → List Sector
@@ -155,8 +155,8 @@ filling bytes buffer = showing (length bytes) (filled_with bytes buffer)
 -- A block is recorded without a number, and more behind it, and behind them all, as number v, the entry of a run: their first n bytes.
 abbrev pub storing : Day → Bool → ℕ → List ℕ → List (List ℕ) → ℕ → List Call
 storing x fresh v block more n =
-    let t : ℕ = (day x (opening fresh ∷ write none block ∷ [])).answer in
-    opening fresh ∷ write none block ∷ (map (write none) more ++ (write (some v) (entry (extent n t ∷ []) (t + length (block ∷ more))) ∷ []))
+    let t : ℕ = (day x (opening fresh ∷ write None block ∷ [])).answer in
+    opening fresh ∷ write None block ∷ (map (write None) more ++ (write (Some v) (entry (extent n t ∷ []) (t + length (block ∷ more))) ∷ []))
 
 -- The blocks' bytes, one behind the other.
 abbrev pub joined_blocks : List (List ℕ) → List ℕ

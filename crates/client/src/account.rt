@@ -2,54 +2,34 @@
 // accounted for, and which blocks the ledger still needs.
 ghost use Rattle.std.specs.Prelude.{◌≡◌, List, ◌∷◌};
 ghost use Rattle.disc.specs.Disc.{recorded};
-ghost use Rattle.volume.specs.Volume.{grown};
 ghost use Rattle.recorder.specs.Calls.{Call};
 ghost use Rattle.space.specs.Space.{Lent, leaves_all, count};
 ghost use Rattle.client.specs.Account.{RolesLeft, holding};
 
-use roles::{IN_USE, LINK, SUPERSEDED, TABLE, UNNUMBERED, UNREADABLE};
-
-fn one_if(found: bool) -> usize
-    ensures { result ≡ grown found 0 }
-{
-    if found {
-        return 1;
-    }
-    0
-}
+use roles::Role;
 
 // How many sectors have this role.
 pub fn how_many(roles: &[u8], role: u8) -> usize
     ensures { result ≡ count role roles.now }
 {
-    let mut n: usize = 0;
-    let mut i: usize = 0;
-    while i < roles.len() {
-        n = n + one_if(roles[i] == role);
-        i += 1;
-    }
-    n
+    roles.iter().filter(|r| **r == role).count()
 }
 
 // The six recorded roles, each counted: together as many as sectors are recorded.
 pub fn accounted(roles: &[u8]) -> usize
     ensures { (s : Lent) (c : Call) (cs : List Call) → RolesLeft s c cs roles.now → result ≡ recorded (leaves_all s (c ∷ cs)).disc }
 {
-    let unreadable = how_many(roles, UNREADABLE);
-    let links = how_many(roles, LINK) + unreadable;
-    let tables = how_many(roles, TABLE) + links;
-    let unnumbered = how_many(roles, UNNUMBERED) + tables;
-    let superseded = how_many(roles, SUPERSEDED) + unnumbered;
-    how_many(roles, IN_USE) + superseded
+    how_many(roles, Role::InUse as u8)
+        + how_many(roles, Role::Superseded as u8)
+        + how_many(roles, Role::Unnumbered as u8)
+        + how_many(roles, Role::Table as u8)
+        + how_many(roles, Role::Link as u8)
+        + how_many(roles, Role::Unreadable as u8)
 }
 
 // Whether block b is still needed: it is data and no table, and the map of the ledger that these calls left names it.
 pub fn is_in_use(roles: &[u8], b: u32) -> bool
     ensures { (s : Lent) (c : Call) (cs : List Call) → RolesLeft s c cs roles.now → result ≡ holding (leaves_all s (c ∷ cs)) b }
 {
-    let place = b as usize;
-    if roles.len() <= place {
-        return false;
-    }
-    roles[place] == IN_USE
+    roles.get(b as usize) == Some(&(Role::InUse as u8))
 }

@@ -1,7 +1,7 @@
 // The disc that an earlier day left: what a host then reads, sees and is told, whatever led to it. Each promise is for every such day, drawn from the
 // claims about power cuts, times, closed discs and runs.
 ghost use Rattle.std.specs.Prelude.{◌≡◌, Bool, true, List, [], ◌∷◌, ◌++◌, ℕ, ◌*◌, ◌<◌, ◌≤◌, length, take, drop};
-ghost use Rattle.std.proofs.Math.Option.{Option, some};
+ghost use Rattle.std.specs.Prelude.{Option, Some};
 ghost use Rattle.timestamp.specs.Timestamp.{told_length, told};
 ghost use Rattle.vat.specs.Table.{sector_length};
 ghost use Rattle.vat.specs.Sector.{no_stamp};
@@ -9,6 +9,7 @@ ghost use Rattle.extent.specs.declared.Extent.{Extent};
 ghost use Rattle.disc.specs.Disc.{Disc, lent};
 ghost use Rattle.volume.specs.Volume.{ledger_length};
 ghost use Rattle.recorder.specs.Calls.{Call, write, commit, close_session, saves};
+ghost use Rattle.recorder.specs.Refused.{answer_of};
 ghost use Rattle.run.specs.View.{most_viewed};
 ghost use Rattle.history.specs.Events.{Event, AllAllowed, runs};
 ghost use Rattle.history.specs.Times.{saved_stamp};
@@ -16,8 +17,7 @@ ghost use Rattle.archive.specs.Earlier.{seen_back, showing};
 ghost use Rattle.alike.specs.Alike.{Alike};
 ghost use Rattle.client.specs.Day.{Day, ended, day, AllDone, opening, saves_among, sectors_behind, CutBehind, table_kept, reads_of, StoppedStoring, StoppedMarking, left_by, world, NoSave, ClosedAnswer, filling, storing, joined_blocks};
 
-use crate::REFUSED;
-use extent::Extent;
+use recorder::Refusal;
 
 // Whatever was done since a save of x, with k saves among it: k saves back, v reads x. Any 16,364 bytes will do as ledger, and
 // any bytes as roles, one a sector.
@@ -29,17 +29,23 @@ pub fn long_ago(
     k: u32,
     v: u32,
     out: &mut [u8],
-) -> u64
-    ensures { (start : Day) (fresh : Bool) (c : Call) (x : List ℕ) (since : List Call) → start.answer < 4294967296 → saves c ≡ true → AllDone start (opening fresh ∷ write (some v) x ∷ c ∷ since) → saves_among since ≡ k → (lent image.now kinds.now) ≡ (day start (opening fresh ∷ write (some v) x ∷ c ∷ since)).disc → length roles.old ≡ length kinds.now → length ledger.old ≡ ledger_length → length out.old ≡ sector_length → (result ≡ 0) × (out.new ≡ x) }
+) -> Result<u32, Refusal>
+    ensures { (start : Day) (fresh : Bool) (c : Call) (x : List ℕ) (since : List Call) → start.answer < 4294967296 → saves c ≡ true → AllDone start (opening fresh ∷ write (Some v) x ∷ c ∷ since) → saves_among since ≡ k → (lent image.now kinds.now) ≡ (day start (opening fresh ∷ write (Some v) x ∷ c ∷ since)).disc → length roles.old ≡ length kinds.now → length ledger.old ≡ ledger_length → length out.old ≡ sector_length → (answer_of result ≡ 0) × (out.new ≡ x) }
 {
     crate::show_back(image, kinds, roles, ledger, k, v, out)
 }
 
 // Whatever was done before a save and since, with k saves among what came since: k saves back its time is told, and 16 of a save without one. Any 16,364
 // bytes will do as ledger.
-pub fn told_long_ago(image: &[u8], kinds: &[u8], ledger: &[u8], k: u32, answer: &mut [u8]) -> u64
-    ensures value { (start : Day) (fresh : Bool) (before since : List Call) (stamp : List ℕ) → start.answer < 4294967296 → AllDone start (opening fresh ∷ (before ++ (commit (some stamp) ∷ since))) → saves_among since ≡ k → (lent image.now kinds.now) ≡ (day start (opening fresh ∷ (before ++ (commit (some stamp) ∷ since)))).disc → length ledger.now ≡ ledger_length → length answer.old ≡ told_length → (result ≡ 0) × (answer.new ≡ told stamp) }
-    ensures value_2 { (start : Day) (fresh : Bool) (before since : List Call) (c : Call) → start.answer < 4294967296 → saves c ≡ true → saved_stamp c ≡ no_stamp → AllDone start (opening fresh ∷ (before ++ (c ∷ since))) → saves_among since ≡ k → (lent image.now kinds.now) ≡ (day start (opening fresh ∷ (before ++ (c ∷ since)))).disc → length ledger.now ≡ ledger_length → length answer.old ≡ told_length → (result ≡ 16 * 4294967296) × (answer.new ≡ answer.old) }
+pub fn told_long_ago(
+    image: &[u8],
+    kinds: &[u8],
+    ledger: &[u8],
+    k: u32,
+    answer: &mut [u8],
+) -> Result<u32, Refusal>
+    ensures value { (start : Day) (fresh : Bool) (before since : List Call) (stamp : List ℕ) → start.answer < 4294967296 → AllDone start (opening fresh ∷ (before ++ (commit (Some stamp) ∷ since))) → saves_among since ≡ k → (lent image.now kinds.now) ≡ (day start (opening fresh ∷ (before ++ (commit (Some stamp) ∷ since)))).disc → length ledger.now ≡ ledger_length → length answer.old ≡ told_length → (answer_of result ≡ 0) × (answer.new ≡ told stamp) }
+    ensures value_2 { (start : Day) (fresh : Bool) (before since : List Call) (c : Call) → start.answer < 4294967296 → saves c ≡ true → saved_stamp c ≡ no_stamp → AllDone start (opening fresh ∷ (before ++ (c ∷ since))) → saves_among since ≡ k → (lent image.now kinds.now) ≡ (day start (opening fresh ∷ (before ++ (c ∷ since)))).disc → length ledger.now ≡ ledger_length → length answer.old ≡ told_length → (answer_of result ≡ 16 * 4294967296) × (answer.new ≡ answer.old) }
 {
     sector_log::time_of(image, kinds, ledger, k, answer)
 }
@@ -55,13 +61,10 @@ pub fn seen_long_ago(
     v: u32,
     offset: u64,
     out: &mut [u8],
-) -> u64
-    ensures { (start : Day) (fresh : Bool) (before since : List Call) (c : Call) (then : List ℕ) → start.answer < 4294967296 → saves c ≡ true → AllDone start (opening fresh ∷ (before ++ (c ∷ since))) → saves_among since ≡ k → Alike (day start (opening fresh ∷ (before ++ (c ∷ since)))).disc (lent image.now kinds.now) → length roles.old ≡ length kinds.now → length ledger.old ≡ ledger_length → length then ≡ ledger_length → showing result out.new ≡ seen_back (day start (opening fresh ∷ (before ++ (c ∷ [])))).disc then 0 v offset out.old }
+) -> Result<u32, Refusal>
+    ensures { (start : Day) (fresh : Bool) (before since : List Call) (c : Call) (then : List ℕ) → start.answer < 4294967296 → saves c ≡ true → AllDone start (opening fresh ∷ (before ++ (c ∷ since))) → saves_among since ≡ k → Alike (day start (opening fresh ∷ (before ++ (c ∷ since)))).disc (lent image.now kinds.now) → length roles.old ≡ length kinds.now → length ledger.old ≡ ledger_length → length then ≡ ledger_length → showing (answer_of result) out.new ≡ seen_back (day start (opening fresh ∷ (before ++ (c ∷ [])))).disc then 0 v offset out.old }
 {
-    let shown = keeper::look_back(image, kinds, roles, ledger, k);
-    if REFUSED <= shown {
-        return shown;
-    }
+    keeper::look_back(image, kinds, roles, ledger, k)?;
     viewer::view(image, kinds, ledger, v, offset, out)
 }
 
@@ -73,16 +76,21 @@ pub fn view_run(
     v: u32,
     offset: u64,
     out: &mut [u8],
-) -> u64
-    ensures { (start : Day) (fresh : Bool) (block : List ℕ) (more : List (List ℕ)) (n : ℕ) → start.answer < 4294967296 → AllDone start (storing start fresh v block more n) → (lent image.now kinds.now) ≡ (day start (storing start fresh v block more n)).disc → ledger.now ≡ (day start (storing start fresh v block more n)).ledger → 0 < n → n < 1073741824 → n ≤ sector_length * length (block ∷ more) → offset ≤ n → length out.old ≤ most_viewed → showing result out.new ≡ filling (take (length out.old) (drop offset (take n (joined_blocks (block ∷ more))))) out.old }
+) -> Result<u32, Refusal>
+    ensures { (start : Day) (fresh : Bool) (block : List ℕ) (more : List (List ℕ)) (n : ℕ) → start.answer < 4294967296 → AllDone start (storing start fresh v block more n) → (lent image.now kinds.now) ≡ (day start (storing start fresh v block more n)).disc → ledger.now ≡ (day start (storing start fresh v block more n)).ledger → 0 < n → n < 1073741824 → n ≤ sector_length * length (block ∷ more) → offset ≤ n → length out.old ≤ most_viewed → showing (answer_of result) out.new ≡ filling (take (length out.old) (drop offset (take n (joined_blocks (block ∷ more))))) out.old }
 {
     viewer::view(image, kinds, ledger, v, offset, out)
 }
 
 // A disc whose session was closed mounts clean, whatever was tried on it since, done, refused or cut. Any 16,364 bytes will do as ledger, and any bytes as
 // roles, one a sector.
-pub fn mount_closed(image: &[u8], kinds: &[u8], roles: &mut [u8], ledger: &mut [u8]) -> u64
-    ensures { (start : Day) (fresh : Bool) (before : List Call) (main reserve : Extent) (n : ℕ) (held : Option (List ℕ)) (tried : List Event) → start.answer < 4294967296 → AllDone start (opening fresh ∷ (before ++ (close_session main reserve n ∷ []))) → (lent image.now kinds.now) ≡ left_by (day start (opening fresh ∷ (before ++ (close_session main reserve n ∷ [])))).disc held tried → length roles.old ≡ length kinds.now → length ledger.old ≡ ledger_length → result ≡ 1 }
+pub fn mount_closed(
+    image: &[u8],
+    kinds: &[u8],
+    roles: &mut [u8],
+    ledger: &mut [u8],
+) -> Result<u32, Refusal>
+    ensures { (start : Day) (fresh : Bool) (before : List Call) (main reserve : Extent) (n : ℕ) (held : Option (List ℕ)) (tried : List Event) → start.answer < 4294967296 → AllDone start (opening fresh ∷ (before ++ (close_session main reserve n ∷ []))) → (lent image.now kinds.now) ≡ left_by (day start (opening fresh ∷ (before ++ (close_session main reserve n ∷ [])))).disc held tried → length roles.old ≡ length kinds.now → length ledger.old ≡ ledger_length → answer_of result ≡ 1 }
 {
     keeper::mount(image, kinds, roles, ledger)
 }
@@ -96,8 +104,8 @@ pub fn after_closing(
     ledger: &mut [u8],
     v: u32,
     out: &mut [u8],
-) -> u64
-    ensures { (start : Day) (fresh : Bool) (x : List ℕ) (main reserve : Extent) (n : ℕ) (held : Option (List ℕ)) (tried : List Event) → start.answer < 4294967296 → AllDone start (opening fresh ∷ write (some v) x ∷ close_session main reserve n ∷ []) → (lent image.now kinds.now) ≡ left_by (day start (opening fresh ∷ write (some v) x ∷ close_session main reserve n ∷ [])).disc held tried → length roles.old ≡ length kinds.now → length ledger.old ≡ ledger_length → length out.old ≡ sector_length → (result ≡ 0) × (out.new ≡ x) }
+) -> Result<u32, Refusal>
+    ensures { (start : Day) (fresh : Bool) (x : List ℕ) (main reserve : Extent) (n : ℕ) (held : Option (List ℕ)) (tried : List Event) → start.answer < 4294967296 → AllDone start (opening fresh ∷ write (Some v) x ∷ close_session main reserve n ∷ []) → (lent image.now kinds.now) ≡ left_by (day start (opening fresh ∷ write (Some v) x ∷ close_session main reserve n ∷ [])).disc held tried → length roles.old ≡ length kinds.now → length ledger.old ≡ ledger_length → length out.old ≡ sector_length → (answer_of result ≡ 0) × (out.new ≡ x) }
 {
     crate::show(image, kinds, roles, ledger, v, out)
 }
@@ -110,10 +118,10 @@ pub fn write_on_closed(
     ledger: &mut [u8],
     v: u32,
     block: &[u8],
-) -> u64
-    ensures { (start : Day) (fresh : Bool) (before : List Call) (main reserve : Extent) (n : ℕ) → start.answer < 4294967296 → AllDone start (opening fresh ∷ (before ++ (close_session main reserve n ∷ []))) → (lent image.old kinds.old) ≡ (day start (opening fresh ∷ (before ++ (close_session main reserve n ∷ [])))).disc → ClosedAnswer result × (ended result image.new kinds.new roles.new ledger.new ≡ ended result image.old kinds.old roles.old ledger.old) }
+) -> Result<u32, Refusal>
+    ensures { (start : Day) (fresh : Bool) (before : List Call) (main reserve : Extent) (n : ℕ) → start.answer < 4294967296 → AllDone start (opening fresh ∷ (before ++ (close_session main reserve n ∷ []))) → (lent image.old kinds.old) ≡ (day start (opening fresh ∷ (before ++ (close_session main reserve n ∷ [])))).disc → ClosedAnswer (answer_of result) × (ended (answer_of result) image.new kinds.new roles.new ledger.new ≡ ended (answer_of result) image.old kinds.old roles.old ledger.old) }
 {
-    keeper::write(image, kinds, roles, ledger, v, block)
+    keeper::write(image, kinds, roles, ledger, Some(v), block)
 }
 
 // Whatever happened since a save of x, calls done, refused or cut of which none made a save: v reads x. Any 16,364 bytes will do as ledger, any bytes as
@@ -125,8 +133,8 @@ pub fn after_events(
     ledger: &mut [u8],
     v: u32,
     out: &mut [u8],
-) -> u64
-    ensures { (start : Day) (fresh : Bool) (stamp : Option (List ℕ)) (x : List ℕ) (since : List Event) → start.answer < 4294967296 → AllDone start (opening fresh ∷ write (some v) x ∷ commit stamp ∷ []) → AllAllowed (world (day start (opening fresh ∷ write (some v) x ∷ commit stamp ∷ []))) since → NoSave (world (day start (opening fresh ∷ write (some v) x ∷ commit stamp ∷ []))) since → Alike (runs (world (day start (opening fresh ∷ write (some v) x ∷ commit stamp ∷ []))) since).disc (lent image.now kinds.now) → length roles.old ≡ length kinds.now → length ledger.old ≡ ledger_length → length out.old ≡ sector_length → (result ≡ 0) × (out.new ≡ x) }
+) -> Result<u32, Refusal>
+    ensures { (start : Day) (fresh : Bool) (stamp : Option (List ℕ)) (x : List ℕ) (since : List Event) → start.answer < 4294967296 → AllDone start (opening fresh ∷ write (Some v) x ∷ commit stamp ∷ []) → AllAllowed (world (day start (opening fresh ∷ write (Some v) x ∷ commit stamp ∷ []))) since → NoSave (world (day start (opening fresh ∷ write (Some v) x ∷ commit stamp ∷ []))) since → Alike (runs (world (day start (opening fresh ∷ write (Some v) x ∷ commit stamp ∷ []))) since).disc (lent image.now kinds.now) → length roles.old ≡ length kinds.now → length ledger.old ≡ ledger_length → length out.old ≡ sector_length → (answer_of result ≡ 0) × (out.new ≡ x) }
 {
     crate::show(image, kinds, roles, ledger, v, out)
 }
@@ -141,8 +149,8 @@ pub fn after_cut(
     ledger: &mut [u8],
     v: u32,
     out: &mut [u8],
-) -> u64
-    ensures { (start : Day) (fresh : Bool) (stamp : Option (List ℕ)) (x y : List ℕ) (c : Call) (j : ℕ) (tear : Option (List ℕ)) (left : Disc) → start.answer < 4294967296 → CutBehind start (opening fresh ∷ write (some v) x ∷ commit stamp ∷ write (some v) y ∷ []) c j tear left → Alike left (lent image.now kinds.now) → length roles.old ≡ length kinds.now → length ledger.old ≡ ledger_length → length out.old ≡ sector_length → (result ≡ 0) × (out.new ≡ reads_of (table_kept c j (length (sectors_behind start (opening fresh ∷ write (some v) x ∷ commit stamp ∷ write (some v) y ∷ []) c))) x y) }
+) -> Result<u32, Refusal>
+    ensures { (start : Day) (fresh : Bool) (stamp : Option (List ℕ)) (x y : List ℕ) (c : Call) (j : ℕ) (tear : Option (List ℕ)) (left : Disc) → start.answer < 4294967296 → CutBehind start (opening fresh ∷ write (Some v) x ∷ commit stamp ∷ write (Some v) y ∷ []) c j tear left → Alike left (lent image.now kinds.now) → length roles.old ≡ length kinds.now → length ledger.old ≡ ledger_length → length out.old ≡ sector_length → (answer_of result ≡ 0) × (out.new ≡ reads_of (table_kept c j (length (sectors_behind start (opening fresh ∷ write (Some v) x ∷ commit stamp ∷ write (Some v) y ∷ []) c))) x y) }
 {
     crate::show(image, kinds, roles, ledger, v, out)
 }
@@ -156,9 +164,9 @@ pub fn after_crash(
     ledger: &mut [u8],
     v: u32,
     out: &mut [u8],
-) -> u64
-    ensures value { (start : Day) (fresh : Bool) (stamp : Option (List ℕ)) (x y : List ℕ) → start.answer < 4294967296 → StoppedStoring start (opening fresh ∷ write (some v) x ∷ commit stamp ∷ write (some v) y ∷ []) (lent image.now kinds.now) → length roles.old ≡ length kinds.now → length ledger.old ≡ ledger_length → length out.old ≡ sector_length → (result ≡ 0) × (out.new ≡ x) }
-    ensures value_2 { (start : Day) (fresh : Bool) (stamp : Option (List ℕ)) (x y : List ℕ) (c : Call) (j : ℕ) → start.answer < 4294967296 → StoppedMarking start (opening fresh ∷ write (some v) x ∷ commit stamp ∷ write (some v) y ∷ []) c j (lent image.now kinds.now) → length roles.old ≡ length kinds.now → length ledger.old ≡ ledger_length → length out.old ≡ sector_length → (result ≡ 0) × (out.new ≡ reads_of (table_kept c j (length (sectors_behind start (opening fresh ∷ write (some v) x ∷ commit stamp ∷ write (some v) y ∷ []) c))) x y) }
+) -> Result<u32, Refusal>
+    ensures value { (start : Day) (fresh : Bool) (stamp : Option (List ℕ)) (x y : List ℕ) → start.answer < 4294967296 → StoppedStoring start (opening fresh ∷ write (Some v) x ∷ commit stamp ∷ write (Some v) y ∷ []) (lent image.now kinds.now) → length roles.old ≡ length kinds.now → length ledger.old ≡ ledger_length → length out.old ≡ sector_length → (answer_of result ≡ 0) × (out.new ≡ x) }
+    ensures value_2 { (start : Day) (fresh : Bool) (stamp : Option (List ℕ)) (x y : List ℕ) (c : Call) (j : ℕ) → start.answer < 4294967296 → StoppedMarking start (opening fresh ∷ write (Some v) x ∷ commit stamp ∷ write (Some v) y ∷ []) c j (lent image.now kinds.now) → length roles.old ≡ length kinds.now → length ledger.old ≡ ledger_length → length out.old ≡ sector_length → (answer_of result ≡ 0) × (out.new ≡ reads_of (table_kept c j (length (sectors_behind start (opening fresh ∷ write (Some v) x ∷ commit stamp ∷ write (Some v) y ∷ []) c))) x y) }
 {
     crate::show(image, kinds, roles, ledger, v, out)
 }

@@ -1,15 +1,18 @@
 -- A byte enters as the number that it is: bytes of a list may be taken as one number, and a number byte by byte.
 -- Assumes nothing.
 use Prim.Native.Nat.{ℕ, zero, suc, ◌+◌, ◌*◌, ◌^◌, ◌/◌, ◌%◌, ◌≤◌, ◌<◌}
-use native.Mathlib.Nat.{add-zero, add-suc, add_assoc, mul_assoc, mod-lt, pow-suc}
+use native.Mathlib.Nat.{add-zero, mod-lt, pow-suc, div-one, not-suc-le-zero, le_of_suc-le-suc}
 use native.Mathlib.Omega.{arith}
-use mathlib.Core.Path.{◌≡◌, ap, ap₂, subst, sym, ◌∙◌}
+use mathlib.Core.Path.{◌≡◌, refl, ap, ap₂, subst, sym, ◌∙◌}
 use mathlib.Core.List.{List}
 use lib.Bits.{bit_xor, xor_lt, xor_zero_r}
 use lib.Arith.{digits_lt}
 use lib.Dec.{lit<}
-use lib.ListN.{length, drop, get_or}
+use lib.ListN.{length, take, drop, get_or}
 use lib.Pow.{pow-add}
+use lib.Seq.{get_or-take, get_or-drop, drop-drop}
+use Rattle.std.specs.Int.{w64, byte_at, bytes_high_first, from_be_bytes}
+use Rattle.std.specs.Simd.{first_chunks}
 use Rattle.crc.specs.Crc.{byte_step, crc_from}
 use Rattle.crc.specs.Number.{crc_of_number, zero_bits, number_at}
 use Rattle.crc.proofs.Xor.{xor_assoc, xor-scaled}
@@ -70,22 +73,6 @@ number_at-lt s at (suc n) hs =
     let before : number_at s at n < 2 ^ (8 * n) = number_at-lt s at n hs in
     subst (λ (p : ℕ). number_at s at n * 256 + get_or s (at + n) 0 < p) (sym (ap (λ (k : ℕ). 2 ^ k) more ∙ up)) (digits_lt before (hs (at + n)))
 
--- the number of m bytes and n more
-pub number_at-add : (m n : ℕ) (s : List ℕ) (at : ℕ) → number_at s at (m + n) ≡ number_at s at m * 256 ^ n + number_at s (at + m) n
-unfolding number_at
-number_at-add m zero s at = ap (number_at s at) (add-zero m) ∙ omega arith
-number_at-add m (suc n) s at =
-    let p : ℕ = 256 ^ n in
-    let v : ℕ = number_at s at m in
-    let w : ℕ = number_at s (at + m) n in
-    let place : at + (m + n) ≡ at + m + n = omega arith in
-    let up : v * p * 256 ≡ v * 256 ^ suc n = mul_assoc v p 256 ∙ ap (λ (q : ℕ). v * q) (sym (pow-suc 256 n)) in
-    let spread : (v * p + w) * 256 ≡ v * p * 256 + w * 256 = omega arith in
-    ap (number_at s at) (add-suc m n)
-    ∙ ap₂ (λ (x k : ℕ). x * 256 + get_or s k 0) (number_at-add m n s at) place
-    ∙ ap (λ (x : ℕ). x + get_or s (at + m + n) 0) (spread ∙ ap (λ (x : ℕ). x + w * 256) up)
-    ∙ add_assoc (v * 256 ^ suc n) (w * 256) (get_or s (at + m + n) 0)
-
 -- ---- the highest byte of a number of l + 8 bits
 
 pub highest-taken : (l c x : ℕ) → c < 65536 → bit_xor (zero_bits l (byte_step c (x / 2 ^ l % 256))) (crc_of_number l x) ≡ bit_xor (zero_bits (l + 8) c) (crc_of_number (l + 8) x)
@@ -97,3 +84,41 @@ highest-taken l c x hc =
     ∙ xor_assoc (zero_bits l (zero_bits 8 c)) (zero_bits l (crc_of_number 8 y)) (crc_of_number l x)
     ∙ ap₂ bit_xor (sym (bits-add 8 l c)) (sym (number-split l 8 x))
     ∙ ap (λ (m : ℕ). bit_xor (zero_bits m c) (crc_of_number m x)) more
+
+-- ---- the bytes of a number, the highest first
+
+bytes-of-two : (j : ℕ) → 256 ^ j ≡ 2 ^ (8 * j)
+bytes-of-two zero = refl
+bytes-of-two (suc j) =
+    let more : 8 * j + 8 ≡ 8 * suc j = omega arith in
+    pow-suc 256 j ∙ ap (λ (p : ℕ). p * 256) (bytes-of-two j) ∙ sym (pow-add 2 (8 * j) 8) ∙ ap (λ (k : ℕ). 2 ^ k) more
+
+digit : (j x : ℕ) → byte_at j x ≡ x / 2 ^ (8 * j) % 256
+digit zero x = ap (λ (y : ℕ). y % 256) (sym (div-one x))
+digit (suc j) x = ap (λ (p : ℕ). x / p % 256) (bytes-of-two (suc j))
+
+pub byte-there : (k i j x : ℕ) → i + suc j ≡ k → get_or (bytes_high_first k x) i 0 ≡ x / 2 ^ (8 * j) % 256
+byte-there zero i j x e = absurd (omega arith)
+byte-there (suc k) zero j x e = let same : k ≡ j = omega arith in ap (λ (n : ℕ). byte_at n x) same ∙ digit j x
+byte-there (suc k) (suc i) j x e = byte-there k i j x (omega arith)
+
+-- ---- the words of a list, of eight bytes each
+
+eight_at : (m k : ℕ) (s d : List ℕ) → k < m → get_or (first_chunks 8 m s) k d ≡ take 8 (drop (8 * k) s)
+eight_at zero k s d h = absurd (not-suc-le-zero h)
+eight_at (suc m) zero s d h = refl
+eight_at (suc m) (suc k) s d h =
+    let more : 8 + 8 * k ≡ 8 * suc k = omega arith in
+    eight_at m k (drop 8 s) d (le_of_suc-le-suc h) ∙ ap (take 8) (drop-drop (8 * k) 8 s ∙ ap (λ (n : ℕ). drop n s) more)
+
+eight_bytes : (s : List ℕ) (at : ℕ) → from_be_bytes w64 (take 8 (drop at s)) ≡ number_at s at 8
+unfolding number_at
+eight_bytes s at =
+    let byte : (i : ℕ) → i < 8 → get_or (take 8 (drop at s)) i 0 ≡ get_or s (at + i) 0 = λ i h. get_or-take 8 (drop at s) i 0 h ∙ get_or-drop at s i 0 in
+    omega (arith, byte 0 (lit< tt), byte 1 (lit< tt), byte 2 (lit< tt), byte 3 (lit< tt), byte 4 (lit< tt), byte 5 (lit< tt), byte 6 (lit< tt), byte 7 (lit< tt))
+
+pub word-there : (s : List ℕ) (at m k : ℕ) (words : List (List ℕ)) (d : List ℕ) → words ≡ first_chunks 8 m (drop at s) → k < m → from_be_bytes w64 (get_or words k d) ≡ number_at s (at + 8 * k) 8
+word-there s at m k words d e h =
+    ap (λ (l : List (List ℕ)). from_be_bytes w64 (get_or l k d)) e
+    ∙ ap (from_be_bytes w64) (eight_at m k (drop at s) d h ∙ ap (take 8) (drop-drop (8 * k) at s))
+    ∙ eight_bytes s (at + 8 * k)

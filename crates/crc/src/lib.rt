@@ -21,32 +21,10 @@ fn head(s: &[u8], n: usize) -> u64
     ensures { result ≡ number_at s.now 0 n % 18446744073709551616 }
 {
     let mut x: u64 = 0;
-    let mut i: usize = 0;
-    while i < n {
-        x = (x << 8) + (s[i] as u64);
-        i += 1;
+    for &byte in &s[..n] {
+        x = (x << 8) + u64::from(byte);
     }
     x
-}
-
-fn half(s: &[u8], at: usize) -> u32
-    requires { at + 4 ≤ length s.now }
-    ensures { result ≡ number_at s.now at 4 }
-{
-    let b = at + 1;
-    let c = at + 2;
-    let d = at + 3;
-    le::join32(s[d], s[c], s[b], s[at])
-}
-
-// Eight bytes as one number, the first byte highest. Of two halves the compiler makes one load.
-fn word(s: &[u8], at: usize) -> u64
-    requires { at + 8 ≤ length s.now }
-    ensures { result ≡ number_at s.now at 8 }
-{
-    let high = half(s, at);
-    let low = half(s, at + 4);
-    le::join64(low, high)
 }
 
 // The word x, with one word after it, is dropped. With 48 and 20 bits after it a word w sticks out into its own place, by w >> 16 and w >> 44. So h is taken
@@ -59,23 +37,14 @@ fn fold(x: u64, last: u64) -> u64
     last ^ (h ^ (h << 20) ^ (h << 48))
 }
 
-// The entry that a byte takes: the byte joined with the high byte of the CRC so far.
-fn place(c: u16, x: u64) -> usize
-    ensures { (result ≡ bit_xor (c / 256) (x % 256)) × (result < 256) }
-{
-    (((c >> 8) as u64) ^ (x % 256)) as usize
-}
-
+// The entry that a byte takes is that of the byte joined with the high byte of the CRC so far.
 fn sum(table: &[u16], x: u64) -> u16
     requires { OneByteSums table.now }
     ensures { result ≡ crc_of_number 64 x }
 {
     let mut c: u16 = 0;
-    let mut left: u32 = 64;
-    while 0 < left {
-        left -= 8;
-        let k = place(c, x >> left);
-        c = (c << 8) ^ table[k];
+    for byte in x.to_be_bytes() {
+        c = (c << 8) ^ table[usize::from((c >> 8) as u8 ^ byte)];
     }
     c
 }
@@ -92,18 +61,18 @@ fn by_table(x: u64) -> u16
 pub fn crc(s: &[u8]) -> u16
     ensures { result ≡ crc_of s.now }
 {
-    let mut i = s.len() % 8;
+    let (first, words) = s.as_rchunks::<8>();
     let mut a: u64 = 0;
     let mut b: u64 = 0;
     let mut c: u64 = 0;
-    let mut d = head(s, i);
-    while i < s.len() {
-        let first = a;
-        a = b ^ first;
-        b = c ^ (first >> 48);
-        c = d ^ (first << 16);
-        d = word(s, i) ^ first;
-        i += 8;
+    let mut d = head(s, first.len());
+    for &word in words {
+        (a, b, c, d) = (
+            b ^ a,
+            c ^ (a >> 48),
+            d ^ (a << 16),
+            u64::from_be_bytes(word) ^ a,
+        );
     }
     by_table(fold(fold(fold(a, b), c), d))
 }

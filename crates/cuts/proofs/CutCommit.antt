@@ -5,7 +5,7 @@
 use Prim.Native.Nat.{ℕ, ◌≤◌}
 use mathlib.Core.Bool.{Bool, false, ◌&&◌}
 use mathlib.Core.List.{List, [], ◌∷◌, ◌++◌}
-use mathlib.Core.Option.{Option, none, some}
+use Rattle.std.specs.Prelude.{Option, None, Some}
 use mathlib.Core.Path.{◌≡◌, refl, sym, ap, ◌∙◌, subst, subst₂}
 use lib.Dec.{T, eqb, eqb→eq}
 use lib.ListN.{length}
@@ -23,15 +23,15 @@ use Rattle.cuts.proofs.Worked.{Kept, Matches, some-none, Played, So, played-from
 -- ---- the test
 
 unfoldable pub same-draft : Option Snapshot → Snapshot → Bool
-same-draft none p = false
-same-draft (some q) p = same-page q p
+same-draft None p = false
+same-draft (Some q) p = same-page q p
 
 -- A state is at hand, a commit would be done with n sectors, and the history has these pages and this draft.
 unfoldable pub commits : Disc → Option Kept → History → ℕ → List Snapshot → Snapshot → Bool
-commits d none h n ps draft = false
-commits d (some k) h n ps draft =
-    eqb (outcome_of d k.long k.state (commit none)) 0
-    && (eqb (length (sectors_held d k.long k.state (commit none))) n && (same-pages h.pages ps && same-draft h.draft draft))
+commits d None h n ps draft = false
+commits d (Some k) h n ps draft =
+    eqb (outcome_of d k.long k.state (commit None)) 0
+    && (eqb (length (sectors_held d k.long k.state (commit None))) n && (same-pages h.pages ps && same-draft h.draft draft))
 
 unfoldable pub commit-works : Disc → Call → History → List Event → ℕ → List Snapshot → Snapshot → Bool
 unfolding opened same-entry same-page same-pages cut_disc feed played-from same-draft commits shown
@@ -40,25 +40,25 @@ commit-works d c h es n ps draft = let p : Played = played-from d c h es in p.al
 -- ---- what it says
 
 record Commits (w : World) (h : History) (n : ℕ) (ps : List Snapshot) (p : Snapshot) : Type 0 where
-  has-state : w.ledger ≡ none → ⊥
-  is-done : outcome w.disc (ledger_held w.ledger []) (commit none) ≡ 0
-  sectors : length (sectors_of w.disc (ledger_held w.ledger []) (commit none)) ≡ n
+  has-state : w.ledger ≡ None → ⊥
+  is-done : outcome w.disc (ledger_held w.ledger []) (commit None) ≡ 0
+  sectors : length (sectors_of w.disc (ledger_held w.ledger []) (commit None)) ≡ n
   pages : h.pages ≡ ps
-  draft : h.draft ≡ some p
+  draft : h.draft ≡ Some p
 
-draft-same : (o : Option Snapshot) (p : Snapshot) → T (same-draft o p) → o ≡ some p
+draft-same : (o : Option Snapshot) (p : Snapshot) → T (same-draft o p) → o ≡ Some p
 unfolding same-draft
-draft-same none p t = absurd t
-draft-same (some q) p t = ap (λ (x : Snapshot). some x) (page-same q p t)
+draft-same None p t = absurd t
+draft-same (Some q) p t = ap (λ (x : Snapshot). Some x) (page-same q p t)
 
 commits-so : (d : Disc) (o : Option (List ℕ)) (k : Option Kept) (h : History) (n : ℕ) (ps : List Snapshot) (draft : Snapshot) → Matches o k
     → T (commits d k h n ps draft) → Commits (record { disc = d; ledger = o }) h n ps draft
 unfolding commits
-commits-so d o none h n ps draft m t = absurd t
-commits-so d none (some k) h n ps draft m t = absurd m
-commits-so d (some l) (some k) h n ps draft m t =
-    let done : Bool = eqb (outcome_of d k.long k.state (commit none)) 0 in
-    let counted : Bool = eqb (length (sectors_held d k.long k.state (commit none))) n in
+commits-so d o None h n ps draft m t = absurd t
+commits-so d None (Some k) h n ps draft m t = absurd m
+commits-so d (Some l) (Some k) h n ps draft m t =
+    let done : Bool = eqb (outcome_of d k.long k.state (commit None)) 0 in
+    let counted : Bool = eqb (length (sectors_held d k.long k.state (commit None))) n in
     let paged : Bool = same-pages h.pages ps in
     let drafted : Bool = same-draft h.draft draft in
     let b = both done (counted && (paged && drafted)) t in
@@ -66,8 +66,8 @@ commits-so d (some l) (some k) h n ps draft m t =
     let e = both paged drafted c.1 in
     record {
       has-state = some-none;
-      is-done = outcome-same d l (commit none) m ∙ eqb→eq (outcome_of d k.long k.state (commit none)) 0 b.0;
-      sectors = ap length (sectors-same d l (commit none) m) ∙ eqb→eq (length (sectors_held d k.long k.state (commit none))) n c.0;
+      is-done = outcome-same d l (commit None) m ∙ eqb→eq (outcome_of d k.long k.state (commit None)) 0 b.0;
+      sectors = ap length (sectors-same d l (commit None) m) ∙ eqb→eq (length (sectors_held d k.long k.state (commit None))) n c.0;
       pages = pages-same h.pages ps e.0;
       draft = draft-same h.draft draft e.1;
     }
@@ -87,7 +87,7 @@ remembered-then (x ∷ es) w h e = remembered-then es (next w x) (feed h (fed w 
 -- ---- the cut
 
 cut-feeds : (w : World) (h : History) (n : ℕ) (ps : List Snapshot) (draft : Snapshot) → Commits w h n ps draft → (j : ℕ) (tear : Option (List ℕ))
-    → (feed h (fed w (cuts (commit none) [] j tear))).pages ≡ saved_if (eqb j n) (some draft) ps
+    → (feed h (fed w (cuts (commit None) [] j tear))).pages ≡ saved_if (eqb j n) (Some draft) ps
 unfolding feed fed
 cut-feeds w h n ps draft c j tear = rw (c.is-done, c.sectors, c.pages, c.draft)
 
@@ -113,11 +113,11 @@ module _ (d : Disc) (c : Call) (h : History) (es : List Event) (n : ℕ) (ps : L
   pub cut_started : outcome d full c ≡ 0
   cut_started = from-started d c h es parts.0
 
-  pub cut-allowed : (j : ℕ) → j ≤ n → (tear : Option (List ℕ)) → Torn tear → AllAllowed w (es ++ (cuts (commit none) [] j tear ∷ []))
+  pub cut-allowed : (j : ℕ) → j ≤ n → (tear : Option (List ℕ)) → Torn tear → AllAllowed w (es ++ (cuts (commit None) [] j tear ∷ []))
   cut-allowed j most tear long =
-      allowed_then es w (cuts (commit none) [] j tear) so.allowed
+      allowed_then es w (cuts (commit None) [] j tear) so.allowed
       ((λ lost done. absurd (ready.has-state lost)), subst (λ (k : ℕ). j ≤ k) (sym ready.sectors) most, long)
 
-  pub cut-pages : (j : ℕ) (tear : Option (List ℕ)) → (remembers w h (es ++ (cuts (commit none) [] j tear ∷ []))).pages ≡ saved_if (eqb j n) (some draft) ps
+  pub cut-pages : (j : ℕ) (tear : Option (List ℕ)) → (remembers w h (es ++ (cuts (commit None) [] j tear ∷ []))).pages ≡ saved_if (eqb j n) (Some draft) ps
   cut-pages j tear =
-      ap (λ (x : History). x.pages) (remembered-then es w h (cuts (commit none) [] j tear)) ∙ cut-feeds (runs w es) (remembers w h es) n ps draft ready j tear
+      ap (λ (x : History). x.pages) (remembered-then es w h (cuts (commit None) [] j tear)) ∙ cut-feeds (runs w es) (remembers w h es) n ps draft ready j tear

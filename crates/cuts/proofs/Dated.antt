@@ -6,7 +6,7 @@
 use Prim.Native.Nat.{ℕ, suc, ◌+◌, ◌*◌}
 use mathlib.Core.Bool.{Bool, ◌&&◌}
 use mathlib.Core.List.{List, [], ◌∷◌, ◌++◌}
-use mathlib.Core.Option.{none, some}
+use Rattle.std.specs.Prelude.{None, Some}
 use mathlib.Core.Path.{◌≡◌, sym, ap, ◌∙◌}
 use lib.Dec.{T, eqb, eqb→eq}
 use lib.ListN.{length}
@@ -96,16 +96,16 @@ module _ (n : ℕ) (es : List Event) (e : Event) (later : List Event) (m k : ℕ
 
 -- a save of 00:30 on 1 January 1970 with zone 60, a save without a time, and one with no zone given that is cut behind its table; then a time is asked for
 unfoldable pub first-save : Event
-first-save = calls (commit (some (stamp 60 1970 1 1 0 30))) []
+first-save = calls (commit (Some (stamp 60 1970 1 1 0 30))) []
 
 unfoldable pub plain-save : Event
-plain-save = calls (commit none) []
+plain-save = calls (commit None) []
 
 unfoldable pub cut-save : Event
-cut-save = cuts (commit (some (stamp 2049 1970 1 1 0 30))) [] 1 none
+cut-save = cuts (commit (Some (stamp 2049 1970 1 1 0 30))) [] 1 None
 
 unfoldable pub written : ℕ → Event
-written x = calls (write (some 0) (block x)) []
+written x = calls (write (Some 0) (block x)) []
 
 unfoldable pub asks : List Event
 asks = calls (time_of 0 answer) full ∷ calls mount full ∷ []

@@ -5,7 +5,7 @@ use Prim.Native.Nat.{ℕ, suc, ◌+◌, ◌*◌, ◌≤◌, ◌<◌}
 use native.Mathlib.Omega.{arith}
 use mathlib.Core.Bool.{Bool, false}
 use mathlib.Core.List.{List, [], ◌∷◌, ◌++◌}
-use mathlib.Core.Option.{Option, none, some}
+use Rattle.std.specs.Prelude.{Option, None, Some}
 use mathlib.Core.Path.{◌≡◌, ap, ◌∙◌, subst}
 use lib.Dec.{T, eqb, lit≤}
 use borrow.Author.Tests.{ne_eqb}
@@ -35,9 +35,9 @@ use Rattle.cuts.proofs.Lists.{large, before-the-large-cut, large-page, next-larg
 abbrev pub ReadsAs : Disc → List ℕ → ℕ → Entry → Type 0
 ReadsAs d l n unused_entry =
     (lent : List ℕ) → length lent ≡ 2048 → after d l (read n lent) ≡ record { answer = 10 * 4294967296; disc = d; ledger = l; buffer = lent }
-ReadsAs d l n (shows b (some bytes)) =
+ReadsAs d l n (shows b (Some bytes)) =
     (lent : List ℕ) → length lent ≡ 2048 → after d l (read n lent) ≡ record { answer = 0; disc = d; ledger = l; buffer = bytes }
-ReadsAs d l n (shows b none) =
+ReadsAs d l n (shows b None) =
     (lent : List ℕ) → length lent ≡ 2048 → after d l (read n lent) ≡ record { answer = 11 * 4294967296; disc = d; ledger = l; buffer = lent }
 
 -- The block that a number stands for.
@@ -68,8 +68,8 @@ Gives d (p ∷ ps) = GivesPage d mount p × LooksFrom d 0 (p ∷ ps)
 
 reads-entry : (d : Disc) (l : List ℕ) (n : ℕ) (p : Snapshot) → Shows d l p → (e : Entry) → get_or p n unused_entry ≡ e → ReadsAs d l n e
 reads-entry d l n p s unused_entry q = λ lent long. s.reads n lent long ∙ ap (reading d l lent) q
-reads-entry d l n p s (shows b (some bytes)) q = λ lent long. s.reads n lent long ∙ ap (reading d l lent) q
-reads-entry d l n p s (shows b none) q = λ lent long. s.reads n lent long ∙ ap (reading d l lent) q
+reads-entry d l n p s (shows b (Some bytes)) q = λ lent long. s.reads n lent long ∙ ap (reading d l lent) q
+reads-entry d l n p s (shows b None) q = λ lent long. s.reads n lent long ∙ ap (reading d l lent) q
 
 stands-for : (d : Disc) (l : List ℕ) (n : ℕ) (p : Snapshot) → Shows d l p → (e : Entry) → get_or p n unused_entry ≡ e → StandsFor l n e
 stands-for d l n p s unused_entry q = s.entry n ∙ ap block_number q
@@ -125,22 +125,22 @@ mounted-gives d es ps t =
 
 cut-gives : (n : ℕ) (es : List Event) (k : ℕ) (ps : List Snapshot) (draft : Snapshot) → T (commit-works (blank n) begin begun_history es k ps draft)
     → (j : ℕ) → j ≤ k → (tear : Option (List ℕ)) → Torn tear
-    → Gives (runs (start n) (es ++ (cuts (commit none) [] j tear ∷ []))).disc (saved_if (eqb j k) (some draft) ps)
+    → Gives (runs (start n) (es ++ (cuts (commit None) [] j tear ∷ []))).disc (saved_if (eqb j k) (Some draft) ps)
 cut-gives n es k ps draft t j most tear long =
-    let fs : List Event = es ++ (cuts (commit none) [] j tear ∷ []) in
+    let fs : List Event = es ++ (cuts (commit None) [] j tear ∷ []) in
     gives (runs (start n) fs).disc (remembers (start n) begun_history fs)
     (power-cuts.after-begin (blank n) full (cut_started (blank n) begin begun_history es k ps draft t) fs (cut-allowed (blank n) begin begun_history es k ps draft t j most tear long))
-    (saved_if (eqb j k) (some draft) ps) (cut-pages (blank n) begin begun_history es k ps draft t j tear)
+    (saved_if (eqb j k) (Some draft) ps) (cut-pages (blank n) begin begun_history es k ps draft t j tear)
 
 mounted-cut-gives : (d : Disc) (es : List Event) (k : ℕ) (ps : List Snapshot) (draft : Snapshot) → T (commit-works d mount (mounted_history d) es k ps draft)
     → (j : ℕ) → j ≤ k → (tear : Option (List ℕ)) → Torn tear
-    → Gives (runs (after_call d full mount) (es ++ (cuts (commit none) [] j tear ∷ []))).disc (saved_if (eqb j k) (some draft) ps)
+    → Gives (runs (after_call d full mount) (es ++ (cuts (commit None) [] j tear ∷ []))).disc (saved_if (eqb j k) (Some draft) ps)
 mounted-cut-gives d es k ps draft t j most tear long =
-    let fs : List Event = es ++ (cuts (commit none) [] j tear ∷ []) in
+    let fs : List Event = es ++ (cuts (commit None) [] j tear ∷ []) in
     let h : History = mounted_history d in
     gives (runs (after_call d full mount) fs).disc (remembers (after_call d full mount) h fs)
     (power-cuts.after-mount d full (cut_started d mount h es k ps draft t) fs (cut-allowed d mount h es k ps draft t j most tear long))
-    (saved_if (eqb j k) (some draft) ps) (cut-pages d mount h es k ps draft t j tear)
+    (saved_if (eqb j k) (Some draft) ps) (cut-pages d mount h es k ps draft t j tear)
 
 -- ---- every list is allowed
 
@@ -168,7 +168,7 @@ allowed-on-scratched = shown-on-scratched.allowed
 pub allowed-cut-twice : AllAllowed (after_call scratched full mount) cut_twice
 allowed-cut-twice = shown-cut-twice.allowed
 
-pub allowed-cut : (j : ℕ) → j ≤ 8 → (tear : Option (List ℕ)) → Torn tear → AllAllowed (start 19) (before-the-cut ++ (cuts (commit none) [] j tear ∷ []))
+pub allowed-cut : (j : ℕ) → j ≤ 8 → (tear : Option (List ℕ)) → Torn tear → AllAllowed (start 19) (before-the-cut ++ (cuts (commit None) [] j tear ∷ []))
 allowed-cut = cut-allowed (blank 19) begin begun_history before-the-cut 8 (old-page ∷ []) new-page shown-before-the-cut
 
 -- ---- what the claim gives for each list
@@ -199,24 +199,24 @@ drawn-cut-twice = mounted-gives scratched cut_twice cut-twice-pages shown-cut-tw
 
 -- whatever the struck sector holds
 pub drawn-cut-short : (j : ℕ) → j < 8 → (tear : Option (List ℕ)) → Torn tear
-    → Gives (runs (start 19) (before-the-cut ++ (cuts (commit none) [] j tear ∷ []))).disc (old-page ∷ [])
+    → Gives (runs (start 19) (before-the-cut ++ (cuts (commit None) [] j tear ∷ []))).disc (old-page ∷ [])
 drawn-cut-short j below tear long =
     let short : eqb j 8 ≡ false = ne_eqb j 8 (λ q. omega (arith, below, q)) in
-    subst (λ (t : Bool). Gives (runs (start 19) (before-the-cut ++ (cuts (commit none) [] j tear ∷ []))).disc (saved_if t (some new-page) (old-page ∷ []))) short
+    subst (λ (t : Bool). Gives (runs (start 19) (before-the-cut ++ (cuts (commit None) [] j tear ∷ []))).disc (saved_if t (Some new-page) (old-page ∷ []))) short
     (cut-gives 19 before-the-cut 8 (old-page ∷ []) new-page shown-before-the-cut j (omega (arith, below)) tear long)
 
 pub drawn-cut-at-the-end : (tear : Option (List ℕ)) → Torn tear
-    → Gives (runs (start 19) (before-the-cut ++ (cuts (commit none) [] 8 tear ∷ []))).disc (new-page ∷ old-page ∷ [])
+    → Gives (runs (start 19) (before-the-cut ++ (cuts (commit None) [] 8 tear ∷ []))).disc (new-page ∷ old-page ∷ [])
 drawn-cut-at-the-end tear long = cut-gives 19 before-the-cut 8 (old-page ∷ []) new-page shown-before-the-cut 8 (lit≤ tt) tear long
 
 -- the links and both own sectors of the large save make no page, its ICB does
 abbrev large_cut : ℕ → Option (List ℕ) → Disc
-large_cut j tear = (runs (after_call large full mount) (before-the-large-cut ++ (cuts (commit none) [] j tear ∷ []))).disc
+large_cut j tear = (runs (after_call large full mount) (before-the-large-cut ++ (cuts (commit None) [] j tear ∷ []))).disc
 
 pub drawn-large-cut-short : (j : ℕ) → j < 10 → (tear : Option (List ℕ)) → Torn tear → Gives (large_cut j tear) (large-page ∷ [])
 drawn-large-cut-short j below tear long =
     let short : eqb j 10 ≡ false = ne_eqb j 10 (λ q. omega (arith, below, q)) in
-    subst (λ (t : Bool). Gives (large_cut j tear) (saved_if t (some next-large-page) (large-page ∷ []))) short
+    subst (λ (t : Bool). Gives (large_cut j tear) (saved_if t (Some next-large-page) (large-page ∷ []))) short
     (mounted-cut-gives large before-the-large-cut 10 (large-page ∷ []) next-large-page shown-before-the-large-cut j (omega (arith, below)) tear long)
 
 pub drawn-large-cut-at-the-end : (tear : Option (List ℕ)) → Torn tear → Gives (large_cut 10 tear) (next-large-page ∷ large-page ∷ [])

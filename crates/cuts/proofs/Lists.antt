@@ -5,7 +5,7 @@
 use Prim.Native.Nat.{ℕ}
 use mathlib.Core.Bool.{Bool, true, ◌&&◌}
 use mathlib.Core.List.{List, [], ◌∷◌}
-use mathlib.Core.Option.{Option, none, some}
+use Rattle.std.specs.Prelude.{Option, None, Some}
 use mathlib.Core.Path.{sym, subst}
 use lib.Dec.{T, eqb}
 use lib.ListN.{length, get_or, replicate}
@@ -43,7 +43,7 @@ Mounted d es ps = Works d mount (mounted_history d) es ps
 abbrev struck : Option (List ℕ) → List ℕ
 struck tear = (cut_disc (blank 4) (link ∷ plain (block 1) ∷ plain (block 2) ∷ []) 1 tear).kinds
 
-kinds-left : T (same (struck (some (block 9))) (2 ∷ 3 ∷ 0 ∷ 0 ∷ []) && same (struck none) (2 ∷ 0 ∷ 0 ∷ 0 ∷ []))
+kinds-left : T (same (struck (Some (block 9))) (2 ∷ 3 ∷ 0 ∷ 0 ∷ []) && same (struck None) (2 ∷ 0 ∷ 0 ∷ 0 ∷ []))
 unfolding opened cut_disc
 kinds-left = tt
 
@@ -52,10 +52,10 @@ kinds-left = tt
 -- begin, write, commit, a commit cut in the links, look back, mount
 unfoldable pub in-the-links : List Event
 in-the-links =
-    calls (write (some 0) (block 5)) [] ∷ calls (commit none) [] ∷ calls close_packet [] ∷ cuts (commit none) [] 3 (some (block 9)) ∷ calls (look_back 0) full ∷ calls mount full ∷ []
+    calls (write (Some 0) (block 5)) [] ∷ calls (commit None) [] ∷ calls close_packet [] ∷ cuts (commit None) [] 3 (Some (block 9)) ∷ calls (look_back 0) full ∷ calls mount full ∷ []
 
 unfoldable pub in-the-links-pages : List Snapshot
-in-the-links-pages = (shows 0 (some (block 5)) ∷ []) ∷ []
+in-the-links-pages = (shows 0 (Some (block 5)) ∷ []) ∷ []
 
 pub shown-in-the-links : Begun 17 in-the-links in-the-links-pages
 unfolding works in-the-links in-the-links-pages
@@ -63,7 +63,7 @@ shown-in-the-links = works-so (blank 17) begin begun_history in-the-links in-the
 
 -- a cut before the first table: no page
 unfoldable pub no-table-yet : List Event
-no-table-yet = cuts (write (some 0) (block 4)) [] 1 none ∷ []
+no-table-yet = cuts (write (Some 0) (block 4)) [] 1 None ∷ []
 
 pub shown-no-table-yet : Begun 17 no-table-yet []
 unfolding works no-table-yet
@@ -72,10 +72,10 @@ shown-no-table-yet = works-so (blank 17) begin begun_history no-table-yet [] tt
 -- the same, then begin, and a save
 unfoldable pub before-the-first-table : List Event
 before-the-first-table =
-    cuts (write (some 0) (block 4)) [] 1 none ∷ calls mount full ∷ calls begin [] ∷ calls begin full ∷ calls (write (some 0) (block 6)) [] ∷ calls (commit none) [] ∷ []
+    cuts (write (Some 0) (block 4)) [] 1 None ∷ calls mount full ∷ calls begin [] ∷ calls begin full ∷ calls (write (Some 0) (block 6)) [] ∷ calls (commit None) [] ∷ []
 
 unfoldable pub first-table-pages : List Snapshot
-first-table-pages = (shows 8 (some (block 6)) ∷ []) ∷ []
+first-table-pages = (shows 8 (Some (block 6)) ∷ []) ∷ []
 
 pub shown-before-the-first-table : Begun 25 before-the-first-table first-table-pages
 unfolding works before-the-first-table first-table-pages
@@ -83,10 +83,10 @@ shown-before-the-first-table = works-so (blank 25) begin begun_history before-th
 
 -- a sector that was struck is unreadable, though its bytes are those of a table at its block
 unfoldable pub looks-like-a-table : List Event
-looks-like-a-table = calls (write (some 0) (block 5)) [] ∷ calls (commit none) [] ∷ cuts (commit none) [] 0 (some (icb (table_bytes [] 1) [] no_stamp 2)) ∷ []
+looks-like-a-table = calls (write (Some 0) (block 5)) [] ∷ calls (commit None) [] ∷ cuts (commit None) [] 0 (Some (icb (table_bytes [] 1) [] no_stamp 2)) ∷ []
 
 unfoldable pub struck-pages : List Snapshot
-struck-pages = (shows 0 (some (block 5)) ∷ []) ∷ []
+struck-pages = (shows 0 (Some (block 5)) ∷ []) ∷ []
 
 pub shown-looks-like-a-table : Begun 17 looks-like-a-table struck-pages
 unfolding works looks-like-a-table struck-pages
@@ -95,18 +95,18 @@ shown-looks-like-a-table = works-so (blank 17) begin begun_history looks-like-a-
 -- a save three back, and a number released
 unfoldable pub three_back : List Event
 three_back =
-    calls (write (some 0) (block 1)) [] ∷ calls (commit none) []
-    ∷ calls (write (some 1) (block 2)) [] ∷ calls (commit none) []
-    ∷ calls (release 0) [] ∷ calls (commit none) []
-    ∷ calls (write (some 0) (block 3)) [] ∷ calls (commit none) []
+    calls (write (Some 0) (block 1)) [] ∷ calls (commit None) []
+    ∷ calls (write (Some 1) (block 2)) [] ∷ calls (commit None) []
+    ∷ calls (release 0) [] ∷ calls (commit None) []
+    ∷ calls (write (Some 0) (block 3)) [] ∷ calls (commit None) []
     ∷ []
 
 unfoldable pub three-back-pages : List Snapshot
 three-back-pages =
-    (shows 5 (some (block 3)) ∷ shows 2 (some (block 2)) ∷ [])
-    ∷ (unused_entry ∷ shows 2 (some (block 2)) ∷ [])
-    ∷ (shows 0 (some (block 1)) ∷ shows 2 (some (block 2)) ∷ [])
-    ∷ (shows 0 (some (block 1)) ∷ [])
+    (shows 5 (Some (block 3)) ∷ shows 2 (Some (block 2)) ∷ [])
+    ∷ (unused_entry ∷ shows 2 (Some (block 2)) ∷ [])
+    ∷ (shows 0 (Some (block 1)) ∷ shows 2 (Some (block 2)) ∷ [])
+    ∷ (shows 0 (Some (block 1)) ∷ [])
     ∷ []
 
 pub shown-three-back : Begun 22 three_back three-back-pages
@@ -118,12 +118,12 @@ unfoldable pub scratched : Disc
 scratched = puts (blank 29) 0 (torn (block 5) ∷ plain (block 6) ∷ plain (icb (table_bytes (0 ∷ 1 ∷ []) unused) [] no_stamp 2) ∷ [])
 
 unfoldable pub on-scratched : List Event
-on-scratched = calls (write (some 2) (block 7)) [] ∷ calls (commit none) [] ∷ cuts (write (some 0) (block 8)) [] 1 none ∷ []
+on-scratched = calls (write (Some 2) (block 7)) [] ∷ calls (commit None) [] ∷ cuts (write (Some 0) (block 8)) [] 1 None ∷ []
 
 unfoldable pub scratched-pages : List Snapshot
 scratched-pages =
-    (shows 0 none ∷ shows 1 (some (block 6)) ∷ shows 10 (some (block 7)) ∷ [])
-    ∷ (shows 0 none ∷ shows 1 (some (block 6)) ∷ [])
+    (shows 0 None ∷ shows 1 (Some (block 6)) ∷ shows 10 (Some (block 7)) ∷ [])
+    ∷ (shows 0 None ∷ shows 1 (Some (block 6)) ∷ [])
     ∷ []
 
 pub shown-on-scratched : Mounted scratched on-scratched scratched-pages
@@ -133,11 +133,11 @@ shown-on-scratched = works-so scratched mount (mounted_history scratched) on-scr
 -- a save on it that is cut, a write that is refused while the ledger is lost, a mount and a save, and one more that is cut
 unfoldable pub cut_twice : List Event
 cut_twice =
-    calls (write (some 2) (block 7)) [] ∷ cuts (commit none) [] 0 (some (block 9)) ∷ calls (write (some 0) (block 8)) []
-    ∷ calls mount full ∷ calls (commit none) [] ∷ cuts (commit none) [] 0 none ∷ []
+    calls (write (Some 2) (block 7)) [] ∷ cuts (commit None) [] 0 (Some (block 9)) ∷ calls (write (Some 0) (block 8)) []
+    ∷ calls mount full ∷ calls (commit None) [] ∷ cuts (commit None) [] 0 None ∷ []
 
 unfoldable pub cut-twice-pages : List Snapshot
-cut-twice-pages = (shows 0 none ∷ shows 1 (some (block 6)) ∷ []) ∷ (shows 0 none ∷ shows 1 (some (block 6)) ∷ []) ∷ []
+cut-twice-pages = (shows 0 None ∷ shows 1 (Some (block 6)) ∷ []) ∷ (shows 0 None ∷ shows 1 (Some (block 6)) ∷ []) ∷ []
 
 pub shown-cut-twice : Mounted scratched cut_twice cut-twice-pages
 unfolding works scratched cut_twice cut-twice-pages
@@ -146,13 +146,13 @@ shown-cut-twice = works-so scratched mount (mounted_history scratched) cut_twice
 -- writes without a number, done and cut, between saves: no page shows their blocks
 unfoldable pub unnumbered : List Event
 unnumbered =
-    calls (write (some 0) (block 5)) [] ∷ calls (commit none) []
-    ∷ calls (write none (block 6)) [] ∷ calls (commit none) []
-    ∷ cuts (write none (block 7)) [] 1 none ∷ calls mount full ∷ calls (commit none) []
+    calls (write (Some 0) (block 5)) [] ∷ calls (commit None) []
+    ∷ calls (write None (block 6)) [] ∷ calls (commit None) []
+    ∷ cuts (write None (block 7)) [] 1 None ∷ calls mount full ∷ calls (commit None) []
     ∷ []
 
 unfoldable pub unnumbered-pages : List Snapshot
-unnumbered-pages = (shows 0 (some (block 5)) ∷ []) ∷ (shows 0 (some (block 5)) ∷ []) ∷ (shows 0 (some (block 5)) ∷ []) ∷ []
+unnumbered-pages = (shows 0 (Some (block 5)) ∷ []) ∷ (shows 0 (Some (block 5)) ∷ []) ∷ (shows 0 (Some (block 5)) ∷ []) ∷ []
 
 pub shown-unnumbered : Begun 21 unnumbered unnumbered-pages
 unfolding works unnumbered unnumbered-pages
@@ -160,13 +160,13 @@ shown-unnumbered = works-so (blank 21) begin begun_history unnumbered unnumbered
 
 -- a commit cut after each j of its 8 sectors: 0 to 7 show the old save, 8 the new
 unfoldable pub before-the-cut : List Event
-before-the-cut = calls (write (some 0) (block 5)) [] ∷ calls (commit none) [] ∷ calls (write (some 1) (block 6)) [] ∷ calls close_packet [] ∷ []
+before-the-cut = calls (write (Some 0) (block 5)) [] ∷ calls (commit None) [] ∷ calls (write (Some 1) (block 6)) [] ∷ calls close_packet [] ∷ []
 
 unfoldable pub old-page : Snapshot
-old-page = shows 0 (some (block 5)) ∷ []
+old-page = shows 0 (Some (block 5)) ∷ []
 
 unfoldable pub new-page : Snapshot
-new-page = shows 0 (some (block 5)) ∷ shows 2 (some (block 6)) ∷ []
+new-page = shows 0 (Some (block 5)) ∷ shows 2 (Some (block 6)) ∷ []
 
 -- for every j at once: after these calls a commit has 8 sectors, the old page is the newest and the new one is the draft
 pub shown-before-the-cut : T (commit-works (blank 19) begin begun_history before-the-cut 8 (old-page ∷ []) new-page)
@@ -182,13 +182,13 @@ unfolding large-table
 large = puts (blank 27) 0 (plain (own_sector large-table 0) ∷ plain (own_sector large-table 1) ∷ plain (icb large-table (0 ∷ 1 ∷ []) no_stamp 2) ∷ [])
 
 unfoldable pub before-the-large-cut : List Event
-before-the-large-cut = calls (write (some 0) (block 5)) [] ∷ calls close_packet [] ∷ []
+before-the-large-cut = calls (write (Some 0) (block 5)) [] ∷ calls close_packet [] ∷ []
 
 unfoldable pub large-page : Snapshot
 large-page = replicate 504 unused_entry
 
 unfoldable pub next-large-page : Snapshot
-next-large-page = shows 10 (some (block 5)) ∷ replicate 503 unused_entry
+next-large-page = shows 10 (Some (block 5)) ∷ replicate 503 unused_entry
 
 pub shown-before-the-large-cut : T (commit-works large mount (mounted_history large) before-the-large-cut 10 (large-page ∷ []) next-large-page)
 unfolding commit-works large before-the-large-cut large-page next-large-page
@@ -196,7 +196,7 @@ shown-before-the-large-cut = tt
 
 -- and for each j alone, worked out, of the first of these commits: the history after the cut has these pages, and mount finds a table of the newest one's size
 abbrev cut_after : ℕ → Event
-cut_after j = cuts (commit none) [] j (some (block 9))
+cut_after j = cuts (commit None) [] j (Some (block 9))
 
 unfoldable pub finds : World → History → List Snapshot → Bool
 finds w h ps = same-pages h.pages ps && eqb (unpack (after w.disc full mount).ledger).size (length (get_or ps 0 []))

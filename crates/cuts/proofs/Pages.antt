@@ -3,7 +3,7 @@
 use Prim.Native.Nat.{ℕ, ◌+◌, ◌*◌}
 use mathlib.Core.Bool.{Bool, true, false, ◌&&◌}
 use mathlib.Core.List.{List, [], ◌∷◌}
-use mathlib.Core.Option.{none, some}
+use Rattle.std.specs.Prelude.{None, Some}
 use mathlib.Core.Path.{◌≡◌, refl, sym, ap, ap₂, subst, subst₂}
 use lib.Dec.{T, eqb, leb, eqb→eq}
 use Rattle.disc.specs.Disc.{Disc}
@@ -22,8 +22,8 @@ use Rattle.bench.proofs.Starred.{block, same_bytes, full}
 -- The answer of a read and the block that it leaves are what the entry says.
 unfoldable pub reads_as : ℕ → List ℕ → Entry → Bool
 reads_as answer buffer unused_entry = eqb answer (10 * 4294967296)
-reads_as answer buffer (shows b (some bytes)) = eqb answer 0 && same buffer bytes
-reads_as answer buffer (shows b none) = eqb answer (11 * 4294967296)
+reads_as answer buffer (shows b (Some bytes)) = eqb answer 0 && same buffer bytes
+reads_as answer buffer (shows b None) = eqb answer (11 * 4294967296)
 
 unfoldable pub reads-page : Disc → List ℕ → ℕ → Snapshot → Bool
 reads-page d l n [] = eqb (unpack l).size n
@@ -112,10 +112,10 @@ unfoldable pub same-entry : Entry → Entry → Bool
 same-entry unused_entry unused_entry = true
 same-entry unused_entry (shows b c) = false
 same-entry (shows b c) unused_entry = false
-same-entry (shows b none) (shows b' none) = eqb b b'
-same-entry (shows b none) (shows b' (some y)) = false
-same-entry (shows b (some x)) (shows b' none) = false
-same-entry (shows b (some x)) (shows b' (some y)) = eqb b b' && same x y
+same-entry (shows b None) (shows b' None) = eqb b b'
+same-entry (shows b None) (shows b' (Some y)) = false
+same-entry (shows b (Some x)) (shows b' None) = false
+same-entry (shows b (Some x)) (shows b' (Some y)) = eqb b b' && same x y
 
 unfoldable pub same-page : Snapshot → Snapshot → Bool
 same-page [] [] = true
@@ -134,12 +134,12 @@ unfolding same-entry
 entry-same unused_entry unused_entry t = refl
 entry-same unused_entry (shows b c) t = absurd t
 entry-same (shows b c) unused_entry t = absurd t
-entry-same (shows b none) (shows b' none) t = ap (λ (x : ℕ). shows x none) (eqb→eq b b' t)
-entry-same (shows b none) (shows b' (some y)) t = absurd t
-entry-same (shows b (some x)) (shows b' none) t = absurd t
-entry-same (shows b (some x)) (shows b' (some y)) t =
+entry-same (shows b None) (shows b' None) t = ap (λ (x : ℕ). shows x None) (eqb→eq b b' t)
+entry-same (shows b None) (shows b' (Some y)) t = absurd t
+entry-same (shows b (Some x)) (shows b' None) t = absurd t
+entry-same (shows b (Some x)) (shows b' (Some y)) t =
     let s = both (eqb b b') (same x y) t in
-    ap₂ (λ (z : ℕ) (zs : List ℕ). shows z (some zs)) (eqb→eq b b' s.0) (same_bytes x y s.1)
+    ap₂ (λ (z : ℕ) (zs : List ℕ). shows z (Some zs)) (eqb→eq b b' s.0) (same_bytes x y s.1)
 
 pub page-same : (p q : Snapshot) → T (same-page p q) → p ≡ q
 unfolding same-page

@@ -6,7 +6,7 @@
 use Prim.Native.Nat.{ℕ, zero, suc, ◌+◌, ◌*◌}
 use mathlib.Core.Bool.{Bool, true, not, ◌&&◌}
 use mathlib.Core.List.{List, [], ◌∷◌, ◌++◌}
-use mathlib.Core.Option.{none, some}
+use Rattle.std.specs.Prelude.{None, Some}
 use mathlib.Core.Path.{◌≡◌, refl, sym, ap, ◌∙◌}
 use lib.Dec.{T, eqb, leb, eqb→eq}
 use lib.ListN.{length}
@@ -170,12 +170,12 @@ module _ (n : ℕ) (es later : List Event) (m : ℕ) (xs : List Look) (t : T (vi
 -- a run of a block and three bytes more, its entry at block 2, and number 1, which is no entry
 unfoldable pub run-saved : List Event
 run-saved =
-    calls (write none (block 5)) [] ∷ calls (write none (block 6)) []
-    ∷ calls (write (some 0) (entry (extent 2048 0 ∷ extent 3 1 ∷ []) 2)) [] ∷ calls (write (some 1) (block 7)) [] ∷ calls (commit none) []
+    calls (write None (block 5)) [] ∷ calls (write None (block 6)) []
+    ∷ calls (write (Some 0) (entry (extent 2048 0 ∷ extent 3 1 ∷ []) 2)) [] ∷ calls (write (Some 1) (block 7)) [] ∷ calls (commit None) []
     ∷ []
 
 unfoldable pub saved-again : List Event
-saved-again = calls (write (some 0) (block 8)) [] ∷ calls (commit none) [] ∷ cuts (commit none) [] 0 (some (block 9)) ∷ []
+saved-again = calls (write (Some 0) (block 8)) [] ∷ calls (commit None) [] ∷ cuts (commit None) [] 0 (Some (block 9)) ∷ []
 
 -- across the two extents, past the run's end, at it, behind it; of number 1, and of a number that is not in use
 unfoldable pub looks : List Look

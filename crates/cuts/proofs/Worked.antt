@@ -8,7 +8,7 @@ use Prim.Native.Nat.{ℕ, zero, suc, ◌≤◌}
 use native.Mathlib.Omega.{arith}
 use mathlib.Core.Bool.{Bool, true, false, ◌&&◌, ◌||◌, not}
 use mathlib.Core.List.{List, [], ◌∷◌}
-use mathlib.Core.Option.{Option, none, some}
+use Rattle.std.specs.Prelude.{Option, None, Some}
 use mathlib.Core.Path.{◌≡◌, refl, sym, ap, ◌∙◌, subst, subst₂}
 use lib.Dec.{T, eqb, leb, eqb→eq, leb→le}
 use lib.ListN.{length}
@@ -32,26 +32,26 @@ pub record Kept : Type 0 where
   pub state : Volume
 
 abbrev pub Matches : Option (List ℕ) → Option Kept → Type 0
-Matches none none = Unit
-Matches none (some k) = ⊥
-Matches (some l) none = ⊥
-Matches (some l) (some k) = Holds l k.long k.state
+Matches None None = Unit
+Matches None (Some k) = ⊥
+Matches (Some l) None = ⊥
+Matches (Some l) (Some k) = Holds l k.long k.state
 
 -- What a call is lent, and what is at hand behind it.
 abbrev pub lent_to : Option Kept → List ℕ → Kept
-lent_to none junk = record { long = ledger_lent junk; state = unpack junk }
-lent_to (some k) junk = k
+lent_to None junk = record { long = ledger_lent junk; state = unpack junk }
+lent_to (Some k) junk = k
 
 abbrev kept_after : Bool → ℕ → Option Kept → Kept → Option Kept
 kept_after true n before left = before
-kept_after false zero before left = some left
+kept_after false zero before left = Some left
 kept_after false (suc n) before left = before
 
 pub lent-holds : (o : Option (List ℕ)) (k : Option Kept) (junk : List ℕ) → Matches o k → Holds (ledger_held o junk) (lent_to k junk).long (lent_to k junk).state
-lent-holds none none junk m = holds-own junk
-lent-holds none (some k) junk m = absurd m
-lent-holds (some l) none junk m = absurd m
-lent-holds (some l) (some k) junk m = m
+lent-holds None None junk m = holds-own junk
+lent-holds None (Some k) junk m = absurd m
+lent-holds (Some l) None junk m = absurd m
+lent-holds (Some l) (Some k) junk m = m
 
 matches-after : (t : Bool) (n : ℕ) (o : Option (List ℕ)) (k : Option Kept) (l : List ℕ) (left : Kept) → Matches o k → Holds l left.long left.state
     → Matches (ledger_after t n o l) (kept_after t n k left)
@@ -63,23 +63,23 @@ matches-after false (suc n) o k l left m h = m
 
 -- With a state at hand every call may follow; with none, what is refused or only tells, and what makes one.
 unfoldable pub follows : Option Kept → ℕ → Call → Bool
-follows (some k) n c = true
-follows none n c = not (eqb n 0) || (only_tells c || restores c)
+follows (Some k) n c = true
+follows None n c = not (eqb n 0) || (only_tells c || restores c)
 
 -- A struck sector has 2,048 bytes.
 unfoldable pub struck : Option (List ℕ) → Bool
-struck none = true
-struck (some bytes) = eqb (length bytes) 2048
+struck None = true
+struck (Some bytes) = eqb (length bytes) 2048
 
-pub some-none : {l : List ℕ} → ◌≡◌ {A = Option (List ℕ)} (some l) none → ⊥
+pub some-none : {l : List ℕ} → ◌≡◌ {A = Option (List ℕ)} (Some l) None → ⊥
 some-none e = let z : ◌≡◌ {A = ℕ} 0 1 = cc in omega arith
 
 following : (o : Option (List ℕ)) (k : Option Kept) → Matches o k → (d : Disc) (c : Call) (junk : List ℕ) (n : ℕ) → outcome d (ledger_held o junk) c ≡ n
-    → T (follows k n c) → o ≡ none → CountsAsDone d junk c → restores c ≡ true
+    → T (follows k n c) → o ≡ None → CountsAsDone d junk c → restores c ≡ true
 unfolding follows
-following (some l) k m d c junk n e t lost done = absurd (some-none lost)
-following none (some k) m d c junk n e t lost done = absurd m
-following none none m d c junk n e t lost done =
+following (Some l) k m d c junk n e t lost done = absurd (some-none lost)
+following None (Some k) m d c junk n e t lost done = absurd m
+following None None m d c junk n e t lost done =
     holds (restores c) (subst (λ (u : Bool). T (u || restores c)) done.1 (subst (λ (i : ℕ). T (not (eqb i 0) || (only_tells c || restores c))) (sym e ∙ done.0) t))
   where
     holds : (t : Bool) → T t → t ≡ true
@@ -88,8 +88,8 @@ following none none m d c junk n e t lost done =
 
 struck-long : (tear : Option (List ℕ)) → T (struck tear) → Torn tear
 unfolding struck
-struck-long none t = tt
-struck-long (some bytes) t = eqb→eq (length bytes) 2048 t
+struck-long None t = tt
+struck-long (Some bytes) t = eqb→eq (length bytes) 2048 t
 
 -- ---- a list
 
@@ -113,7 +113,7 @@ played ok d k h (cuts c junk j tear ∷ es) =
     let m : Kept = lent_to k junk in
     let n : ℕ = outcome_of d m.long m.state c in
     let ss : List Sector = sectors_if n (doing d m.state c).sectors in
-    played (ok && (follows k n c && (leb j (length ss) && struck tear))) (cut_disc d ss j tear) none (feed h (cut_if (saves c) (told c) (eqb n 0 && eqb j (length ss)))) es
+    played (ok && (follows k n c && (leb j (length ss) && struck tear))) (cut_disc d ss j tear) None (feed h (cut_if (saves c) (told c) (eqb n 0 && eqb j (length ss)))) es
 
 -- What the working out says of the world and the history that the list leaves.
 pub record So (w : World) (h : History) (es : List Event) (p : Played) : Type 0 where
@@ -139,7 +139,7 @@ allowed-before (cuts c junk j tear ∷ es) ok d k h t =
     let n : ℕ = outcome_of d m.long m.state c in
     let ss : List Sector = sectors_if n (doing d m.state c).sectors in
     let now : Bool = follows k n c && (leb j (length ss) && struck tear) in
-    (both ok now (allowed-before es (ok && now) (cut_disc d ss j tear) none (feed h (cut_if (saves c) (told c) (eqb n 0 && eqb j (length ss)))) t)).0
+    (both ok now (allowed-before es (ok && now) (cut_disc d ss j tear) None (feed h (cut_if (saves c) (told c) (eqb n 0 && eqb j (length ss)))) t)).0
 
 pub played-so : (es : List Event) (ok : Bool) (k : Option Kept) (h : History) (w : World) → Matches w.ledger k → T (played ok w.disc k h es).allowed
     → So w h es (played ok w.disc k h es)
@@ -185,14 +185,14 @@ played-so (cuts c junk j tear ∷ es) ok k h w m t =
     let w' : World = next w (cuts c junk j tear) in
     let g : History = feed h (fed w (cuts c junk j tear)) in
     let held : Holds l q.long q.state = lent-holds w.ledger k junk m in
-    let fine = both (follows k n c) (leb j (length ss) && struck tear) (both ok now (allowed-before es (ok && now) (cut_disc d ss j tear) none h' t)).1 in
+    let fine = both (follows k n c) (leb j (length ss) && struck tear) (both ok now (allowed-before es (ok && now) (cut_disc d ss j tear) None h' t)).1 in
     let more = both (leb j (length ss)) (struck tear) fine.1 in
     let outcomes : outcome d l c ≡ n = outcome-same d l c held in
     let sectors : sectors_of d l c ≡ ss = sectors-same d l c held in
-    let rest : So w' g es (played (ok && now) (cut_disc d ss j tear) none h' es) =
-    subst₂ (λ (e : Disc) (f : History). T (played (ok && now) e none f es).allowed → So w' g es (played (ok && now) e none f es))
+    let rest : So w' g es (played (ok && now) (cut_disc d ss j tear) None h' es) =
+    subst₂ (λ (e : Disc) (f : History). T (played (ok && now) e None f es).allowed → So w' g es (played (ok && now) e None f es))
     (ap (λ (xs : List Sector). cut_disc d xs j tear) sectors) (λ i. feed h (cut_if (saves c) (told c) (eqb (outcomes i) 0 && eqb j (length (sectors i)))))
-    (played-so es (ok && now) none g w' tt) t in
+    (played-so es (ok && now) None g w' tt) t in
     record {
       allowed = (
         (following w.ledger k m d c junk n outcomes fine.0, subst (λ (xs : List Sector). j ≤ length xs) (sym sectors) (leb→le j (length ss) more.0), struck-long tear more.1),
@@ -216,7 +216,7 @@ unfoldable pub played-from : Disc → Call → History → List Event → Played
 unfolding played
 played-from d c h es =
     let s : Step = step d (ledger_lent full) (unpack full) c in
-    played (s.held && eqb (outcome_of d (ledger_lent full) (unpack full) c) 0) s.disc (some (record { long = s.long; state = s.state })) h es
+    played (s.held && eqb (outcome_of d (ledger_lent full) (unpack full) c) 0) s.disc (Some (record { long = s.long; state = s.state })) h es
 
 module _ (d : Disc) (c : Call) (h : History) (es : List Event) (t : T (played-from d c h es).allowed) where
   abbrev s : Step
@@ -226,7 +226,7 @@ module _ (d : Disc) (c : Call) (h : History) (es : List Event) (t : T (played-fr
   ok = s.held && eqb (outcome_of d (ledger_lent full) (unpack full) c) 0
 
   abbrev k : Option Kept
-  k = some (record { long = s.long; state = s.state })
+  k = Some (record { long = s.long; state = s.state })
 
   fine : T s.held × T (eqb (outcome_of d (ledger_lent full) (unpack full) c) 0)
   unfolding played-from

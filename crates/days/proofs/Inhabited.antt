@@ -5,7 +5,7 @@ use Prim.Native.Nat.{ℕ, ◌+◌, ◌*◌, ◌≤◌, ◌<◌}
 use native.Mathlib.Omega.{arith}
 use mathlib.Core.Bool.{Bool, true, false}
 use mathlib.Core.List.{List, [], ◌∷◌, ◌++◌}
-use mathlib.Core.Option.{none, some}
+use Rattle.std.specs.Prelude.{None, Some}
 use mathlib.Core.Path.{◌≡◌, refl, sym, ◌∙◌, subst}
 use lib.Dec.{T, eqb, ltb, eqb→eq, ltb→lt}
 use lib.ListN.{length, replicate, length-replicate}
@@ -36,17 +36,17 @@ fresh n = record { answer = 0; disc = blank n; roles = replicate n 6; ledger = f
 
 -- a save, a second one behind links, and a third in which the number is released
 abbrev pub save : List Call
-save = opening true ∷ write (some 0) (block 1) ∷ commit none ∷ []
+save = opening true ∷ write (Some 0) (block 1) ∷ commit None ∷ []
 
 abbrev pub save-again : List Call
-save-again = write (some 0) (block 2) ∷ close_packet ∷ commit none ∷ []
+save-again = write (Some 0) (block 2) ∷ close_packet ∷ commit None ∷ []
 
 abbrev pub save-released : List Call
-save-released = opening false ∷ release 0 ∷ commit none ∷ []
+save-released = opening false ∷ release 0 ∷ commit None ∷ []
 
 -- a save with a time, and a run of two blocks
 abbrev pub save-at : List Call
-save-at = opening true ∷ write (some 0) (block 1) ∷ commit (some (stamp 60 1970 1 1 0 30)) ∷ []
+save-at = opening true ∷ write (Some 0) (block 1) ∷ commit (Some (stamp 60 1970 1 1 0 30)) ∷ []
 
 abbrev pub stored : List Call
 stored = storing (fresh 20) true 0 (block 1) (block 2 ∷ []) 2051
@@ -86,8 +86,8 @@ run-stored = ltb→lt (day (fresh 20) stored).answer 4294967296 storing-done
 pub saved-twice : AllDone (fresh 39) (save ++ save-again)
 saved-twice = part-done (save ++ save-again) save-released (fresh 39) saved-thrice
 
-pub saved-once : AllDone (fresh 39) (save ++ (write (some 0) (block 2) ∷ []))
-saved-once = part-done (save ++ (write (some 0) (block 2) ∷ [])) (close_packet ∷ commit none ∷ []) (fresh 39) saved-twice
+pub saved-once : AllDone (fresh 39) (save ++ (write (Some 0) (block 2) ∷ []))
+saved-once = part-done (save ++ (write (Some 0) (block 2) ∷ [])) (close_packet ∷ commit None ∷ []) (fresh 39) saved-twice
 
 -- ---- behind any calls that are done
 
@@ -96,7 +96,7 @@ module _ (x : Day) (cs : List Call) (done : AllDone x cs) (c : Call) where
   d = (day x cs).disc
 
   -- the call is cut before its first sector, which stays blank
-  pub cut-at-once : (left : Disc) × CutBehind x cs c 0 none left
+  pub cut-at-once : (left : Disc) × CutBehind x cs c 0 None left
   cut-at-once = (_, record { all_done = done; within = omega arith; one-sector = tt; is-left = refl })
 
   -- the program is stopped before it stores, and after it stored all

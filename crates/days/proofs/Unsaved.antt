@@ -5,7 +5,7 @@ use Prim.Native.Nat.{ℕ, zero, suc}
 use native.Mathlib.Omega.{arith}
 use mathlib.Core.Bool.{Bool, true, false, ◌&&◌}
 use mathlib.Core.List.{List, [], ◌∷◌}
-use mathlib.Core.Option.{none, some}
+use Rattle.std.specs.Prelude.{None, Some}
 use mathlib.Core.Path.{◌≡◌, refl, ap, ◌∙◌}
 use lib.Dec.{eqb, ltb}
 use lib.ListN.{length}
@@ -29,13 +29,13 @@ use Rattle.days.proofs.Inhabited.{fresh, save, saved-once}
 
 -- a commit that is cut before its first sector, and one that is refused, since no byte of a ledger is lent
 abbrev cut-and-refused : List Event
-cut-and-refused = cuts (commit none) [] 0 none ∷ calls (commit none) [] ∷ []
+cut-and-refused = cuts (commit None) [] 0 None ∷ calls (commit None) [] ∷ []
 
 abbrev pub cut-save : List Event
-cut-save = calls (write (some 0) (block 2)) [] ∷ calls close_packet [] ∷ cut-and-refused
+cut-save = calls (write (Some 0) (block 2)) [] ∷ calls close_packet [] ∷ cut-and-refused
 
-refused : (d : Disc) → outcome d [] (commit none) ≡ 0 → ⊥
-refused d e = let z : ◌≡◌ {A = ℕ} 0 ledger_length = ledger-accepted d [] (commit none) e in omega (arith, z)
+refused : (d : Disc) → outcome d [] (commit None) ≡ 0 → ⊥
+refused d e = let z : ◌≡◌ {A = ℕ} 0 ledger_length = ledger-accepted d [] (commit None) e in omega (arith, z)
 
 -- ---- what leaves the pages
 
@@ -51,12 +51,12 @@ call-leaves w c same h =
     go zero second same = same refl h second
     go (suc n) second same = refl
 
-cut-leaves : (w : World) (h : History) → (feed h (fed w (cuts (commit none) [] 0 none))).pages ≡ h.pages
+cut-leaves : (w : World) (h : History) → (feed h (fed w (cuts (commit None) [] 0 None))).pages ≡ h.pages
 unfolding fed
 cut-leaves w h =
     let l : List ℕ = ledger_held w.ledger [] in
-    ap (λ (g : History). g.pages) (cut-history w.disc l h (commit none) 0)
-    ∙ ap (λ (t : Bool). saved_if t h.draft h.pages) (none_kept (length (sectors_of w.disc l (commit none))))
+    ap (λ (g : History). g.pages) (cut-history w.disc l h (commit None) 0)
+    ∙ ap (λ (t : Bool). saved_if t h.draft h.pages) (none_kept (length (sectors_of w.disc l (commit None))))
   where
     none_kept : (n : ℕ) → (ltb 0 n && eqb 0 n) ≡ false
     none_kept zero = refl
@@ -75,44 +75,44 @@ none_made (e ∷ es) w each h = none_made es (next w e) each.1 (feed h (fed w e)
 -- ---- behind any day, and so behind the first save
 
 -- a call leaves a ledger where there was one
-still-held : (w : World) (c : Call) → (w.ledger ≡ none → ⊥) → (next w (calls c [])).ledger ≡ none → ⊥
+still-held : (w : World) (c : Call) → (w.ledger ≡ None → ⊥) → (next w (calls c [])).ledger ≡ None → ⊥
 unfolding next
 still-held w c held =
     let l : List ℕ = ledger_held w.ledger [] in
     go (only_tells c) (outcome w.disc l c) (after w.disc l c).ledger
   where
-    go : (tells : Bool) (n : ℕ) (left : List ℕ) → ledger_after tells n w.ledger left ≡ none → ⊥
+    go : (tells : Bool) (n : ℕ) (left : List ℕ) → ledger_after tells n w.ledger left ≡ None → ⊥
     go true n left = held
     go false zero left = not-lost left
     go false (suc n) left = held
 
 module _ (x : Day) where
   abbrev written : World
-  written = next (world x) (calls (write (some 0) (block 2)) [])
+  written = next (world x) (calls (write (Some 0) (block 2)) [])
 
   abbrev closed : World
   closed = next written (calls close_packet [])
 
   abbrev cut : World
-  cut = next closed (cuts (commit none) [] 0 none)
+  cut = next closed (cuts (commit None) [] 0 None)
 
   allowed : AllAllowed (world x) cut-save
   unfolding AllAllowed
   allowed =
-      let held : (world x).ledger ≡ none → ⊥ = not-lost x.ledger in
-      let written_held : written.ledger ≡ none → ⊥ = still-held (world x) (write (some 0) (block 2)) held in
-      let closed-held : closed.ledger ≡ none → ⊥ = still-held written close_packet written_held in
+      let held : (world x).ledger ≡ None → ⊥ = not-lost x.ledger in
+      let written_held : written.ledger ≡ None → ⊥ = still-held (world x) (write (Some 0) (block 2)) held in
+      let closed-held : closed.ledger ≡ None → ⊥ = still-held written close_packet written_held in
       let rest : AllAllowed closed cut-and-refused = ((λ lost. absurd (closed-held lost), omega arith, tt), (λ lost done. absurd (refused cut.disc done.0), tt)) in
       (λ lost. absurd (held lost), (λ lost. absurd (written_held lost), rest))
 
   no-save : NoSave (world x) cut-save
   unfolding next
   no-save =
-      let rest : EachLeaves closed cut-and-refused = (cut-leaves closed, (call-leaves cut (commit none) (λ done. absurd (refused cut.disc done)), tt)) in
-      none_made cut-save (world x) (call-leaves (world x) (write (some 0) (block 2)) (λ done h second. refl), (call-leaves written close_packet (λ done h second. refl), rest))
+      let rest : EachLeaves closed cut-and-refused = (cut-leaves closed, (call-leaves cut (commit None) (λ done. absurd (refused cut.disc done)), tt)) in
+      none_made cut-save (world x) (call-leaves (world x) (write (Some 0) (block 2)) (λ done h second. refl), (call-leaves written close_packet (λ done h second. refl), rest))
 
 abbrev saved-day : Day
 saved-day = day (fresh 39) save
 
 pub unsaved : AllDone (fresh 39) save × AllAllowed (world saved-day) cut-save × NoSave (world saved-day) cut-save
-unsaved = (part-done save (write (some 0) (block 2) ∷ []) (fresh 39) saved-once, allowed saved-day, no-save saved-day)
+unsaved = (part-done save (write (Some 0) (block 2) ∷ []) (fresh 39) saved-once, allowed saved-day, no-save saved-day)

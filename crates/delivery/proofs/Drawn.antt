@@ -4,7 +4,7 @@ use Prim.Native.Nat.{ℕ, ◌+◌, ◌≤◌, ◌<◌}
 use mathlib.Core.Bool.{true}
 use mathlib.Core.List.{List, []}
 use mathlib.Core.Logic.{◌⊎◌}
-use mathlib.Core.Option.{some}
+use Rattle.std.specs.Prelude.{Some}
 use mathlib.Core.Path.{◌≡◌, ap}
 use lib.ListN.{length, get_or}
 use Rattle.vat.specs.Table.{unused}
@@ -37,7 +37,7 @@ module _ (d : Disc) (l : List ℕ) (e : outcome d l mount ≡ 0) (es : List Even
   looks-back m long k below n = ((delivered.power-cuts.after-mount d l e es a).looks m long k below).showing.entry n
 
   -- a closing that is done closes the disc, which mounts clean
-  pub closes : (m : List ℕ) → w.ledger ≡ some m → (main reserve : Extent) (start : ℕ) → outcome w.disc m (close_session main reserve start) ≡ 0
+  pub closes : (m : List ℕ) → w.ledger ≡ Some m → (main reserve : Extent) (start : ℕ) → outcome w.disc m (close_session main reserve start) ≡ 0
       → let left : Disc = (after w.disc m (close_session main reserve start)).disc in
       (session_closed left ≡ true) × ((held : List ℕ) → length held ≡ 16364 → (after left held mount).answer ≡ 1)
   closes m here main reserve start c =

@@ -7,7 +7,7 @@ use native.Mathlib.Omega.{arith}
 use mathlib.Core.Path.{◌≡◌, refl, sym, ap, ap₂, ◌∙◌}
 use mathlib.Core.Bool.{Bool, true, false, ◌&&◌, not, and_assoc}
 use mathlib.Core.List.{List, [], ◌∷◌}
-use mathlib.Core.Option.{Option, none, some}
+use Rattle.std.specs.Prelude.{Option, None, Some}
 use lib.Dec.{eqb, ltb, lit≤}
 use lib.ListN.{length, get_or, take, drop, length-drop}
 use lib.Seq.{length-take-le, drop-drop}
@@ -20,8 +20,9 @@ use Rattle.timestamp.specs.Timestamp.{stamp_length}
 use Rattle.tag.specs.Tag.{sealed}
 use Rattle.vat.specs.Table.{sector_length, unused, unused_or_below, Lower, own_of, framed, modified_at, modified_of, laid, table_of, entries_of, enclosed, listed, is_table}
 use Rattle.vat.proofs.Frame.{untagged-frame}
-use Rattle.disc.specs.declared.Walk.{Walk}
-use Rattle.disc.specs.declared.Walk.TheVariants.{Reached, Broken, Ended}
+use Rattle.disc.specs.Tables.{Walk}
+use Rattle.std.specs.Prelude.{Ok, Err}
+use Rattle.disc.specs.declared.Stop.TheVariants.{Broken, Ended}
 use Rattle.disc.specs.Disc.{Disc, recorded, kind_at, sector_at}
 use Rattle.disc.specs.Tables.{below, table_at, time_at, found, newest_below, newest, stepped, walk}
 use Rattle.le.proofs.Halves.{and-false}
@@ -32,28 +33,28 @@ use Rattle.disc.proofs.Recording.{Sized, Sound, blank-kind, kind-recorded}
 pub table-recorded : (d : Disc) → Sound d → (b : ℕ) → table_at d b ≡ true → b < recorded d
 table-recorded d ok b e = kind-recorded d ok b (λ z. let one : kind_at d b ≡ 1 = data-kind d b e in omega arith)
 
-pub newest-table : (table : ℕ → Bool) (n b : ℕ) → newest_below table n ≡ some b → table b ≡ true
+pub newest-table : (table : ℕ → Bool) (n b : ℕ) → newest_below table n ≡ Some b → table b ≡ true
 unfolding newest_below
 newest-table table zero b e = absurd (let z : ◌≡◌ {A = ℕ} 0 1 = cc in omega arith)
 newest-table table (suc n) b e = go (table n) refl e (newest-table table n b)
   where
-    go : (t : Bool) → table n ≡ t → found t n (newest_below table n) ≡ some b → (newest_below table n ≡ some b → table b ≡ true) → table b ≡ true
+    go : (t : Bool) → table n ≡ t → found t n (newest_below table n) ≡ Some b → (newest_below table n ≡ Some b → table b ≡ true) → table b ≡ true
     go true h e ih = let same : n ≡ b = cc in ap table (sym same) ∙ h
     go false h e ih = ih e
 
-pub newest-below : (table : ℕ → Bool) (n b : ℕ) → newest_below table n ≡ some b → b < n
+pub newest-below : (table : ℕ → Bool) (n b : ℕ) → newest_below table n ≡ Some b → b < n
 unfolding newest_below
 newest-below table zero b e = absurd (let z : ◌≡◌ {A = ℕ} 0 1 = cc in omega arith)
 newest-below table (suc n) b e = go (table n) e (newest-below table n b)
   where
-    go : (t : Bool) → found t n (newest_below table n) ≡ some b → (newest_below table n ≡ some b → b < n) → b < suc n
+    go : (t : Bool) → found t n (newest_below table n) ≡ Some b → (newest_below table n ≡ Some b → b < n) → b < suc n
     go true e ih = let same : n ≡ b = cc in omega arith
     go false e ih = let low : b < n = ih e in omega arith
 
 -- where the tables end that a search looks for
 abbrev pub end_of : Option ℕ → ℕ
-end_of none = 0
-end_of (some b) = b + 1
+end_of None = 0
+end_of (Some b) = b + 1
 
 pub newest-ends : (table : ℕ → Bool) (n b : ℕ) → end_of (newest_below table n) ≤ b → b < n → table b ≡ false
 unfolding newest_below
@@ -68,7 +69,7 @@ newest-ends table (suc n) b high low = go (table n) refl high (newest-ends table
 
 -- none stands behind what is recorded, nor behind the newest
 pub none-recorded : (d : Disc) → Sound d → (b : ℕ) → recorded d ≤ b → table_at d b ≡ false
-none-recorded d ok b h = other-kind d b (λ one. let none : kind_at d b ≡ 0 = blank-kind d.kinds (recorded d) b ok.blank h in omega arith)
+none-recorded d ok b h = other-kind d b (λ one. let blank : kind_at d b ≡ 0 = blank-kind d.kinds (recorded d) b ok.blank h in omega arith)
 
 pub none-newer : (d : Disc) → Sound d → (b : ℕ) → end_of (newest d) ≤ b → table_at d b ≡ false
 none-newer d ok b h = go (ltb b (recorded d)) refl
@@ -77,13 +78,13 @@ none-newer d ok b h = go (ltb b (recorded d)) refl
     go true e = newest-ends (table_at d) (recorded d) b h (ltb-true b (recorded d) e)
     go false e = none-recorded d ok b (ltb-false b (recorded d) e)
 
-pub walk-table : (table : ℕ → Bool) (previous : ℕ → ℕ) (k b t : ℕ) → walk table previous k b ≡ Reached t → table b ≡ true → table t ≡ true
+pub walk-table : (table : ℕ → Bool) (previous : ℕ → ℕ) (k b t : ℕ) → walk table previous k b ≡ Ok t → table b ≡ true → table t ≡ true
 unfolding walk
 walk-table table previous zero b t e h = let same : b ≡ t = cc in ap table (sym same) ∙ h
 walk-table table previous (suc k) b t e h = go (eqb (previous b) unused) (table (previous b)) refl e (walk-table table previous k (previous b) t)
   where
-    go : (u p : Bool) → table (previous b) ≡ p → stepped u p (walk table previous k (previous b)) ≡ Reached t
-        → (walk table previous k (previous b) ≡ Reached t → table (previous b) ≡ true → table t ≡ true) → table t ≡ true
+    go : (u p : Bool) → table (previous b) ≡ p → stepped u p (walk table previous k (previous b)) ≡ Ok t
+        → (walk table previous k (previous b) ≡ Ok t → table (previous b) ≡ true → table t ≡ true) → table t ≡ true
     go true p h e ih = absurd (let z : ◌≡◌ {A = ℕ} 0 1 = cc in omega arith)
     go false false h e ih = absurd (let z : ◌≡◌ {A = ℕ} 0 1 = cc in omega arith)
     go false true h e ih = ih e h
@@ -131,7 +132,7 @@ beyond-kind (k ∷ ks) zero h = absurd (not-suc-le-zero h)
 beyond-kind (k ∷ ks) (suc b) h = beyond-kind ks b (le_of_suc-le-suc h)
 
 pub table-beyond : (d : Disc) (b : ℕ) → length d.kinds ≤ b → table_at d b ≡ false
-table-beyond d b h = other-kind d b (λ one. let none : kind_at d b ≡ 0 = beyond-kind d.kinds b h in omega arith)
+table-beyond d b h = other-kind d b (λ one. let blank : kind_at d b ≡ 0 = beyond-kind d.kinds b h in omega arith)
 
 pub table-within : (d : Disc) (b : ℕ) → table_at d b ≡ true → b < length d.kinds
 table-within d b e = go (ltb b (length d.kinds)) refl
@@ -219,11 +220,11 @@ not-found-here : (table : ℕ → Bool) (b : ℕ) → table b ≡ false → newe
 unfolding newest_below
 not-found-here table b e = rw e
 
-found_here : (table : ℕ → Bool) (b : ℕ) → table b ≡ true → newest_below table (suc b) ≡ some b
+found_here : (table : ℕ → Bool) (b : ℕ) → table b ≡ true → newest_below table (suc b) ≡ Some b
 unfolding newest_below
 found_here table b e = rw e
 
-pub none_below : (table : ℕ → Bool) → newest_below table 0 ≡ none
+pub none_below : (table : ℕ → Bool) → newest_below table 0 ≡ None
 unfolding newest_below
 none_below table = refl
 
@@ -234,11 +235,11 @@ scan-on table (suc b) all h t e =
     let one : suc b - 1 ≡ b = omega arith in
     ap (newest_below table) one ∙ sym (not-found-here table b (ap table (sym one) ∙ t)) ∙ e
 
-pub scan-ends : (table : ℕ → Bool) (b : ℕ) (all : Option ℕ) → 0 < b → table (b - 1) ≡ true → newest_below table b ≡ all → all ≡ some (b - 1)
+pub scan-ends : (table : ℕ → Bool) (b : ℕ) (all : Option ℕ) → 0 < b → table (b - 1) ≡ true → newest_below table b ≡ all → all ≡ Some (b - 1)
 scan-ends table zero all h t e = absurd (not-suc-le-zero h)
 scan-ends table (suc b) all h t e =
     let one : suc b - 1 ≡ b = omega arith in
-    sym e ∙ found_here table b (ap table (sym one) ∙ t) ∙ ap some (sym one)
+    sym e ∙ found_here table b (ap table (sym one) ∙ t) ∙ ap Some (sym one)
 
 -- ---- the search, several blocks further
 
@@ -265,27 +266,26 @@ scan-past table n b all h t e = let back : b - n + n ≡ b = omega arith in sym 
 -- ---- the walk, one step, and one walk after another
 
 module _ (table : ℕ → Bool) (previous : ℕ → ℕ) where
-  pub step-ended : (b : ℕ) → previous b ≡ unused → walk table previous 1 b ≡ Ended
+  pub step-ended : (b : ℕ) → previous b ≡ unused → walk table previous 1 b ≡ Err Ended
   unfolding walk
   step-ended b e = rw (eq-eqb (previous b) unused e)
 
-  pub step-broken : (b : ℕ) → (previous b ≡ unused → ⊥) → table (previous b) ≡ false → walk table previous 1 b ≡ Broken
+  pub step-broken : (b : ℕ) → (previous b ≡ unused → ⊥) → table (previous b) ≡ false → walk table previous 1 b ≡ Err Broken
   unfolding walk
   step-broken b u e = rw (ne_eqb (previous b) unused u, e)
 
-  pub step-reached : (b : ℕ) → (previous b ≡ unused → ⊥) → table (previous b) ≡ true → walk table previous 1 b ≡ Reached (previous b)
+  pub step-reached : (b : ℕ) → (previous b ≡ unused → ⊥) → table (previous b) ≡ true → walk table previous 1 b ≡ Ok (previous b)
   unfolding walk
   step-reached b u e = rw (ne_eqb (previous b) unused u, e)
 
-  pub walk_none : (b : ℕ) → walk table previous 0 b ≡ Reached b
+  pub walk_none : (b : ℕ) → walk table previous 0 b ≡ Ok b
   unfolding walk
   walk_none b = refl
 
   -- a walk goes on where the walk before it came to, or fails with it
   abbrev pub onward : ℕ → Walk → Walk
-  onward k (Reached m) = walk table previous k m
-  onward k Broken = Broken
-  onward k Ended = Ended
+  onward k (Ok m) = walk table previous k m
+  onward k (Err s) = Err s
 
   pub walk-onward : (j k b : ℕ) → walk table previous (j + k) b ≡ onward k (walk table previous j b)
   unfolding walk

@@ -12,7 +12,7 @@ use mathlib.Core.Path.{◌≡◌, refl, sym, ap, ap₂, ◌∙◌, subst}
 use mathlib.Core.Bool.{Bool, true, false, ◌&&◌, false≢true}
 use mathlib.Core.List.{List, [], ◌∷◌}
 use mathlib.Core.Logic.{◌⊎◌, inl, inr}
-use mathlib.Core.Option.{Option, none, some}
+use Rattle.std.specs.Prelude.{Option, None, Some}
 use lib.Dec.{eqb}
 use lib.ListN.{length, take, drop, get_or, length-drop}
 use lib.Seq.{drop-cons, drop_at, drop-drop, take-take, take-add, length-take-le}
@@ -95,10 +95,10 @@ module _ (d : Disc) (o : ℕ) (s : List ℕ) (long : length s ≡ sector_length)
 fresh-long : (rs : List (Option ℕ)) (ss : List (List ℕ)) → AllLong ss → AllLong (fresh rs ss)
 unfolding fresh
 fresh-long [] ss a = tt
-fresh-long (none ∷ rs) [] a = tt
-fresh-long (some o ∷ rs) [] a = tt
-fresh-long (none ∷ rs) (s ∷ ss) a = (a.0, fresh-long rs ss a.1)
-fresh-long (some o ∷ rs) (s ∷ ss) a = fresh-long rs ss a.1
+fresh-long (None ∷ rs) [] a = tt
+fresh-long (Some o ∷ rs) [] a = tt
+fresh-long (None ∷ rs) (s ∷ ss) a = (a.0, fresh-long rs ss a.1)
+fresh-long (Some o ∷ rs) (s ∷ ss) a = fresh-long rs ss a.1
 
 pub plains-whole : (ss : List (List ℕ)) → AllLong ss → AllWhole (plains ss)
 plains-whole [] a = tt
@@ -115,13 +115,13 @@ abbrev AgainStand : Lower → List (Option ℕ) → List (List ℕ) → Type 0
 AgainStand lower [] [] = Unit
 AgainStand lower [] (s ∷ ss) = ⊥
 AgainStand lower (r ∷ rs) [] = ⊥
-AgainStand lower (none ∷ rs) (s ∷ ss) = AgainStand lower rs ss
-AgainStand lower (some o ∷ rs) (s ∷ ss) = (lower o ≡ some s) × AgainStand lower rs ss
+AgainStand lower (None ∷ rs) (s ∷ ss) = AgainStand lower rs ss
+AgainStand lower (Some o ∷ rs) (s ∷ ss) = (lower o ≡ Some s) × AgainStand lower rs ss
 
 -- bytes that fill a sector can only be read where there are some
-pub read-there : (o : Option (List ℕ)) (s : List ℕ) → length s ≡ sector_length → bytes_of o ≡ s → o ≡ some s
-read-there none s long e = absurd (let z : 0 ≡ sector_length = ap length e ∙ long in omega arith)
-read-there (some x) s long e = ap some e
+pub read-there : (o : Option (List ℕ)) (s : List ℕ) → length s ≡ sector_length → bytes_of o ≡ s → o ≡ Some s
+read-there None s long e = absurd (let z : 0 ≡ sector_length = ap length e ∙ long in omega arith)
+read-there (Some x) s long e = ap Some e
 
 again-stand : (lower : Lower) (olds : List ℕ) (ss : List (List ℕ)) → AllLong ss → AgainStand lower (named_again lower olds ss) ss
 unfolding named_again
@@ -136,15 +136,15 @@ again-stand lower (o ∷ os) (s ∷ ss) a = go (same (bytes_of (lower o)) s) ref
 
 -- what a reader reads, another reads too
 abbrev ReadsToo : Lower → Lower → Type 0
-ReadsToo lower lower' = (b : ℕ) (s : List ℕ) → lower b ≡ some s → lower' b ≡ some s
+ReadsToo lower lower' = (b : ℕ) (s : List ℕ) → lower b ≡ Some s → lower' b ≡ Some s
 
 again_kept : (lower lower' : Lower) → ReadsToo lower lower' → (rs : List (Option ℕ)) (ss : List (List ℕ)) → AgainStand lower rs ss → AgainStand lower' rs ss
 again_kept lower lower' k [] [] h = tt
 again_kept lower lower' k [] (s ∷ ss) h = absurd h
-again_kept lower lower' k (none ∷ rs) [] h = absurd h
-again_kept lower lower' k (some o ∷ rs) [] h = absurd h
-again_kept lower lower' k (none ∷ rs) (s ∷ ss) h = again_kept lower lower' k rs ss h
-again_kept lower lower' k (some o ∷ rs) (s ∷ ss) h = (k o s h.0, again_kept lower lower' k rs ss h.1)
+again_kept lower lower' k (None ∷ rs) [] h = absurd h
+again_kept lower lower' k (Some o ∷ rs) [] h = absurd h
+again_kept lower lower' k (None ∷ rs) (s ∷ ss) h = again_kept lower lower' k rs ss h
+again_kept lower lower' k (Some o ∷ rs) (s ∷ ss) h = (k o s h.0, again_kept lower lower' k rs ss h.1)
 
 stand-kept : (lower lower' : Lower) → ReadsToo lower lower' → (bs : List ℕ) (ss : List (List ℕ)) → Stand lower bs ss → Stand lower' bs ss
 stand-kept lower lower' k [] [] h = tt
@@ -159,14 +159,14 @@ own-stand : (rs : List (Option ℕ)) (ss : List (List ℕ)) (d : Disc) → Sound
 unfolding fresh own_blocks puts
 own-stand [] [] d ok a room h = tt
 own-stand [] (s ∷ ss) d ok a room h = absurd h
-own-stand (none ∷ rs) [] d ok a room h = absurd h
-own-stand (some o ∷ rs) [] d ok a room h = absurd h
-own-stand (some o ∷ rs) (s ∷ ss) d ok a room h =
+own-stand (None ∷ rs) [] d ok a room h = absurd h
+own-stand (Some o ∷ rs) [] d ok a room h = absurd h
+own-stand (Some o ∷ rs) (s ∷ ss) d ok a room h =
     let more : List (List ℕ) = fresh rs ss in
     let g : Grew d (puts d (recorded d) (plains more)) (length (plains more)) =
     puts-grew (plains more) d ok (rw (length-plains more) room) (plains-whole more (fresh-long rs ss a.1)) in
     (data-kept d (puts d (recorded d) (plains more)) ok g.kept o s h.0, own-stand rs ss d ok a.1 room h.1)
-own-stand (none ∷ rs) (s ∷ ss) d ok a room h =
+own-stand (None ∷ rs) (s ∷ ss) d ok a room h =
     let here : recorded d < length d.kinds = omega arith in
     let d₁ : Disc = put d (recorded d) (plain s) in
     let r : Recorded d d₁ (plain s) = put-recorded d ok here (plain s) a.0 in
@@ -175,7 +175,7 @@ own-stand (none ∷ rs) (s ∷ ss) d ok a room h =
     let room₁ : recorded d₁ + length more ≤ length d₁.kinds = omega (arith, r.one_more, r.same_length) in
     let g : Grew d₁ (puts d₁ (recorded d₁) (plains more)) (length (plains more)) =
     puts-grew (plains more) d₁ r.still-sound (rw (length-plains more) room₁) (plains-whole more (fresh-long rs ss a.1)) in
-    let at_first : content (puts d₁ (recorded d₁) (plains more)) (recorded d) ≡ some s =
+    let at_first : content (puts d₁ (recorded d₁) (plains more)) (recorded d) ≡ Some s =
     data-kept d₁ (puts d₁ (recorded d₁) (plains more)) r.still-sound g.kept (recorded d) s (plain-reads d ok here s a.0) in
     let behind : Stand (content (puts d₁ (recorded d₁) (plains more))) (own_blocks rs (recorded d₁)) ss =
     own-stand rs ss d₁ r.still-sound a.1 room₁ (again_kept (content d) (content d₁) (data-kept d d₁ ok (one_kept r)) rs ss h) in
@@ -228,10 +228,10 @@ module _ (d₀ d : Disc) (ok₀ : Sound d₀) (ok : Sound d) (kept : SameBelow d
 fresh-most : (rs : List (Option ℕ)) (ss : List (List ℕ)) → length (fresh rs ss) ≤ length ss
 unfolding fresh
 fresh-most [] ss = omega arith
-fresh-most (none ∷ rs) [] = omega arith
-fresh-most (some o ∷ rs) [] = omega arith
-fresh-most (none ∷ rs) (s ∷ ss) = omega (arith, fresh-most rs ss)
-fresh-most (some o ∷ rs) (s ∷ ss) = omega (arith, fresh-most rs ss)
+fresh-most (None ∷ rs) [] = omega arith
+fresh-most (Some o ∷ rs) [] = omega arith
+fresh-most (None ∷ rs) (s ∷ ss) = omega (arith, fresh-most rs ss)
+fresh-most (Some o ∷ rs) (s ∷ ss) = omega (arith, fresh-most rs ss)
 
 pub few-fresh : (d : Disc) (t : List ℕ) (previous : ℕ) → length t ≤ most_bytes → length (fresh_of d t previous) ≤ 8
 unfolding fresh_of
@@ -243,7 +243,7 @@ named-same : (d e : Disc) (olds : List ℕ) (ss : List (List ℕ)) → SameAt d 
 unfolding named_again
 named-same d e [] [] a = refl
 named-same d e (o ∷ os) [] a = refl
-named-same d e [] (s ∷ ss) a = ap (λ (l : List (Option ℕ)). none ∷ l) (named-same d e [] ss tt)
+named-same d e [] (s ∷ ss) a = ap (λ (l : List (Option ℕ)). None ∷ l) (named-same d e [] ss tt)
 named-same d e (o ∷ os) (s ∷ ss) a =
     ap₂ (λ (x : Option (List ℕ)) (l : List (Option ℕ)). again_if (same (bytes_of x) s) o ∷ l) a.0 (named-same d e os ss a.1)
 
@@ -262,39 +262,39 @@ NeitherFrom c (s ∷ ss) = Neither s c × NeitherFrom (suc c) ss
 -- those that are named again stand below block b
 abbrev AgainBelow : ℕ → List (Option ℕ) → Type 0
 AgainBelow b [] = Unit
-AgainBelow b (none ∷ rs) = AgainBelow b rs
-AgainBelow b (some o ∷ rs) = (o < b) × AgainBelow b rs
+AgainBelow b (None ∷ rs) = AgainBelow b rs
+AgainBelow b (Some o ∷ rs) = (o < b) × AgainBelow b rs
 
 again-higher : (b : ℕ) (rs : List (Option ℕ)) → AgainBelow b rs → AgainBelow (suc b) rs
 again-higher b [] h = tt
-again-higher b (none ∷ rs) h = again-higher b rs h
-again-higher b (some o ∷ rs) h = (omega (arith, h.0), again-higher b rs h.1)
+again-higher b (None ∷ rs) h = again-higher b rs h
+again-higher b (Some o ∷ rs) h = (omega (arith, h.0), again-higher b rs h.1)
 
 again-higher-to : (b c : ℕ) (rs : List (Option ℕ)) → b ≤ c → AgainBelow b rs → AgainBelow c rs
 again-higher-to b c [] h a = tt
-again-higher-to b c (none ∷ rs) h a = again-higher-to b c rs h a
-again-higher-to b c (some o ∷ rs) h a = (omega (arith, a.0), again-higher-to b c rs h a.1)
+again-higher-to b c (None ∷ rs) h a = again-higher-to b c rs h a
+again-higher-to b c (Some o ∷ rs) h a = (omega (arith, a.0), again-higher-to b c rs h a.1)
 
 again-below : (d : Disc) → Sound d → (rs : List (Option ℕ)) (ss : List (List ℕ)) → AgainStand (content d) rs ss → AgainBelow (recorded d) rs
 again-below d ok [] [] h = tt
 again-below d ok [] (s ∷ ss) h = absurd h
-again-below d ok (none ∷ rs) [] h = absurd h
-again-below d ok (some o ∷ rs) [] h = absurd h
-again-below d ok (none ∷ rs) (s ∷ ss) h = again-below d ok rs ss h
-again-below d ok (some o ∷ rs) (s ∷ ss) h = (data-recorded d ok o s h.0, again-below d ok rs ss h.1)
+again-below d ok (None ∷ rs) [] h = absurd h
+again-below d ok (Some o ∷ rs) [] h = absurd h
+again-below d ok (None ∷ rs) (s ∷ ss) h = again-below d ok rs ss h
+again-below d ok (Some o ∷ rs) (s ∷ ss) h = (data-recorded d ok o s h.0, again-below d ok rs ss h.1)
 
 -- from own sector i on, which is recorded at block `at` if it is not named again
 from-neither : (t : List ℕ) (r : ℕ) → NeitherOf r t → (m i at : ℕ) (rs : List (Option ℕ)) → r ≤ at → at + m < 4000000 → (i ≡ 0) ⊎ (0 < at) → AgainBelow at rs
     → NeitherFrom at (fresh rs (sectors_of m (drop (sector_length * i) t)))
 unfolding fresh sectors_of
 from-neither t r n m i at [] above low first below = tt
-from-neither t r n zero i at (none ∷ rs) above low first below = tt
-from-neither t r n zero i at (some o ∷ rs) above low first below = tt
-from-neither t r n (suc m) i at (none ∷ rs) above low first below =
-    subst (λ (ss : List (List ℕ)). NeitherFrom at (fresh (none ∷ rs) ss)) (sym (sectors-on m i t))
+from-neither t r n zero i at (None ∷ rs) above low first below = tt
+from-neither t r n zero i at (Some o ∷ rs) above low first below = tt
+from-neither t r n (suc m) i at (None ∷ rs) above low first below =
+    subst (λ (ss : List (List ℕ)). NeitherFrom at (fresh (None ∷ rs) ss)) (sym (sectors-on m i t))
     (n i at above (omega arith) first, from-neither t r n m (suc i) (suc at) rs (omega arith) (omega arith) (inr (omega arith)) (again-higher at rs below))
-from-neither t r n (suc m) i at (some o ∷ rs) above low first below =
-    subst (λ (ss : List (List ℕ)). NeitherFrom at (fresh (some o ∷ rs) ss)) (sym (sectors-on m i t))
+from-neither t r n (suc m) i at (Some o ∷ rs) above low first below =
+    subst (λ (ss : List (List ℕ)). NeitherFrom at (fresh (Some o ∷ rs) ss)) (sym (sectors-on m i t))
     (from-neither t r n m (suc i) at rs above (omega arith) (inr (omega (arith, below.0))) below.1)
 
 none-fresh : (c : ℕ) (rs : List (Option ℕ)) → NeitherFrom c (fresh rs [])

@@ -8,7 +8,7 @@ use native.Mathlib.Numerals.{add-one}
 use native.Mathlib.Omega.{arith}
 use mathlib.Core.Path.{◌≡◌, refl, sym, ap₂, ◌∙◌, subst}
 use mathlib.Core.List.{List, [], ◌∷◌}
-use mathlib.Core.Option.{some}
+use Rattle.std.specs.Prelude.{Some}
 use lib.Dec.{eqb}
 use lib.ListN.{length}
 use borrow.Author.Tests.{lt-ltb}
@@ -48,18 +48,18 @@ puts-grew (s ∷ ss) d ok room w =
 
 -- ---- data
 
-pub data-recorded : (d : Disc) → Sound d → (b : ℕ) (s : List ℕ) → content d b ≡ some s → b < recorded d
+pub data-recorded : (d : Disc) → Sound d → (b : ℕ) (s : List ℕ) → content d b ≡ Some s → b < recorded d
 data-recorded d ok b s e = kind-recorded d ok b (λ z. let one : kind_at d b ≡ 1 = (data-there d b s e).0 in omega arith)
 
-pub data-kept : (d d' : Disc) → Sound d → SameBelow d d' (recorded d) → (b : ℕ) (s : List ℕ) → content d b ≡ some s → content d' b ≡ some s
+pub data-kept : (d d' : Disc) → Sound d → SameBelow d d' (recorded d) → (b : ℕ) (s : List ℕ) → content d b ≡ Some s → content d' b ≡ Some s
 data-kept d d' ok kept b s e = kept b (data-recorded d ok b s e) ∙ e
 
 -- data of a lower block can be read below block c
-pub data-below : (d : Disc) (c b : ℕ) (s : List ℕ) → b < c → content d b ≡ some s → below d c b ≡ some s
+pub data-below : (d : Disc) (c b : ℕ) (s : List ℕ) → b < c → content d b ≡ Some s → below d c b ≡ Some s
 unfolding content
 data-below d c b s h e = rw (lt-ltb b c h) e
 
-pub plain-reads : (d : Disc) → Sound d → recorded d < length d.kinds → (s : List ℕ) → length s ≡ sector_length → content (put d (recorded d) (plain s)) (recorded d) ≡ some s
+pub plain-reads : (d : Disc) → Sound d → recorded d < length d.kinds → (s : List ℕ) → length s ≡ sector_length → content (put d (recorded d) (plain s)) (recorded d) ≡ Some s
 unfolding content
 plain-reads d ok room s w =
     ap₂ (λ (k : ℕ) (t : List ℕ). readable (eqb k 1) t) (put-recorded d ok room (plain s) w).its-kind (plain_here d ok room s w)

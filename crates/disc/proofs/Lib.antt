@@ -8,3 +8,4 @@ pub mod Growing
 pub mod Fresh
 pub mod Forms
 pub mod Planned
+pub mod OwnBytes

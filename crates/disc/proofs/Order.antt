@@ -1,21 +1,25 @@
 -- The kinds in order: what one kind tells of where the blank sectors begin, and that both sides of that place tell whether the kinds are in order.
 -- Assumes nothing.
-use Prim.Native.Nat.{ℕ, zero, suc, ◌+◌, ◌-◌, ◌≤◌, ◌<◌}
+use Prim.Native.Nat.{ℕ, zero, suc, ◌+◌, ◌-◌, ◌%◌, ◌≤◌, ◌<◌, max}
 use native.Mathlib.Nat.{not-suc-le-zero, le_of_suc-le-suc}
-use native.Mathlib.Numerals.{add-one}
 use native.Mathlib.Omega.{arith}
 use mathlib.Core.Path.{◌≡◌, refl, sym, ap, ◌∙◌}
-use mathlib.Core.Bool.{Bool, true, false, ◌&&◌, and_assoc}
+use mathlib.Core.Bool.{Bool, true, false, not, ◌&&◌}
 use mathlib.Core.List.{List, [], ◌∷◌}
+use Rattle.std.proofs.Common.{◌⊎◌, inl, inr}
 use lib.Dec.{eqb, ltb, leb}
-use lib.ListN.{length, get_or, take, drop}
-use lib.Seq.{drop-cons}
-use borrow.Author.Tests.{eq-eqb, ne_eqb, eqb-true, eqb-false, ltb-true, ltb-false, lt-ltb, le-ltb, le-leb, leb-true, leb-false}
+use lib.ListN.{length, get_or, take}
+use Rattle.std.specs.List.Sorted.{IsPartitionPoint, IsPartitionedBy}
+use Rattle.std.proofs.lemmas.List.{get_or_default}
+use Rattle.std.proofs.lemmas.Bool.{cases_order}
+use borrow.Author.Tests.{not-false, eq-eqb, ne_eqb, eqb-true, eqb-false, ltb-true, ltb-false, lt-ltb, le-leb, leb-true, not-true}
 use Rattle.le.specs.Bytes.{every}
 use Rattle.le.proofs.Rows.{and_left, and_right}
-use Rattle.le.proofs.Halves.{and-false, both_true, same_bool}
-use Rattle.disc.specs.Disc.{counted, leading, in_order}
-use Rattle.disc.proofs.Recording.{blank_from, blank-kind}
+use Rattle.le.proofs.Halves.{both_true, same_bool}
+use Rattle.std.specs.Bool.{then_some}
+use Rattle.std.specs.Prelude.{Some, None, if◌then◌else◌}
+use Rattle.disc.specs.Disc.{counted, leading, in_order, recorded_of}
+use Rattle.disc.proofs.Recording.{blank_from, blank-kind, leading_le}
 
 -- the kinds before r are recorded ones
 abbrev pub recorded_to : List ℕ → ℕ → Bool
@@ -46,31 +50,76 @@ leading-past-recorded ks i e nz = go (ltb i (leading ks)) refl
     go false h =
         absurd (nz (blank-kind ks (leading ks) i (and_right (every (λ k. leb k 3) ks) (blank_from ks (leading ks)) e) (ltb-false i (leading ks) h)))
 
--- one less than a recorded kind is below 3 exactly if the kind is known
-pub lowered-known : (k : ℕ) → (k ≡ 0 → ⊥) → ltb (k - 1) 3 ≡ (ltb 0 k && leb k 3)
-lowered-known k nz = rw (lt-ltb 0 k (positive k nz)) (go (leb k 3) refl)
+-- ---- where the blank ones begin
+
+-- the test by which the place is searched
+abbrev pub not-blank : ℕ → Bool
+not-blank k = not (eqb k 0)
+
+-- of kinds in order, none that is not blank stands behind one that is
+pub order-parts : (ks : List ℕ) → in_order ks ≡ true → IsPartitionedBy not-blank ks
+order-parts ks e i j d le lt held =
+    let past : j < leading ks = leading-past-recorded ks j e (λ z. eqb-false (get_or ks j d) 0 (not-true (eqb (get_or ks j d) 0) held) (get_or_default ks j d 0 lt ∙ z)) in
+    ap not (ne_eqb (get_or ks i d) 0 (λ z. omega (arith, past, leading-at-blank ks i (sym (get_or_default ks i d 0 (omega arith)) ∙ z))))
+
+-- the place that such a search finds
+pub point-leading : (ks : List ℕ) (r : ℕ) → in_order ks ≡ true → r ≤ length ks
+    → IsPartitionPoint (λ k. not-blank k ≡ true) (λ k. not-blank k ≡ false) ks r → r ≡ leading ks
+point-leading ks r e h point = go (cases_order r (leading ks))
   where
-    go : (t : Bool) → leb k 3 ≡ t → ltb (k - 1) 3 ≡ leb k 3
-    go true e = lt-ltb (k - 1) 3 (let le = leb-true k 3 e in let p = positive k nz in omega (arith, le, p)) ∙ sym e
-    go false e = le-ltb (k - 1) 3 (let lt = leb-false k 3 e in omega (arith, lt)) ∙ sym e
-
--- ---- one kind after another
-
-pub kind-taken : (f : ℕ → Bool) (ks : List ℕ) (i : ℕ) (found : Bool) → i < length ks → ((found && f (get_or ks i 0)) && every f (drop (i + 1) ks)) ≡ (found && every f (drop i ks))
-unfolding every
-kind-taken f ks i found h =
-    rw (drop-cons ks i 0 h, add-one i) (and_assoc found (f (get_or ks i 0)) (every f (drop (suc i) ks)))
+    go : (r ≡ leading ks) ⊎ ((r < leading ks) ⊎ (leading ks < r)) → r ≡ leading ks
+    go (inl same) = same
+    go (inr (inl low)) =
+        let blank : get_or ks r 0 ≡ 0 = eqb-true (get_or ks r 0) 0 (not-false (eqb (get_or ks r 0) 0) (point.1 r 0 (omega arith) (omega (arith, leading_le ks)))) in
+        absurd (omega (arith, low, leading-at-blank ks r blank))
+    go (inr (inr high)) =
+        let past : leading ks < leading ks = leading-past-recorded ks (leading ks) e (eqb-false (get_or ks (leading ks) 0) 0 (not-true (eqb (get_or ks (leading ks) 0) 0) (point.0 (leading ks) 0 (omega arith) high))) in
+        absurd (omega (arith, past))
 
 -- ---- of two
 
--- of two kinds, one tells of both: g where it passes only if f does
-pub second-tells : (f g : Bool) → (g ≡ true → f ≡ true) → g ≡ (f && g)
-second-tells f true h = sym (ap (λ (t : Bool). t && true) (h refl))
-second-tells f false h = sym (and-false f false refl)
+-- the largest of two is within a bound exactly if both are
+pub max-within : (a b n : ℕ) → leb (max a b) n ≡ (leb a n && leb b n)
+max-within a b n = same_bool (leb (max a b) n) (leb a n && leb b n) forth back
+  where
+    forth : leb (max a b) n ≡ true → (leb a n && leb b n) ≡ true
+    forth e = let within = leb-true (max a b) n e in both_true (leb a n) (leb b n) (le-leb a n (omega arith)) (le-leb b n (omega arith))
 
-pub first-tells : (f g : Bool) → (f ≡ true → g ≡ true) → f ≡ (f && g)
-first-tells true g h = sym (h refl)
-first-tells false g h = refl
+    back : (leb a n && leb b n) ≡ true → leb (max a b) n ≡ true
+    back e = let x = leb-true a n (and_left (leb a n) (leb b n) e) in let y = leb-true b n (and_right (leb a n) (leb b n) e) in le-leb (max a b) n (omega arith)
+
+-- ---- a byte from one kind to another
+
+-- less the first, and wrapped, one bound tells it
+pub wrapped-within : (k first last : ℕ) → k < 256 → first ≤ last → last < 256 → leb ((k + (256 - first)) % 256) (last - first) ≡ (leb first k && leb k last)
+wrapped-within k first last byte up small = same_bool (leb ((k + (256 - first)) % 256) (last - first)) (leb first k && leb k last) forth back
+  where
+    forth : leb ((k + (256 - first)) % 256) (last - first) ≡ true → (leb first k && leb k last) ≡ true
+    forth e = let within = leb-true ((k + (256 - first)) % 256) (last - first) e in both_true (leb first k) (leb k last) (le-leb first k (omega arith)) (le-leb k last (omega arith))
+
+    back : (leb first k && leb k last) ≡ true → leb ((k + (256 - first)) % 256) (last - first) ≡ true
+    back e =
+        let low = leb-true first k (and_left (leb first k) (leb k last) e) in
+        let high = leb-true k last (and_right (leb first k) (leb k last) e) in
+        le-leb ((k + (256 - first)) % 256) (last - first) (omega arith)
+
+-- from a kind to itself there is no other
+one-kind : (n k : ℕ) → (leb n k && leb k n) ≡ eqb k n
+one-kind n k = same_bool (leb n k && leb k n) (eqb k n) forth back
+  where
+    forth : (leb n k && leb k n) ≡ true → eqb k n ≡ true
+    forth e =
+        let low = leb-true n k (and_left (leb n k) (leb k n) e) in
+        let high = leb-true k n (and_right (leb n k) (leb k n) e) in
+        eq-eqb k n (omega arith)
+
+    back : eqb k n ≡ true → (leb n k && leb k n) ≡ true
+    back e = let same = eqb-true k n e in both_true (leb n k) (leb k n) (le-leb n k (omega arith)) (le-leb k n (omega arith))
+
+pub every-one : (n : ℕ) (ks : List ℕ) → every (λ k. leb n k && leb k n) ks ≡ every (λ k. eqb k n) ks
+unfolding every
+every-one n [] = refl
+every-one n (k ∷ ks) = rw (one-kind n k, every-one n ks)
 
 -- ---- both sides
 
@@ -136,3 +185,11 @@ sides-tell ks r h at =
         both_true (recorded_to ks r) (blank_from ks r)
         (ap (recorded_to ks) (at e) ∙ recorded-leading ks (and_left (every (λ k. leb k 3) ks) (blank_from ks (leading ks)) e))
         (ap (blank_from ks) (at e) ∙ and_right (every (λ k. leb k 3) ks) (blank_from ks (leading ks)) e)
+
+-- and then how many are recorded
+pub point-counts : (ks : List ℕ) (r : ℕ) → (in_order ks ≡ true → r ≡ leading ks) → then_some (in_order ks) r ≡ recorded_of ks
+point-counts ks r at = go (in_order ks) at
+  where
+    go : (t : Bool) → (t ≡ true → r ≡ leading ks) → then_some t r ≡ (if t then Some (leading ks) else None)
+    go true at = ap Some (at refl)
+    go false at = refl

@@ -9,7 +9,6 @@ use native.Mathlib.Omega.{arith}
 use mathlib.Core.Path.{◌≡◌, refl, sym, ap, ap₂, ◌∙◌}
 use mathlib.Core.Bool.{Bool, true, false, ◌&&◌, ◌||◌, and_assoc, false≢true}
 use mathlib.Core.List.{List, [], ◌∷◌, ◌++◌}
-use mathlib.Core.Logic.{◌⊎◌, inl, inr}
 use lib.Dec.{eqb, ltb, leb}
 use lib.ListN.{length, take, drop, get_or, length-append, length-take, length-drop, get_or-append}
 use lib.Seq.{sets, length-take-le, drop-drop, get_or-take, get_or-drop, get_or-append-add}
@@ -201,13 +200,9 @@ text-piece-taken same t text from i end low high =
     (text-split count (drop i text) t (from + i) (rw (length-drop i text) (omega arith))
     ∙ ap₂ (λ (p : ℕ) (rest : List ℕ). holds_text t (from + i) piece && holds_text t p rest) behind (drop-drop count i text ∙ ap (λ (k : ℕ). drop k text) to)))
 
--- a piece is no longer than was asked for, and not empty
+-- a piece is no longer than was asked for
 pub piece-short : (n : ℕ) (l : List ℕ) → length (take n l) ≤ n
 piece-short n l = rw (length-take n l) (omega arith)
-
-pub some-taken : (q left k : ℕ) → 0 < left → 0 < k → (q ≡ left) ⊎ (q ≡ k) → 0 < q
-some-taken q left k h g (inl e) = omega arith
-some-taken q left k h g (inr e) = omega arith
 
 pub piece-taken : (held : Bool) (f : ℕ → Bool) (t : List ℕ) (j count left : ℕ) → count ≤ left
     → ((held && every f (words count t j)) && every f (words (left - count) t (j + 4 * count))) ≡ (held && every f (words left t j))

@@ -11,7 +11,7 @@ use native.Mathlib.Omega.{arith}
 use mathlib.Core.Path.{◌≡◌, refl, sym, ap, ap₂, ◌∙◌, subst}
 use mathlib.Core.Bool.{Bool, true, false, ◌&&◌}
 use mathlib.Core.List.{List, [], ◌∷◌, ◌++◌, append-nil}
-use mathlib.Core.Option.{Option, none}
+use Rattle.std.specs.Prelude.{Option, None}
 use lib.Dec.{ltb}
 use lib.ListN.{length, take, drop, get_or, set, length-set, drop_of_length-le}
 use lib.Seq.{drop-cons, take-suc-set, append_snoc}
@@ -63,7 +63,7 @@ old-taken lower olds s ss i = go (ltb i (length olds)) refl
         let beyond : length olds ≤ i = ltb-false i (length olds) e in
         let further : length olds ≤ i + 1 = omega arith in
         ap (λ (l : List ℕ). named_again lower l (s ∷ ss)) (drop_of_length-le olds beyond)
-        ∙ ap (λ (l : List ℕ). none ∷ named_again lower l ss) (sym (drop_of_length-le olds further))
+        ∙ ap (λ (l : List ℕ). None ∷ named_again lower l ss) (sym (drop_of_length-le olds further))
 
 module _ (d : Disc) (t : List ℕ) (previous m : ℕ) where
   sector-taken : (i : ℕ) → i < m → sectors_left t m i ≡ own_sector t i ∷ sectors_left t m (i + 1)

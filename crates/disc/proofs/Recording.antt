@@ -1,17 +1,20 @@
 -- What recording one sector at the end of what is recorded does to a sound disc: one sector more is recorded, it holds what was put, and every lower
 -- one stays.
 -- Assumes nothing.
-use Prim.Native.Nat.{ℕ, zero, suc, ◌+◌, ◌-◌, ◌*◌, ◌≤◌, ◌<◌}
+use Prim.Native.Nat.{ℕ, zero, suc, ◌+◌, ◌*◌, ◌≤◌, ◌<◌}
 use native.Mathlib.Nat.{not-suc-le-zero, le_of_suc-le-suc, le_refl, add-zero}
 use native.Mathlib.Omega.{arith}
-use mathlib.Core.Path.{◌≡◌, refl, sym, ap, ◌∙◌}
+use mathlib.Core.Path.{◌≡◌, refl, sym, ap, ap₂, ◌∙◌}
 use mathlib.Core.Bool.{Bool, true, false, ◌&&◌}
-use mathlib.Core.List.{List, [], ◌∷◌, ◌++◌}
+use mathlib.Core.List.{List, [], ◌∷◌, ◌++◌, append_assoc}
 use lib.Dec.{eqb, ltb, leb}
-use lib.ListN.{length, get_or, take, drop, set, replicate, length-set, length-append, length-drop, take-append-drop}
-use lib.Seq.{get_or-set_same, get_or-set_other, drop-set-lt, take-append-le, drop-append-le, take_at, drop_at, drop-drop, length-take-le}
+use lib.ListN.{length, get_or, take, drop, set, replicate, length-set, length-append, length-drop, length-replicate, take-append-drop}
+use lib.Seq.{get_or-set_same, get_or-set_other, drop-set-lt, take-append-le, drop-append-le, take_at, drop_at, drop-drop, length-take-le, sets, sets-eq}
 use borrow.Author.Tests.{eq-eqb, ne_eqb, eqb-true, ltb-true, ltb-false, leb-true, lt-ltb, le-leb}
 use Rattle.le.specs.Bytes.{every}
+use Rattle.std.proofs.lemmas.List.{replicate-append-replicate}
+use Rattle.le.proofs.Bytes.{sets-append}
+use native.Mathlib.Numerals.{add-one}
 use Rattle.le.proofs.Rows.{and_left, and_right}
 use Rattle.vat.specs.Table.{sector_length}
 use Rattle.disc.specs.Disc.{Disc, lent, most_sectors, sized, counted, leading, recorded, in_order, kind_at, sector_at, readable, content, Sector, link, plain, torn, stored, put, puts}
@@ -69,6 +72,11 @@ length-stored image at s h =
 pub stored-part : (image s : List ℕ) (at n : ℕ) → length s ≡ n → take at image ++ (s ++ drop n (drop at image)) ≡ stored image at s
 unfolding stored
 stored-part image s at n e = ap (λ (r : List ℕ). take at image ++ (s ++ r)) (drop-drop n at image ∙ ap (λ (k : ℕ). drop (at + k) image) (sym e))
+
+-- it is set byte by byte
+pub stored-sets : (image : List ℕ) (at : ℕ) (s : List ℕ) → at + length s ≤ length image → stored image at s ≡ sets image at s
+unfolding stored
+stored-sets image at s h = sym (sets-eq s image at h ∙ append_assoc (take at image) s (drop (at + length s) image))
 
 -- what was stored stands there
 pub stored_here : (image : List ℕ) (at : ℕ) (s : List ℕ) (n : ℕ) → at + length s ≤ length image → length s ≡ n → take n (drop at (stored image at s)) ≡ s
@@ -240,22 +248,37 @@ puts-append (x ∷ xs) ys d b =
     let e : b + 1 + length xs ≡ b + suc (length xs) = omega arith in
     puts-append xs ys (put d b x) (b + 1) ∙ ap (λ (k : ℕ). puts (puts (put d b x) (b + 1) xs) k ys) e
 
--- one link, then those that are left
-pub link-put : (kinds : List ℕ) (at left : ℕ) → 0 < left
-    → (puts (lent [] (set kinds at 2)) (at + 1) (replicate (left - 1) link)).kinds ≡ (puts (lent [] kinds) at (replicate left link)).kinds
-unfolding puts
-link-put kinds at zero h = absurd (not-suc-le-zero h)
-link-put kinds at (suc left) h =
-    let e : suc left - 1 ≡ left = omega arith in
-    ap (λ (n : ℕ). (puts (lent [] (set kinds at 2)) (at + 1) (replicate n link)).kinds) e
+-- a part that was lent, and filled with one number
+pub filled-part : (l s : List ℕ) (at k n x : ℕ) → k ≡ n → at + n ≤ length l → s ≡ replicate (length (take k (drop at l))) x
+    → take at l ++ (s ++ drop k (drop at l)) ≡ sets l at (replicate n x)
+filled-part l s at k n x e h f =
+    let all : s ≡ replicate n x = f ∙ ap (λ (m : ℕ). replicate m x) (ap (λ (m : ℕ). length (take m (drop at l))) e ∙ length-take-le n (drop at l) (omega (arith, length-drop at l))) in
+    let long : length s ≡ n = ap length all ∙ length-replicate n x in
+    stored-part l s at k (long ∙ sym e) ∙ stored-sets l at s (omega (arith, long)) ∙ ap (sets l at) all
 
--- one data sector, then those that are left
-pub data-put : (d : Disc) (s : List ℕ) (at left : ℕ) → 0 < left → puts (put d at (plain s)) (at + 1) (replicate (left - 1) (plain s)) ≡ puts d at (replicate left (plain s))
+-- links change the kinds, one by one
+pub links-set : (n : ℕ) (kinds : List ℕ) (b : ℕ) → (puts (lent [] kinds) b (replicate n link)).kinds ≡ sets kinds b (replicate n 2)
 unfolding puts
-data-put d s at zero h = absurd (not-suc-le-zero h)
-data-put d s at (suc left) h =
-    let e : suc left - 1 ≡ left = omega arith in
-    ap (λ (n : ℕ). puts (put d at (plain s)) (at + 1) (replicate n (plain s))) e
+links-set zero kinds b = refl
+links-set (suc n) kinds b = rw (links-set n (set kinds b 2) (b + 1), add-one b)
+
+-- so many sectors of one and the same byte
+pub data-set : (n x b : ℕ) (image kinds : List ℕ) → length image ≡ sector_length * length kinds → b + n ≤ length kinds
+    → puts (lent image kinds) b (replicate n (plain (replicate sector_length x))) ≡ lent (sets image (sector_length * b) (replicate (sector_length * n) x)) (sets kinds b (replicate n 1))
+unfolding puts
+data-set zero x b image kinds whole h = refl
+data-set (suc n) x b image kinds whole h =
+    let one : List ℕ = replicate sector_length x in
+    let at : ℕ = sector_length * b in
+    let long : length one ≡ sector_length = length-replicate sector_length x in
+    let inside : at + length one ≤ length image = omega (arith, long) in
+    let next : sector_length * (b + 1) ≡ at + length one = omega (arith, long) in
+    let more : one ++ replicate (sector_length * n) x ≡ replicate (sector_length * suc n) x =
+    replicate-append-replicate sector_length (sector_length * n) x ∙ ap (λ (k : ℕ). replicate k x) (omega arith) in
+    data-set n x (b + 1) (stored image at one) (set kinds b 1) (rw (length-set kinds b 1, length-stored image at one inside) whole) (rw (length-set kinds b 1) (omega arith))
+    ∙ ap₂ lent
+    (ap₂ (λ (i : List ℕ) (k : ℕ). sets i k (replicate (sector_length * n) x)) (stored-sets image at one inside) next ∙ sym (sets-append one (replicate (sector_length * n) x) image at) ∙ ap (sets image at) more)
+    (rw add-one)
 
 -- links change the kinds alone
 pub puts-links : (n : ℕ) (image kinds : List ℕ) (b : ℕ) → puts (lent image kinds) b (replicate n link) ≡ lent image (puts (lent [] kinds) b (replicate n link)).kinds

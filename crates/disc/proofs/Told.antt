@@ -9,7 +9,7 @@ use native.Mathlib.Omega.{arith}
 use mathlib.Core.Path.{◌≡◌, refl, sym, ap, ap₂, ◌∙◌, fun_ext, subst}
 use mathlib.Core.Bool.{Bool, true, false, ◌&&◌, false≢true}
 use mathlib.Core.List.{List, [], ◌∷◌}
-use mathlib.Core.Option.{some}
+use Rattle.std.specs.Prelude.{Some}
 use lib.Dec.{eqb, ltb, leb}
 use lib.ListN.{length}
 use borrow.Author.Tests.{eqb-true, eqb-false, eq-eqb, ne_eqb, ltb-true}
@@ -25,16 +25,16 @@ use Rattle.disc.specs.Tables.{below, table_at, bytes_at, map_at, previous_at, ti
 -- ---- data
 
 -- data reads its bytes
-pub reads-data : (d : Disc) (b : ℕ) → kind_at d b ≡ 1 → content d b ≡ some (sector_at d b)
+pub reads-data : (d : Disc) (b : ℕ) → kind_at d b ≡ 1 → content d b ≡ Some (sector_at d b)
 unfolding content
 reads-data d b k = ap (λ (t : Bool). readable t (sector_at d b)) (eq-eqb (kind_at d b) 1 k)
 
 -- what is read is data, and stands there
-pub data-there : (d : Disc) (b : ℕ) (s : List ℕ) → content d b ≡ some s → (kind_at d b ≡ 1) × (sector_at d b ≡ s)
+pub data-there : (d : Disc) (b : ℕ) (s : List ℕ) → content d b ≡ Some s → (kind_at d b ≡ 1) × (sector_at d b ≡ s)
 unfolding content
 data-there d b s e = go (eqb (kind_at d b) 1) refl e
   where
-    go : (t : Bool) → eqb (kind_at d b) 1 ≡ t → readable t (sector_at d b) ≡ some s → (kind_at d b ≡ 1) × (sector_at d b ≡ s)
+    go : (t : Bool) → eqb (kind_at d b) 1 ≡ t → readable t (sector_at d b) ≡ Some s → (kind_at d b ≡ 1) × (sector_at d b ≡ s)
     go true z e = (eqb-true (kind_at d b) 1 z, cc)
     go false z e = absurd (let clash : ◌≡◌ {A = ℕ} 0 1 = cc in omega arith)
 

@@ -1,7 +1,7 @@
 -- The disc (document 01, 'The disc, the ledger and the two numbers'): "two lent buffers: the image, 2048 bytes a sector, and the kinds, one byte a
 -- sector: 0 blank, 1 data, 2 link, 3 unreadable". What is recorded, when the disc is sound, and how a sector is recorded.
-use Rattle.std.specs.Prelude.{ℕ, suc, ◌+◌, ◌-◌, ◌*◌, Bool, true, false, ◌&&◌, List, [], ◌∷◌, ◌++◌, eqb, ltb, leb, length, get_or, take, drop, set}
-use Rattle.std.proofs.Math.Option.{Option, none, some}
+use Rattle.std.specs.Prelude.{ℕ, suc, ◌+◌, ◌-◌, ◌*◌, Bool, true, false, ◌&&◌, List, [], ◌∷◌, ◌++◌, eqb, ltb, leb, length, get_or, take, drop, set, if◌then◌else◌}
+use Rattle.std.specs.Prelude.{Option, None, Some}
 use Rattle.le.specs.Bytes.{every}
 use Rattle.vat.specs.Table.{sector_length}
 
@@ -37,6 +37,10 @@ recorded d = leading d.kinds
 unfoldable pub in_order : List ℕ → Bool
 in_order ks = every (λ k. leb k 3) ks && every (λ k. eqb k 0) (drop (leading ks) ks)
 
+-- "Their count is called recorded", of kinds that are in order; of others there is none.
+abbrev pub recorded_of : List ℕ → Option ℕ
+recorded_of ks = if in_order ks then Some (leading ks) else None
+
 abbrev pub blanks : Disc → ℕ
 blanks d = length d.kinds - recorded d
 
@@ -48,8 +52,8 @@ unfoldable pub sector_at : Disc → ℕ → List ℕ
 sector_at d b = take sector_length (drop (sector_length * b) d.image)
 
 abbrev pub readable : Bool → List ℕ → Option (List ℕ)
-readable true s = some s
-readable false s = none
+readable true s = Some s
+readable false s = None
 
 unfoldable pub content : Disc → ℕ → Option (List ℕ)
 content d b = readable (eqb (kind_at d b) 1) (sector_at d b)

@@ -3,3 +3,4 @@ pub mod Tables
 pub mod Session
 pub mod Save
 pub mod Again
+pub mod Own

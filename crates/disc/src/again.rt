@@ -8,6 +8,7 @@ ghost use Rattle.disc.specs.Disc.{lent, sized, leading, in_order, content, plain
 ghost use Rattle.disc.specs.Tables.{table_at, named_by};
 ghost use Rattle.disc.specs.Again.{same, own_blocks, again_of, fresh_of, plains};
 
+use crate::Kind;
 use vat::table::{SECTOR, UNUSED};
 
 // The blocks of a table's own sectors, by their places, and how many of these are recorded.
@@ -74,8 +75,7 @@ pub fn own_blocks(image: &[u8], kinds: &[u8], map: &[u8], n: u32, previous: u32,
     let named = named_count(image, kinds, previous);
     let mut blocks = [0u32; 8];
     let mut next = b;
-    let mut i = 0;
-    while i < own {
+    for i in 0..own {
         let place = i as usize;
         if is_again(image, kinds, map, n, previous, named, i) {
             blocks[place] = named_block(image, kinds, previous, i);
@@ -83,10 +83,9 @@ pub fn own_blocks(image: &[u8], kinds: &[u8], map: &[u8], n: u32, previous: u32,
             blocks[place] = next;
             next += 1;
         }
-        i += 1;
     }
     Own {
-        blocks: blocks,
+        blocks,
         fresh: next - b,
     }
 }
@@ -108,7 +107,7 @@ fn record_sector(
     let at = SECTOR * place;
     let end = at + SECTOR;
     vat::own::own_sector(&mut image[at..end], map, n as usize, previous, i as usize);
-    kinds[place] = 1;
+    kinds[place] = Kind::Data as u8;
 }
 
 // Those of a table's own sectors that are not named again: their blocks go up from block b, and all others lie below it.
@@ -126,13 +125,10 @@ pub fn record_own(
 {
     let own = vat::own::own_count(n);
     let mut next = b;
-    let mut i = 0;
-    while i < own {
-        let place = i as usize;
-        if blocks[place] == next {
+    for i in 0..own {
+        if blocks[i as usize] == next {
             record_sector(image, kinds, map, n, previous, i, next);
             next += 1;
         }
-        i += 1;
     }
 }

@@ -1,13 +1,31 @@
 // The bytes of a table whose ICB is s, at block b: behind the ICB's attributes, or in sectors of its own, which lie below it.
-ghost use Rattle.std.specs.Prelude.{◌≡◌, true, List, ℕ, ◌+◌, ◌*◌, ◌≤◌, ◌<◌, length};
+ghost use Rattle.std.specs.Prelude.{◌≡◌, true, false, List, ℕ, ◌+◌, ◌*◌, ◌≤◌, ◌<◌, length};
 ghost use Rattle.std.proofs.lemmas.List.Edits.{sets};
 ghost use Rattle.le.specs.Bytes.{every};
 ghost use Rattle.le.specs.Field.{words, le_words};
-ghost use Rattle.vat.specs.Table.{sector_length, unused_or_below, own_of, framed, laid, table_of, entry_count, previous_of, enclosed, is_table};
+ghost use Rattle.vat.specs.Table.{sector_length, unused_or_below, embedded, own_of, framed, laid, table_of, entry_count, previous_of, enclosed, is_table};
 ghost use Rattle.disc.specs.Disc.{lent, sized};
 ghost use Rattle.disc.specs.Tables.{below};
+ghost use Rattle.disc.specs.Own.{own_bytes};
 
+use crate::own::OwnTable;
 use vat::table::table;
+
+// The table in own sectors that the ICB names.
+fn apart<'a>(image: &'a [u8], kinds: &'a [u8], s: &'a [u8], b: u32) -> OwnTable<'a>
+    requires { (sized (lent image.now kinds.now) ≡ true) × (b ≤ length kinds.now) × (length s.now ≡ sector_length) × (framed s.now b ≡ true) × (laid (below (lent image.now kinds.now) b) (own_of s.now) ≡ true) × (embedded s.now ≡ false) }
+    ensures { (own_bytes result ≡ table_of (below (lent image.now kinds.now) b) s.now) × (result.b ≡ b) × (result.total ≡ length (table_of (below (lent image.now kinds.now) b) s.now)) }
+{
+    OwnTable {
+        image,
+        kinds,
+        s,
+        at: vat::table::start(s),
+        m: vat::table::own_count(s),
+        b,
+        total: vat::table::information_length(s),
+    }
+}
 
 // Its own sectors lie as they must; a table that its ICB holds has none.
 pub fn laid(kinds: &[u8], s: &[u8], b: u32) -> bool
@@ -28,15 +46,7 @@ pub fn enclosed(image: &[u8], kinds: &[u8], s: &[u8], b: u32) -> bool
     if vat::table::is_embedded(s) {
         return vat::table::enclosed(table(s), b);
     }
-    crate::own::own_enclosed(
-        image,
-        kinds,
-        s,
-        vat::table::start(s),
-        vat::table::own_count(s),
-        b,
-        vat::table::information_length(s),
-    )
+    apart(image, kinds, s, b).enclosed()
 }
 
 // "Entry count N = (length − 36) / 4", by the length that the ICB tells.
@@ -56,16 +66,7 @@ pub fn entries_held(image: &[u8], kinds: &[u8], s: &[u8], b: u32, first: u32, co
     if vat::table::is_embedded(s) {
         return vat::table::words_held(table(s), from, count, b);
     }
-    crate::own::own_entries(
-        image,
-        kinds,
-        s,
-        vat::table::start(s),
-        vat::table::own_count(s),
-        b,
-        from,
-        count as usize,
-    )
+    apart(image, kinds, s, b).entries_held(from, count as usize)
 }
 
 // The previous table that it names.
@@ -76,15 +77,7 @@ pub fn previous(image: &[u8], kinds: &[u8], s: &[u8], b: u32) -> u32
     if vat::table::is_embedded(s) {
         return vat::table::previous(table(s));
     }
-    crate::own::own_previous(
-        image,
-        kinds,
-        s,
-        vat::table::start(s),
-        vat::table::own_count(s),
-        b,
-        vat::table::information_length(s),
-    )
+    apart(image, kinds, s, b).previous()
 }
 
 // Its n entries, copied to the beginning of l.
@@ -97,16 +90,7 @@ pub fn copied(l: &mut [u8], image: &[u8], kinds: &[u8], s: &[u8], b: u32, n: u32
         le::run::copy_words(l, 0, table(s), 0, count);
         return;
     }
-    crate::own::own_copied(
-        l,
-        image,
-        kinds,
-        s,
-        vat::table::start(s),
-        vat::table::own_count(s),
-        b,
-        count,
-    );
+    apart(image, kinds, s, b).copied(l, count);
 }
 
 // The sector is a table's at block b, with what lies below it. Nearly every sector that is none is known by its tag. The costly CRC comes last.

@@ -11,7 +11,7 @@ ghost use Rattle.disc.specs.Disc.{lent, sized, content};
 ghost use Rattle.disc.specs.Tables.{below};
 ghost use Rattle.disc.specs.Again.{same};
 
-use vat::own::smaller;
+use crate::Kind;
 use vat::table::{SECTOR, TABLE_NAME};
 
 // An extent of so many bytes is one of an own sector: below block b, of kind 1, and not empty.
@@ -23,7 +23,7 @@ fn lies(kinds: &[u8], bytes: u32, location: u32, b: u32) -> bool
         return false;
     }
     let place = location as usize;
-    (0 < bytes) & ((bytes <= 2048) & (kinds[place] == 1))
+    (0 < bytes) & ((bytes <= 2048) & (kinds[place] == Kind::Data as u8))
 }
 
 // "blocks below the ICB, kind 1, full but the last, none empty".
@@ -33,12 +33,10 @@ pub fn laid(kinds: &[u8], s: &[u8], at: usize, m: u32, b: u32) -> bool
 {
     let count = m as usize;
     let mut held = true;
-    let mut i: usize = 0;
-    while i < count {
+    for i in 0..count {
         let e = extent::read(s, at + 8 * i);
-        i += 1;
-        let full = (i == count) | (e.length == 2048);
-        held = held & (lies(kinds, e.length, e.location, b) & full);
+        let full = (i + 1 == count) | (e.length == 2048);
+        held &= lies(kinds, e.length, e.location, b) & full;
     }
     held
 }
@@ -51,141 +49,111 @@ pub fn own_block(s: &[u8], at: usize, i: usize) -> u32
     le::read32(s, at + 8 * i + 4)
 }
 
-// The place of byte j of the table in the image.
-fn place_of(s: &[u8], at: usize, j: usize) -> usize
-    requires { at + 8 * (j / 2048) + 8 ≤ length s.now }
-    ensures { result ≡ 2048 * read_le 4 s.now (at + 8 * (j / 2048) + 4) + j % 2048 }
-{
-    SECTOR * (own_block(s, at, j / 2048) as usize) + j % 2048
+// A table in sectors of its own: m descriptors, which stand in bytes s from place `at` on, name these sectors, which lie below block b. It has so many bytes
+// in all.
+#[derive(Clone, Copy)]
+pub struct OwnTable<'a> {
+    pub image: &'a [u8],
+    pub kinds: &'a [u8],
+    pub s: &'a [u8],
+    pub at: usize,
+    pub m: u32,
+    pub b: u32,
+    pub total: u32,
+    ghost is_sized: { sized (lent image.now kinds.now) ≡ true },
+    ghost high: { b ≤ length kinds.now },
+    ghost within: { at + 8 * m ≤ length s.now },
+    ghost is_laid: { laid (below (lent image.now kinds.now) b) (extents_from m s.now at) ≡ true },
+    ghost long: { total ≡ total_length (extents_from m s.now at) },
+    ghost short: { total ≤ most_bytes },
 }
 
-// The table holds the text from byte `from` on, which may stand across two sectors, piece by piece: a piece ends with its sector.
-fn own_holds(
-    image: &[u8],
-    kinds: &[u8],
-    s: &[u8],
-    at: usize,
-    m: u32,
-    b: u32,
-    from: usize,
-    text: &[u8],
-) -> bool
-    requires { (sized (lent image.now kinds.now) ≡ true) × (b ≤ length kinds.now) × (at + 8 * m ≤ length s.now) × (laid (below (lent image.now kinds.now) b) (extents_from m s.now at) ≡ true) × (from + length text.now ≤ total_length (extents_from m s.now at)) × (total_length (extents_from m s.now at) ≤ most_bytes) }
-    ensures { result ≡ holds_text (joined (below (lent image.now kinds.now) b) (extents_from m s.now at)) from text.now }
-{
-    let mut same = true;
-    let mut i: usize = 0;
-    while i < text.len() {
-        let j = from + i;
-        let end = i + smaller(text.len() - i, SECTOR - j % SECTOR);
-        same = same & le::run::holds_text(image, place_of(s, at, j), &text[i..end]);
-        i = end;
+impl<'a> OwnTable<'a> {
+    ghost use Rattle.disc.specs.Own.{own_bytes};
+
+    // The place of byte j of the table in the image, in which its sector lies whole.
+    fn place_of(&self, j: usize) -> usize
+        requires { j < self.now.total }
+        ensures { (result ≡ 2048 * read_le 4 self.now.s.now (self.now.at + 8 * (j / 2048) + 4) + j % 2048) × (result + 2048 ≤ length self.now.image.now + j % 2048) }
+    {
+        SECTOR * (own_block(self.s, self.at, j / SECTOR) as usize) + j % SECTOR
     }
-    same
-}
 
-// A field of the table, which does not stand across two sectors.
-fn own_field(image: &[u8], kinds: &[u8], s: &[u8], at: usize, m: u32, b: u32, j: usize) -> u32
-    requires { (sized (lent image.now kinds.now) ≡ true) × (b ≤ length kinds.now) × (at + 8 * m ≤ length s.now) × (laid (below (lent image.now kinds.now) b) (extents_from m s.now at) ≡ true) × (j + 4 ≤ total_length (extents_from m s.now at)) × (j % 2048 + 4 ≤ 2048) }
-    ensures { result ≡ read_le 4 (joined (below (lent image.now kinds.now) b) (extents_from m s.now at)) j }
-{
-    le::read32(image, place_of(s, at, j))
-}
-
-// The n entries of the table from byte `from` on, piece by piece: a piece ends with its sector. They may all be named at block b.
-pub fn own_entries(
-    image: &[u8],
-    kinds: &[u8],
-    s: &[u8],
-    at: usize,
-    m: u32,
-    b: u32,
-    from: usize,
-    n: usize,
-) -> bool
-    requires { (sized (lent image.now kinds.now) ≡ true) × (b ≤ length kinds.now) × (at + 8 * m ≤ length s.now) × (laid (below (lent image.now kinds.now) b) (extents_from m s.now at) ≡ true) × (from + 4 * n ≤ total_length (extents_from m s.now at)) × (total_length (extents_from m s.now at) ≤ most_bytes) × (from % 4 ≡ 0) }
-    ensures { result ≡ every (unused_or_below b) (words n (joined (below (lent image.now kinds.now) b) (extents_from m s.now at)) from) }
-{
-    let mut held = true;
-    let mut left = n;
-    let mut j = from;
-    while left > 0 {
-        let count = smaller(left, (SECTOR - j % SECTOR) / 4);
-        held = held & vat::table::words_held(image, place_of(s, at, j), count as u32, b);
-        left -= count;
-        j += 4 * count;
+    // The table holds the text from byte `from` on, which may stand across two sectors, piece by piece: a piece ends with its sector.
+    fn holds(&self, from: usize, text: &[u8]) -> bool
+        requires { from + length text.now ≤ self.now.total }
+        ensures { result ≡ holds_text (own_bytes self.now) from text.now }
+    {
+        let mut same = true;
+        let mut i: usize = 0;
+        while i < text.len() {
+            let j = from + i;
+            let end = i + (text.len() - i).min(SECTOR - j % SECTOR);
+            same &= le::run::holds_text(self.image, self.place_of(j), &text[i..end]);
+            i = end;
+        }
+        same
     }
-    held
-}
 
-// The previous table that it names; it has so many bytes in all.
-pub fn own_previous(
-    image: &[u8],
-    kinds: &[u8],
-    s: &[u8],
-    at: usize,
-    m: u32,
-    b: u32,
-    total: u32,
-) -> u32
-    requires { (sized (lent image.now kinds.now) ≡ true) × (b ≤ length kinds.now) × (at + 8 * m ≤ length s.now) × (laid (below (lent image.now kinds.now) b) (extents_from m s.now at) ≡ true) × (total ≡ total_length (extents_from m s.now at)) × (total ≤ most_bytes) × (36 ≤ total) × (total % 4 ≡ 0) }
-    ensures { result ≡ previous_of (joined (below (lent image.now kinds.now) b) (extents_from m s.now at)) }
-{
-    own_field(
-        image,
-        kinds,
-        s,
-        at,
-        m,
-        b,
-        4 * (vat::table::count_entries(total) as usize) + 32,
-    )
-}
-
-// All of the table but its entries; it has so many bytes in all.
-pub fn own_enclosed(
-    image: &[u8],
-    kinds: &[u8],
-    s: &[u8],
-    at: usize,
-    m: u32,
-    b: u32,
-    total: u32,
-) -> bool
-    requires { (sized (lent image.now kinds.now) ≡ true) × (b ≤ length kinds.now) × (at + 8 * m ≤ length s.now) × (laid (below (lent image.now kinds.now) b) (extents_from m s.now at) ≡ true) × (total ≡ total_length (extents_from m s.now at)) × (total ≤ most_bytes) }
-    ensures { result ≡ enclosed (joined (below (lent image.now kinds.now) b) (extents_from m s.now at)) b }
-{
-    let n = vat::table::count_entries(total);
-    if total != 4 * n + 36 {
-        return false;
+    // A field of the table, which does not stand across two sectors.
+    fn field(&self, j: usize) -> u32
+        requires { (j + 4 ≤ self.now.total) × (j % 2048 + 4 ≤ 2048) }
+        ensures { result ≡ read_le 4 (own_bytes self.now) j }
+    {
+        le::read32(self.image, self.place_of(j))
     }
-    let name = TABLE_NAME;
-    let named = own_holds(image, kinds, s, at, m, b, 4 * (n as usize) + 1, &name);
-    let previous = own_previous(image, kinds, s, at, m, b, total);
-    named & vat::table::may_name(b, previous)
-}
 
-// The first n entries of the table, which has as many, copied to the beginning of l, piece by piece.
-pub fn own_copied(
-    l: &mut [u8],
-    image: &[u8],
-    kinds: &[u8],
-    s: &[u8],
-    at: usize,
-    m: u32,
-    b: u32,
-    n: usize,
-)
-    requires { (sized (lent image.now kinds.now) ≡ true) × (b ≤ length kinds.now) × (at + 8 * m ≤ length s.now) × (laid (below (lent image.now kinds.now) b) (extents_from m s.now at) ≡ true) × (4 * n ≤ total_length (extents_from m s.now at)) × (total_length (extents_from m s.now at) ≤ most_bytes) × (4 * n ≤ length l.old) }
-    ensures { l.new ≡ sets l.old 0 (le_words (words n (joined (below (lent image.now kinds.now) b) (extents_from m s.now at)) 0)) }
-{
-    let mut left = n;
-    let mut j: usize = 0;
-    while left > 0 {
-        let count = smaller(left, (SECTOR - j % SECTOR) / 4);
-        le::run::copy_words(l, j, image, place_of(s, at, j), count);
-        left -= count;
-        j += 4 * count;
+    // The n entries of the table from byte `from` on, piece by piece: a piece ends with its sector. They may all be named at block b.
+    pub fn entries_held(&self, from: usize, n: usize) -> bool
+        requires { (from + 4 * n ≤ self.now.total) × (from % 4 ≡ 0) }
+        ensures { result ≡ every (unused_or_below self.now.b) (words n (own_bytes self.now) from) }
+    {
+        let mut held = true;
+        let mut left = n;
+        let mut j = from;
+        while left > 0 {
+            let count = left.min((SECTOR - j % SECTOR) / 4);
+            held &= vat::table::words_held(self.image, self.place_of(j), count as u32, self.b);
+            left -= count;
+            j += 4 * count;
+        }
+        held
+    }
+
+    // The previous table that it names.
+    pub fn previous(&self) -> u32
+        requires { (36 ≤ self.now.total) × (self.now.total % 4 ≡ 0) }
+        ensures { result ≡ previous_of (own_bytes self.now) }
+    {
+        self.field(4 * (vat::table::count_entries(self.total) as usize) + 32)
+    }
+
+    // All of the table but its entries.
+    pub fn enclosed(&self) -> bool
+        ensures { result ≡ enclosed (own_bytes self.now) self.now.b }
+    {
+        let n = vat::table::count_entries(self.total);
+        if self.total != 4 * n + 36 {
+            return false;
+        }
+        let name = TABLE_NAME;
+        let named = self.holds(4 * (n as usize) + 1, &name);
+        named & vat::table::may_name(self.b, self.previous())
+    }
+
+    // The first n entries of the table, which has as many, copied to the beginning of l, piece by piece.
+    pub fn copied(&self, l: &mut [u8], n: usize)
+        requires { (4 * n ≤ self.now.total) × (4 * n ≤ length l.old) }
+        ensures { l.new ≡ sets l.old 0 (le_words (words n (own_bytes self.now) 0)) }
+    {
+        let mut left = n;
+        let mut j: usize = 0;
+        while left > 0 {
+            let count = left.min((SECTOR - j % SECTOR) / 4);
+            le::run::copy_words(l, j, self.image, self.place_of(j), count);
+            left -= count;
+            j += 4 * count;
+        }
     }
 }
 
@@ -217,7 +185,7 @@ pub fn named_again(
     ensures { result ≡ same (bytes_of (content (lent image.now kinds.now) o)) (own_sector (table_bytes (words n map.now 0) previous) i) }
 {
     let place = o as usize;
-    if kinds[place] != 1 {
+    if kinds[place] != Kind::Data as u8 {
         return false;
     }
     let at = SECTOR * place;

@@ -4,6 +4,7 @@ ghost use Rattle.vat.specs.Table.{sector_length};
 ghost use Rattle.disc.specs.Disc.{lent, stored, link, puts};
 ghost use Rattle.disc.specs.Session.{zero_sector};
 
+use crate::Kind;
 use vat::table::SECTOR;
 
 // "For a link sector only its kind changes".
@@ -11,13 +12,7 @@ pub fn links(kinds: &mut [u8], b: usize, n: usize)
     requires { b + n ≤ length kinds.old }
     ensures { kinds.new ≡ (puts (lent [] kinds.old) b (replicate n link)).kinds }
 {
-    let mut at = b;
-    let mut left = n;
-    while 0 < left {
-        kinds[at] = 2;
-        at += 1;
-        left -= 1;
-    }
+    kinds[b..b + n].fill(Kind::Link as u8);
 }
 
 pub fn data(image: &mut [u8], kinds: &mut [u8], b: usize, block: &[u8])
@@ -25,17 +20,7 @@ pub fn data(image: &mut [u8], kinds: &mut [u8], b: usize, block: &[u8])
     ensures { (image.new ≡ stored image.old (sector_length * b) block.now) × (kinds.new ≡ set kinds.old b 1) }
 {
     le::run::put_block(image, SECTOR * b, block);
-    kinds[b] = 1;
-}
-
-fn zero(image: &mut [u8], kinds: &mut [u8], b: usize)
-    requires { (length image.old ≡ sector_length * length kinds.old) × (b < length kinds.old) }
-    ensures { (image.new ≡ stored image.old (sector_length * b) (replicate sector_length 0)) × (kinds.new ≡ set kinds.old b 1) }
-{
-    let at = SECTOR * b;
-    let end = at + SECTOR;
-    le::run::clear(&mut image[at..end]);
-    kinds[b] = 1;
+    kinds[b] = Kind::Data as u8;
 }
 
 // Sectors of zeros, n of them from block b on.
@@ -43,11 +28,6 @@ pub fn zeros(image: &mut [u8], kinds: &mut [u8], b: usize, n: usize)
     requires { (length image.old ≡ sector_length * length kinds.old) × (b + n ≤ length kinds.old) }
     ensures { lent image.new kinds.new ≡ puts (lent image.old kinds.old) b (replicate n zero_sector) }
 {
-    let mut at = b;
-    let mut left = n;
-    while 0 < left {
-        zero(image, kinds, at);
-        at += 1;
-        left -= 1;
-    }
+    image[SECTOR * b..SECTOR * (b + n)].fill(0);
+    kinds[b..b + n].fill(Kind::Data as u8);
 }

@@ -1,15 +1,15 @@
 // The tables on a disc: the newest one, and the walk back from table to table.
 ghost use Rattle.std.specs.Prelude.{◌≡◌, true, false, List, ℕ, ◌+◌, ◌*◌, ◌≤◌, ◌<◌, length};
-ghost use Rattle.vat.specs.Table.{sector_length};
+ghost use Rattle.vat.specs.Table.{sector_length, is_table};
 ghost use Rattle.disc.specs.Disc.{lent, sized, sector_at};
-ghost use Rattle.disc.specs.Tables.{table_at, previous_at, time_at, block_found, newest_below, walk};
+ghost use Rattle.disc.specs.Tables.{below, table_at, previous_at, time_at, newest_below, walk};
 
-use crate::Walk;
+use crate::{Kind, Stop};
 use timestamp::STAMP;
 use vat::table::{MODIFIED_AT, SECTOR, UNUSED};
 
 // The kinds of eight data sectors, as one word.
-const ALL_DATA: u64 = 72340172838076673;
+const ALL_DATA: u64 = 0x0101_0101_0101_0101;
 
 // The sector at block b.
 pub fn sector_at(image: &[u8], b: u32) -> &[u8]
@@ -21,23 +21,25 @@ pub fn sector_at(image: &[u8], b: u32) -> &[u8]
     &image[at..end]
 }
 
-// A block beyond the disc is no table sector. The tag identifier first: of nearly every data sector no other byte is looked at.
+// The sector at block b is a table's, if it is data. The tag identifier first: of nearly every data sector no other byte is looked at.
+fn holds_table(image: &[u8], kinds: &[u8], b: u32) -> bool
+    requires { (sized (lent image.now kinds.now) ≡ true) × (b < length kinds.now) }
+    ensures { result ≡ is_table (below (lent image.now kinds.now) b) (sector_at (lent image.now kinds.now) b) b }
+{
+    let s = sector_at(image, b);
+    vat::table::tagged(s) && crate::bytes::is_table(image, kinds, s, b)
+}
+
+// A block beyond the disc is no table sector.
 pub fn table_at(image: &[u8], kinds: &[u8], b: u32) -> bool
     requires { sized (lent image.now kinds.now) ≡ true }
     ensures { result ≡ table_at (lent image.now kinds.now) b }
 {
     let place = b as usize;
-    if kinds.len() <= place {
+    if kinds.len() <= place || kinds[place] != Kind::Data as u8 {
         return false;
     }
-    if kinds[place] != 1 {
-        return false;
-    }
-    let s = sector_at(image, b);
-    if !vat::table::tagged(s) {
-        return false;
-    }
-    crate::bytes::is_table(image, kinds, s, b)
+    holds_table(image, kinds, b)
 }
 
 // Eight data sectors from block b on, of which none has the tag identifier of a table: of data this is nearly always so. With no exit between them, so that
@@ -50,45 +52,32 @@ pub fn plain_group(image: &[u8], kinds: &[u8], b: u32) -> bool
         return false;
     }
     let mut plain = true;
-    let mut i = 0;
-    while i < 8 {
-        plain = plain & !vat::table::tagged(sector_at(image, b + i));
-        i += 1;
+    for i in 0..8 {
+        plain &= !vat::table::tagged(sector_at(image, b + i));
     }
     plain
 }
 
-// How many of the entries that are left are looked at together, a whole own sector or a whole embedded table: within a group no test waits for another.
-fn group(left: u32) -> u32
-    requires { 0 < left }
-    ensures { (0 < result) × (result ≤ left) }
-{
-    if left < 512 {
-        return left;
-    }
-    512
-}
+// So many entries are looked at together, a whole own sector or a whole embedded table: within a group no test waits for another.
+const GROUP: u32 = 512;
 
 // "starts at the last recorded sector and goes towards block 0. The first table sector met ends the search." The costly CRC comes last.
 // A group of which no sector is tagged is passed over at once; of another, sectors are looked at one by one.
-pub fn newest(image: &[u8], kinds: &[u8], recorded: u32) -> u32
+pub fn newest(image: &[u8], kinds: &[u8], recorded: u32) -> Option<u32>
     requires { (sized (lent image.now kinds.now) ≡ true) × (recorded ≤ length kinds.now) }
-    ensures { result ≡ block_found (newest_below (table_at (lent image.now kinds.now)) recorded) }
+    ensures { result ≡ newest_below (table_at (lent image.now kinds.now)) recorded }
 {
     let mut b = recorded;
-    let found = 'scan: loop {
+    'scan: loop {
         if b == 0 {
-            break 'scan UNUSED;
+            break 'scan None;
         }
-        if b % 8 == 0 {
-            if plain_group(image, kinds, b - 8) {
-                b -= 8;
-                continue 'scan;
-            }
+        if b % 8 == 0 && plain_group(image, kinds, b - 8) {
+            b -= 8;
+            continue 'scan;
         }
         b -= 1;
-        let place = b as usize;
-        if kinds[place] != 1 {
+        if kinds[b as usize] != Kind::Data as u8 {
             continue 'scan;
         }
         let s = sector_at(image, b);
@@ -107,51 +96,47 @@ pub fn newest(image: &[u8], kinds: &[u8], recorded: u32) -> u32
         let n = crate::bytes::entry_count(kinds, s, b);
         let mut i = 0;
         while i < n {
-            let count = group(n - i);
+            let count = (n - i).min(GROUP);
             if !crate::bytes::entries_held(image, kinds, s, b, i, count) {
                 continue 'scan;
             }
             i += count;
         }
         if tag::sealed(s) {
-            break 'scan b;
+            break 'scan Some(b);
         }
-    };
-    found
+    }
 }
 
 // The previous table of the table at block b.
-fn step_back(image: &[u8], kinds: &[u8], b: u32) -> Walk
+fn step_back(image: &[u8], kinds: &[u8], b: u32) -> Result<u32, Stop>
     requires { (sized (lent image.now kinds.now) ≡ true) × (table_at (lent image.now kinds.now) b ≡ true) }
     ensures { result ≡ walk (table_at (lent image.now kinds.now)) (previous_at (lent image.now kinds.now)) 1 b }
 {
     let previous = crate::bytes::previous(image, kinds, sector_at(image, b), b);
     if previous == UNUSED {
-        return Walk::Ended;
+        return Err(Stop::Ended);
     }
     if !table_at(image, kinds, previous) {
-        return Walk::Broken;
+        return Err(Stop::Broken);
     }
-    Walk::Reached(previous)
+    Ok(previous)
 }
 
 // "follows the previous entry k times": half of the steps and then the others, so that the depth is the number of k's binary digits.
-pub fn walk_back(image: &[u8], kinds: &[u8], k: u32, b: u32) -> Walk
+pub fn walk_back(image: &[u8], kinds: &[u8], k: u32, b: u32) -> Result<u32, Stop>
     requires { (sized (lent image.now kinds.now) ≡ true) × (table_at (lent image.now kinds.now) b ≡ true) }
     ensures { result ≡ walk (table_at (lent image.now kinds.now)) (previous_at (lent image.now kinds.now)) k b }
 {
     if k == 0 {
-        return Walk::Reached(b);
+        return Ok(b);
     }
     if k == 1 {
         return step_back(image, kinds, b);
     }
     let half = k / 2;
-    match walk_back(image, kinds, half, b) {
-        Walk::Reached(middle) => walk_back(image, kinds, k - half, middle),
-        Walk::Broken => Walk::Broken,
-        Walk::Ended => Walk::Ended,
-    }
+    let middle = walk_back(image, kinds, half, b)?;
+    walk_back(image, kinds, k - half, middle)
 }
 
 // The modification time of the sector at block b.

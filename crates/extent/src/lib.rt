@@ -28,13 +28,10 @@ pub fn total_length(s: &[u8], at: usize, n: u32) -> u64
     requires { at + descriptors_length n ≤ length s.now }
     ensures { result ≡ total_length (extents_from n s.now at) }
 {
-    let count = n as usize;
     let mut total: u64 = 0;
-    let mut i: usize = 0;
-    while i < count {
+    for i in 0..n as usize {
         let e = read(s, at + 8 * i);
-        total += e.length as u64;
-        i += 1;
+        total += u64::from(e.length);
     }
     total
 }

@@ -10,12 +10,12 @@ use native.Mathlib.Omega.{arith}
 use mathlib.Core.Path.{◌≡◌, refl, sym, ap, ◌∙◌, subst}
 use mathlib.Core.Bool.{Bool, true, false}
 use mathlib.Core.List.{List, [], ◌∷◌}
-use mathlib.Core.Option.{Option, none, some}
+use Rattle.std.specs.Prelude.{Option, None, Some}
 use lib.ListN.{length, get_or}
 use lib.Dec.{eqb}
 use borrow.Author.Tests.{ne_eqb, eqb-false}
 use Rattle.vat.specs.Table.{unused}
-use Rattle.disc.specs.declared.Walk.TheVariants.{Reached}
+use Rattle.std.specs.Prelude.{Ok}
 use Rattle.disc.specs.Tables.{stepped, walk}
 use Rattle.disc.proofs.Found.{newest-table}
 use Rattle.history.specs.History.{Snapshot, History, Fed, saved, feed}
@@ -44,14 +44,14 @@ module _ (F : Format) where
   way-start d zero t b w = w.1
   way-start d (suc k) t b w = w.0
 
-  pub way-walk : (d : F.Disc) (k t b : ℕ) → Way d k t b → walk (F.table d) (F.previous_at d) k t ≡ Reached b
+  pub way-walk : (d : F.Disc) (k t b : ℕ) → Way d k t b → walk (F.table d) (F.previous_at d) k t ≡ Ok b
   unfolding walk
-  way-walk d zero t b w = ap Reached w.0
+  way-walk d zero t b w = ap Ok w.0
   way-walk d (suc k) t b w = rw (ne_eqb (F.previous_at d t) unused w.1, w.2) (way-walk d k (F.previous_at d t) b w.3)
 
   -- and where the walk back reaches a save, the way leads there, since every table is recorded
   pub walk-way : (d : F.Disc) → ((b : ℕ) → F.table d b ≡ true → b < F.recorded d) → (k t b : ℕ) → t < F.recorded d
-      → walk (F.table d) (F.previous_at d) k t ≡ Reached b → Way d k t b
+      → walk (F.table d) (F.previous_at d) k t ≡ Ok b → Way d k t b
   unfolding walk
   walk-way d recorded-table zero t b h e = let same : t ≡ b = cc in (same, h)
   walk-way d recorded-table (suc k) t b h e = go (eqb old unused) refl (F.table d old) refl e (walk-way d recorded-table k old b)
@@ -59,8 +59,8 @@ module _ (F : Format) where
       old : ℕ
       old = F.previous_at d t
 
-      go : (u : Bool) → eqb old unused ≡ u → (p : Bool) → F.table d old ≡ p → stepped u p (walk (F.table d) (F.previous_at d) k old) ≡ Reached b
-          → (old < F.recorded d → walk (F.table d) (F.previous_at d) k old ≡ Reached b → Way d k old b) → Way d (suc k) t b
+      go : (u : Bool) → eqb old unused ≡ u → (p : Bool) → F.table d old ≡ p → stepped u p (walk (F.table d) (F.previous_at d) k old) ≡ Ok b
+          → (old < F.recorded d → walk (F.table d) (F.previous_at d) k old ≡ Ok b → Way d k old b) → Way d (suc k) t b
       go true z p y e ih = absurd (let n : ◌≡◌ {A = ℕ} 0 1 = cc in omega arith)
       go false z false y e ih = absurd (let n : ◌≡◌ {A = ℕ} 0 1 = cc in omega arith)
       go false z true y e ih = (h, eqb-false old unused z, y, ih (recorded-table old y) e)
@@ -76,7 +76,7 @@ module _ (F : Format) where
   -- the save at block b, k steps back from the newest table
   pub record Behind (d : F.Disc) (k b : ℕ) : Type 0 where
     pub newest : ℕ
-    pub is-newest : newest_of F d ≡ some newest
+    pub is-newest : newest_of F d ≡ Some newest
     pub way : Way d k newest b
 
   chain-way : (d : F.Disc) (b : ℕ) (p : Snapshot) (ps : List Snapshot) → Chain F d b p ps → (k : ℕ) → k < suc (length ps)
@@ -137,8 +137,8 @@ module _ (F : Format) where
   since-kept h (Step.begun second none-there) i r = r
   since-kept h (Step.mounted second t there) i r = r
   since-kept h (Step.looked k second w looks) i r = r
-  since-kept h (Step.wrote xs last none t block p inside used reads) i r = since-plain p r
-  since-kept h (Step.wrote xs last (some n) t block p inside used reads) i r = since-plain p r
+  since-kept h (Step.wrote xs last None t block p inside used reads) i r = since-plain p r
+  since-kept h (Step.wrote xs last (Some n) t block p inside used reads) i r = since-plain p r
   since-kept h (Step.released xs last n second) i r = r
   since-kept h (Step.committed xs last t second s) i r = since-saved xs last t s i.draft r
   since-kept {s} {s'} h (Step.lost f clears p) i {m} {k} {b} r = subst (λ (g : History). Since s'.disc g.pages m k b) (sym (clears h)) (since-plain p r)

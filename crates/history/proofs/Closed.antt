@@ -9,7 +9,7 @@ use mathlib.Core.Path.{◌≡◌, refl, sym, ap, ◌∙◌, subst, subst₂}
 use mathlib.Core.Bool.{Bool, true, false, not}
 use mathlib.Core.List.{List, [], ◌∷◌, ◌++◌}
 use mathlib.Core.Logic.{inl, inr}
-use mathlib.Core.Option.{Option, some}
+use Rattle.std.specs.Prelude.{Option, Some}
 use lib.Dec.{eqb}
 use lib.ListN.{length, take, drop, replicate, length-append, length-replicate}
 use lib.Seq.{drop-cons}
@@ -50,7 +50,7 @@ use Rattle.history.proofs.Theorem.{Kept, all-kept, claimed, begun_kept, mounted-
 abbrev Stands : Disc → ℕ → List Sector → Type 0
 Stands d b [] = Unit
 Stands d b (link ∷ ss) = ⊥
-Stands d b (plain s ∷ ss) = (content d b ≡ some s) × Stands d (suc b) ss
+Stands d b (plain s ∷ ss) = (content d b ≡ Some s) × Stands d (suc b) ss
 Stands d b (torn s ∷ ss) = ⊥
 
 zeros-data : (n : ℕ) → AllData (replicate n zero_sector)
@@ -106,7 +106,7 @@ kinds-of (plain t ∷ ss) d b s =
     rw (drop-cons d.kinds b 0 (data-within d.kinds b is), is) (kinds-of ss d (suc b) s.1)
 
 first_of : (main reserve : Extent) (start b n : ℕ) (own : List Sector) (d : Disc) (at : ℕ) → Stands d at (closing main reserve start b n ++ own)
-    → content d at ≡ some (anchor tag_version main reserve (start + b))
+    → content d at ≡ Some (anchor tag_version main reserve (start + b))
 unfolding closing
 first_of main reserve start b n own d at s = s.0
 
@@ -286,7 +286,7 @@ same-disc (e ∷ es) w closed =
 
 -- ---- the claim
 
-module _ (d : Disc) (l : List ℕ) (h : History) (k : Kept (record { disc = d; ledger = some l }) h) (main reserve : Extent) (start : ℕ) (e : outcome d l (close_session main reserve start) ≡ 0) where
+module _ (d : Disc) (l : List ℕ) (h : History) (k : Kept (record { disc = d; ledger = Some l }) h) (main reserve : Extent) (start : ℕ) (e : outcome d l (close_session main reserve start) ≡ 0) where
   abbrev call : Call
   call = close_session main reserve start
 
@@ -294,7 +294,7 @@ module _ (d : Disc) (l : List ℕ) (h : History) (k : Kept (record { disc = d; l
   shows-draft : (m : List ℕ) → length m ≡ ledger_length → DoneShowing (after d l call).disc m mount (drafted d l h k call refl e).0
   unfolding AllAllowed runs remembers next feed
   shows-draft m long =
-      let w : World = record { disc = d; ledger = some l } in
+      let w : World = record { disc = d; ledger = Some l } in
       let pages : (feed h (fed w (calls call []))).pages ≡ (drafted d l h k call refl e).0 ∷ h.pages =
       ap (λ (f : Fed). (feed h f).pages) (done-fed w call [] e) ∙ saved-page d l h k call refl e (effect d l call).second in
       let claim : Claim (after d l call).disc (feed h (fed w (calls call []))) = claimed (next w (calls call [])) (feed h (fed w (calls call []))) (all-kept (calls call [] ∷ []) w h k (λ z. absurd (none-some l (sym z)), tt)) in
@@ -313,7 +313,7 @@ module _ (d : Disc) (l : List ℕ) (h : History) (k : Kept (record { disc = d; l
 
 closes : (w : World) (h : History) → Kept w h → Closes w h
 closes w h k l here main reserve start e =
-    let k' : Kept (record { disc = w.disc; ledger = some l }) h = subst (λ (o : Option (List ℕ)). Kept (record { disc = w.disc; ledger = o }) h) here k in
+    let k' : Kept (record { disc = w.disc; ledger = Some l }) h = subst (λ (o : Option (List ℕ)). Kept (record { disc = w.disc; ledger = o }) h) here k in
     let p = drafted w.disc l h k' (close_session main reserve start) refl e in
     (p.0, p.1, shows-closed w.disc l h k' main reserve start e)
 

@@ -8,7 +8,7 @@ use mathlib.Core.Path.{◌≡◌, refl, sym, ap, ap₂, ◌∙◌, subst}
 use mathlib.Core.Bool.{Bool, true, false, ◌&&◌, ◌||◌}
 use mathlib.Core.List.{List, [], ◌∷◌, ◌++◌}
 use mathlib.Core.Logic.{inl, inr}
-use mathlib.Core.Option.{Option, none, some}
+use Rattle.std.specs.Prelude.{Option, None, Some}
 use lib.Dec.{eqb, ltb}
 use lib.ListN.{length, take, replicate, get_or}
 use lib.Seq.{take-append-le, length-take-le, take-length}
@@ -110,7 +110,7 @@ module _ (d : Disc) (ok : Sound d) (room : recorded d < length d.kinds) where
   not_there (torn s) w n = other-kind (put d (recorded d) (torn s)) (recorded d) (λ e. let z = sym (put-recorded d ok room (torn s) w).its-kind ∙ e in omega arith)
 
   -- a data sector reads its bytes
-  pub plain-content : (s : List ℕ) → length s ≡ sector_length → content (put d (recorded d) (plain s)) (recorded d) ≡ some s
+  pub plain-content : (s : List ℕ) → length s ≡ sector_length → content (put d (recorded d) (plain s)) (recorded d) ≡ Some s
   unfolding content
   plain-content s w =
       ap₂ (λ (k : ℕ) (t : List ℕ). readable (eqb k 1) t) (put-recorded d ok room (plain s) w).its-kind (plain_here d ok room s w)
@@ -207,7 +207,7 @@ module _ (d : Disc) (ok : Sound d) (ss : List Sector) (w : AllWhole ss) (n : NoT
   unfolding before
   behind-extends = subst (λ (x : Disc). Extends F (puts d (recorded d) ss) x) (sym goes-behind) (extends-of last-recorded)
 
-  pub behind-content : content (puts d (recorded d) (behind ss s)) (recorded d + length ss) ≡ some s
+  pub behind-content : content (puts d (recorded d) (behind ss s)) (recorded d + length ss) ≡ Some s
   behind-content =
       ap₂ content goes-behind (sym before-grown.counted) ∙ plain-content before before-grown.still-sound before-room s long
 
@@ -281,8 +281,8 @@ cut_left ss d j tear ok room Some-of w n t = go (ltb j (length ss)) refl tear t
 
     go : (u : Bool) → ltb j (length ss) ≡ u → (tear : Option (List ℕ)) → Torn tear → Left d (torn_at u tear (recorded d + j) (puts d (recorded d) (take j ss)))
     go false e tear t = record { plainly = g.plainly; still-sound = g.still-sound }
-    go true e none t = record { plainly = g.plainly; still-sound = g.still-sound }
-    go true e (some bytes) t =
+    go true e None t = record { plainly = g.plainly; still-sound = g.still-sound }
+    go true e (Some bytes) t =
         let d₁ : Disc = puts d (recorded d) (take j ss) in
         let at : recorded d₁ ≡ recorded d + j = g.counted ∙ ap (λ (k : ℕ). recorded d + k) count in
         let here : recorded d₁ < length d₁.kinds = omega (arith, ltb-true j (length ss) e, g.same_length) in

@@ -9,7 +9,7 @@ use native.Mathlib.Omega.{arith}
 use mathlib.Core.Path.{◌≡◌, refl, sym, ap, ap₂, ◌∙◌, subst}
 use mathlib.Core.Bool.{Bool, true, false}
 use mathlib.Core.List.{List, [], ◌∷◌, ◌++◌, map}
-use mathlib.Core.Option.{Option, none, some}
+use Rattle.std.specs.Prelude.{Option, None, Some}
 use mathlib.Core.Logic.{◌⊎◌, inl, inr}
 use lib.Dec.{eqb, ltb}
 use lib.ListN.{length, set}
@@ -51,8 +51,8 @@ all-below-more r r' (x ∷ xs) h a = (below_more r r' x h a.0, all-below-more r 
 
 -- the map that a write at block b leaves: one without a number leaves it as it is
 abbrev pub written_map : Option ℕ → List ℕ → ℕ → List ℕ
-written_map none xs b = xs
-written_map (some n) xs b = grown_map (eqb n (length xs)) xs n b
+written_map None xs b = xs
+written_map (Some n) xs b = grown_map (eqb n (length xs)) xs n b
 
 -- the working state as the history sees it
 pub record View : Type 0 where
@@ -61,18 +61,18 @@ pub record View : Type 0 where
   pub looking : Bool
 
 abbrev pub or_unused : Option ℕ → ℕ
-or_unused none = unused
-or_unused (some b) = b
+or_unused None = unused
+or_unused (Some b) = b
 
 is_none : {A : Type 0} → Option A → ℕ
-is_none none = 1
-is_none (some b) = 0
+is_none None = 1
+is_none (Some b) = 0
 
-pub none-some : {A : Type 0} (b : A) → ◌≡◌ {A = Option A} none (some b) → ⊥
+pub none-some : {A : Type 0} (b : A) → ◌≡◌ {A = Option A} None (Some b) → ⊥
 unfolding is_none
 none-some b e = let z : ◌≡◌ {A = ℕ} 1 0 = ap is_none e in omega arith
 
-pub some_same : {A : Type 0} (a b : A) → some a ≡ some b → a ≡ b
+pub some_same : {A : Type 0} (a b : A) → Some a ≡ Some b → a ≡ b
 some_same a b e = cc
 
 lt-or-ge : (a b : ℕ) → (a < b) ⊎ (b ≤ a)
@@ -160,18 +160,18 @@ module _ (F : Format) where
   pub data Step : State → Fed → State → Type 0 where
     -- a refused call, a read, a packet closed
     quiet : {s : State} {f : Fed} → ((h : History) → feed h f ≡ h) → Step s f s
-    begun : {d : F.Disc} {v : Option View} (second : ℕ) → newest_of d ≡ none → Step (at d v) (answered Told.begin 0 second) (at d (some (working [] unused)))
-    mounted : {d : F.Disc} {v : Option View} (second b : ℕ) → newest_of d ≡ some b
-        → Step (at d v) (answered Told.mount 0 second) (at d (some (working (F.map_at d b) b)))
-    looked : {d : F.Disc} {v : Option View} (k second : ℕ) (w : View) → w.looking ≡ true → Step (at d v) (answered (Told.look_back k) 0 second) (at d (some w))
+    begun : {d : F.Disc} {v : Option View} (second : ℕ) → newest_of d ≡ None → Step (at d v) (answered Told.begin 0 second) (at d (Some (working [] unused)))
+    mounted : {d : F.Disc} {v : Option View} (second b : ℕ) → newest_of d ≡ Some b
+        → Step (at d v) (answered Told.mount 0 second) (at d (Some (working (F.map_at d b) b)))
+    looked : {d : F.Disc} {v : Option View} (k second : ℕ) (w : View) → w.looking ≡ true → Step (at d v) (answered (Told.look_back k) 0 second) (at d (Some w))
     wrote : {d d' : F.Disc} (xs : List ℕ) (last : ℕ) (n : Option ℕ) (b : ℕ) (block : List ℕ) → Plain d d' → b < F.recorded d'
-        → (b ≡ unused → ⊥) → F.content d' b ≡ some block
-        → Step (at d (some (working xs last))) (answered (Told.write n block) 0 b) (at d' (some (working (written_map n xs b) last)))
-    released : {d : F.Disc} (xs : List ℕ) (last n second : ℕ) → Step (at d (some (working xs last))) (answered (Told.release n) 0 second) (at d (some (working (set xs n unused) last)))
+        → (b ≡ unused → ⊥) → F.content d' b ≡ Some block
+        → Step (at d (Some (working xs last))) (answered (Told.write n block) 0 b) (at d' (Some (working (written_map n xs b) last)))
+    released : {d : F.Disc} (xs : List ℕ) (last n second : ℕ) → Step (at d (Some (working xs last))) (answered (Told.release n) 0 second) (at d (Some (working (set xs n unused) last)))
     committed : {d d' : F.Disc} (xs : List ℕ) (last b second : ℕ) → Saved d d' (working xs last) b
-        → Step (at d (some (working xs last))) (answered Told.commit 0 second) (at d' (some (working xs b)))
-    lost : {d d' : F.Disc} {v : Option View} (f : Fed) → ((h : History) → feed h f ≡ record { pages = h.pages; draft = none }) → Plain d d' → Step (at d v) f (at d' none)
-    lost-saved : {d d' : F.Disc} (xs : List ℕ) (last b : ℕ) → Saved d d' (working xs last) b → Step (at d (some (working xs last))) (cut_commit true) (at d' none)
+        → Step (at d (Some (working xs last))) (answered Told.commit 0 second) (at d' (Some (working xs b)))
+    lost : {d d' : F.Disc} {v : Option View} (f : Fed) → ((h : History) → feed h f ≡ record { pages = h.pages; draft = None }) → Plain d d' → Step (at d v) f (at d' None)
+    lost-saved : {d d' : F.Disc} (xs : List ℕ) (last b : ℕ) → Saved d d' (working xs last) b → Step (at d (Some (working xs last))) (cut_commit true) (at d' None)
 
   -- ---- the invariant
 
@@ -185,22 +185,22 @@ module _ (F : Format) where
   Chain d b p (q ∷ qs) = Link d b p × (F.previous_at d b ≡ unused → ⊥) × Chain d (F.previous_at d b) q qs
 
   abbrev pub Pages : F.Disc → List Snapshot → Type 0
-  Pages d [] = newest_of d ≡ none
-  Pages d (p ∷ ps) = (b : ℕ) × (newest_of d ≡ some b) × Chain d b p ps
+  Pages d [] = newest_of d ≡ None
+  Pages d (p ∷ ps) = (b : ℕ) × (newest_of d ≡ Some b) × Chain d b p ps
 
   -- the working map shows the draft, and its last table is the newest on the disc
   pub record Drafted (d : F.Disc) (xs : List ℕ) (last : ℕ) (draft : Option Snapshot) : Type 0 where
-    pub shown : draft ≡ some (page_from d xs)
+    pub shown : draft ≡ Some (page_from d xs)
     pub named : AllBelow (F.recorded d) xs
     pub newest : last ≡ or_unused (newest_of d)
 
   abbrev pub HeldIf : Bool → F.Disc → List ℕ → ℕ → Option Snapshot → Type 0
-  HeldIf true d xs last draft = draft ≡ none
+  HeldIf true d xs last draft = draft ≡ None
   HeldIf false d xs last draft = Drafted d xs last draft
 
   abbrev pub Held : F.Disc → Option View → Option Snapshot → Type 0
-  Held d none draft = draft ≡ none
-  Held d (some v) draft = HeldIf v.looking d v.map v.last draft
+  Held d None draft = draft ≡ None
+  Held d (Some v) draft = HeldIf v.looking d v.map v.last draft
 
   pub record Inv (s : State) (h : History) : Type 0 where
     pub pages : Pages s.disc h.pages
@@ -249,7 +249,7 @@ module _ (F : Format) where
       let e : F.recorded d + (F.recorded d' - F.recorded d) ≡ F.recorded d' = omega arith in
       rw e at (newest-on p (F.recorded d' - F.recorded d) (omega arith))
 
-  pub newest-saved : {d d' : F.Disc} (v : View) (b : ℕ) → Saved d d' v b → newest_of d' ≡ some b
+  pub newest-saved : {d d' : F.Disc} (v : View) (b : ℕ) → Saved d d' v b → newest_of d' ≡ Some b
   unfolding newest_below
   newest-saved {d} {d'} v b s = rw (s.last-sector, s.a-table)
 
@@ -311,19 +311,19 @@ module _ (F : Format) where
     drafted-plain : {d d' : F.Disc} → Plain d d' → (xs : List ℕ) (last : ℕ) (draft : Option Snapshot) → Drafted d xs last draft → Drafted d' xs last draft
     drafted-plain {d} {d'} p xs last draft g =
         record {
-          shown = g.shown ∙ ap some (sym (page-kept p.extends xs g.named));
+          shown = g.shown ∙ ap Some (sym (page-kept p.extends xs g.named));
           named = all-below-more (F.recorded d) (F.recorded d') xs p.extends.more g.named;
           newest = g.newest ∙ ap or_unused (sym (newest-plain p));
         }
 
     -- entry n becomes block b, which reads the block lent
-    page-written : (t : Bool) (d : F.Disc) (xs : List ℕ) (n b : ℕ) (block : List ℕ) → (b ≡ unused → ⊥) → F.content d b ≡ some block
-        → placed t (page_from d xs) n (shows b (some block)) ≡ page_from d (grown_map t xs n b)
+    page-written : (t : Bool) (d : F.Disc) (xs : List ℕ) (n b : ℕ) (block : List ℕ) → (b ≡ unused → ⊥) → F.content d b ≡ Some block
+        → placed t (page_from d xs) n (shows b (Some block)) ≡ page_from d (grown_map t xs n b)
     page-written true d xs n b block u c =
-        let entry : shown_of d b ≡ shows b (some block) = rw (ne_eqb b unused u, c) in
+        let entry : shown_of d b ≡ shows b (Some block) = rw (ne_eqb b unused u, c) in
         sym (page-append d xs (b ∷ []) ∙ ap (λ (y : Entry). page_from d xs ++ (y ∷ [])) entry)
     page-written false d xs n b block u c =
-        let entry : shown_of d b ≡ shows b (some block) = rw (ne_eqb b unused u, c) in
+        let entry : shown_of d b ≡ shows b (Some block) = rw (ne_eqb b unused u, c) in
         sym (page-set d xs n b ∙ ap (set (page_from d xs) n) entry)
 
     grown-below : (t : Bool) (r : ℕ) (xs : List ℕ) (n b : ℕ) → AllBelow r xs → Named r b → AllBelow r (grown_map t xs n b)
@@ -331,13 +331,13 @@ module _ (F : Format) where
     grown-below false r xs n b a h = all-below-set r xs n b a h
 
     -- a mounted table is the newest page's
-    mounted-page : (d : F.Disc) (b : ℕ) → newest_of d ≡ some b → (ps : List Snapshot) → Pages d ps → newest_page ps ≡ some (page_from d (F.map_at d b))
+    mounted-page : (d : F.Disc) (b : ℕ) → newest_of d ≡ Some b → (ps : List Snapshot) → Pages d ps → newest_page ps ≡ Some (page_from d (F.map_at d b))
     mounted-page d b e [] n = absurd (none-some b (sym n ∙ e))
     mounted-page d b e (p ∷ ps) n =
         let same : n.0 ≡ b = some_same n.0 b (sym n.1 ∙ e) in
-        ap some ((head-link n.0 p ps n.2).page ∙ ap (λ (x : ℕ). page_from d (F.map_at d x)) same)
+        ap Some ((head-link n.0 p ps n.2).page ∙ ap (λ (x : ℕ). page_from d (F.map_at d x)) same)
 
-    mounted-below : (d : F.Disc) (b : ℕ) → newest_of d ≡ some b → (ps : List Snapshot) → Pages d ps → AllBelow (F.recorded d) (F.map_at d b)
+    mounted-below : (d : F.Disc) (b : ℕ) → newest_of d ≡ Some b → (ps : List Snapshot) → Pages d ps → AllBelow (F.recorded d) (F.map_at d b)
     mounted-below d b e [] n = absurd (none-some b (sym n ∙ e))
     mounted-below d b e (p ∷ ps) n =
         let l : Link d n.0 p = head-link n.0 p ps n.2 in
@@ -361,19 +361,19 @@ module _ (F : Format) where
               };
         }
     kept h (looked {d} k second w looks) i = record { pages = i.pages; draft = rw looks refl }
-    kept h (wrote xs last none b block p inside used reads) i =
+    kept h (wrote xs last None b block p inside used reads) i =
         record { pages = pages-plain p h.pages i.pages; draft = drafted-plain p xs last h.draft i.draft }
-    kept h (wrote {d} {d'} xs last (some n) b block p inside used reads) i =
+    kept h (wrote {d} {d'} xs last (Some n) b block p inside used reads) i =
         let g : Drafted d' xs last h.draft = drafted-plain p xs last h.draft i.draft in
         let page : Snapshot = page_from d' xs in
-        let entry : Entry = shows b (some block) in
+        let entry : Entry = shows b (Some block) in
         record {
           pages = pages-plain p h.pages i.pages;
           draft =
               record {
                 shown =
                     ap (on_draft (λ q. placed (eqb n (length q)) q n entry)) g.shown
-                    ∙ ap some (ap (λ (k : ℕ). placed (eqb n k) page n entry) (length-page d' xs) ∙ page-written (eqb n (length xs)) d' xs n b block used reads);
+                    ∙ ap Some (ap (λ (k : ℕ). placed (eqb n k) page n entry) (length-page d' xs) ∙ page-written (eqb n (length xs)) d' xs n b block used reads);
                 named = grown-below (eqb n (length xs)) (F.recorded d') xs n b g.named (inl inside);
                 newest = g.newest;
               };
@@ -384,7 +384,7 @@ module _ (F : Format) where
           pages = i.pages;
           draft =
               record {
-                shown = ap (on_draft (λ q. set q n unused_entry)) g.shown ∙ ap some (sym (page-set d xs n unused));
+                shown = ap (on_draft (λ q. set q n unused_entry)) g.shown ∙ ap Some (sym (page-set d xs n unused));
                 named = all-below-set (F.recorded d) xs n unused g.named (inr refl);
                 newest = g.newest;
               };
@@ -395,13 +395,13 @@ module _ (F : Format) where
           pages = subst (λ (o : Option Snapshot). Pages d' (saved o h.pages)) (sym g.shown) (pages-saved xs last b s h.pages i.pages g.named g.newest);
           draft =
               record {
-                shown = g.shown ∙ ap some (sym (page-kept s.extends xs g.named));
+                shown = g.shown ∙ ap Some (sym (page-kept s.extends xs g.named));
                 named = all-below-more (F.recorded d) (F.recorded d') xs s.extends.more g.named;
                 newest = ap or_unused (sym (newest-saved (working xs last) b s));
               };
         }
     kept h (lost {d} {d'} {v} f clears p) i =
-        subst (λ (g : History). Inv (at d' none) g) (sym (clears h)) (record { pages = pages-plain p h.pages i.pages; draft = refl })
+        subst (λ (g : History). Inv (at d' None) g) (sym (clears h)) (record { pages = pages-plain p h.pages i.pages; draft = refl })
     kept h (lost-saved {d} {d'} xs last b s) i =
         let g : Drafted d xs last h.draft = i.draft in
         record {

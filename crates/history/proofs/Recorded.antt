@@ -9,7 +9,7 @@ use native.Mathlib.Omega.{arith}
 use mathlib.Core.Path.{◌≡◌, refl, sym, ap, ap₂, ◌∙◌, subst}
 use mathlib.Core.Bool.{Bool, true, false, not}
 use mathlib.Core.List.{List, [], ◌∷◌, ◌++◌}
-use mathlib.Core.Option.{Option, none, some}
+use Rattle.std.specs.Prelude.{Option, None, Some}
 use lib.Dec.{eqb, ltb, lit<}
 use lib.ListN.{length, get_or, take, drop, replicate, length-append, length-replicate, length-take, length-set}
 use lib.Seq.{take-append-le, take-take, take-set-le, get_or-take}
@@ -17,7 +17,7 @@ use borrow.Author.Tests.{le-ltb}
 use Rattle.vat.specs.Table.{sector_length, limit, unused}
 use Rattle.vat.specs.Sector.{no_stamp, table_bytes}
 use Rattle.disc.specs.Disc.{Disc, sized, counted, leading, recorded, in_order, blanks, kind_at, sector_at, readable, content, Sector, link, plain, torn, stored, put, puts}
-use Rattle.disc.specs.declared.Walk.{Walk}
+use Rattle.disc.specs.Tables.{Walk}
 use Rattle.disc.specs.Tables.{table_at, newest, block_found}
 use Rattle.disc.specs.Again.{fresh_of}
 use Rattle.disc.specs.Save.{save_sectors, last_block}
@@ -83,8 +83,8 @@ module _ (r : ℕ) where
       keeps_on p (puts-keeps ss (put d b s) (b + 1) (omega arith) p.long)
 
   torn-keeps : (t : Bool) (tear : Option (List ℕ)) (d : Disc) (b : ℕ) → r ≤ b → sector_length * r ≤ length d.image → Keeps r d (torn_at t tear b d)
-  torn-keeps true (some s) d b low long = put_keeps d b (torn s) low long
-  torn-keeps true none d b low long = record { long = long; kinds = refl; bytes = refl }
+  torn-keeps true (Some s) d b low long = put_keeps d b (torn s) low long
+  torn-keeps true None d b low long = record { long = long; kinds = refl; bytes = refl }
   torn-keeps false tear d b low long = record { long = long; kinds = refl; bytes = refl }
 
 -- ---- one event
@@ -268,8 +268,8 @@ few-recorded : (d : Disc) → Sound d → recorded d < 4294967296
 few-recorded d ok = omega (arith, leading_le d.kinds, ok.few)
 
 long-with : (n : Option ℕ) (b : ℕ) (l : List ℕ) → length (entries_with n b (unpack l).entries) ≡ limit
-long-with none b l = long-unpack l
-long-with (some n) b l = length-set (unpack l).entries n b ∙ long-unpack l
+long-with None b l = long-unpack l
+long-with (Some n) b l = length-set (unpack l).entries n b ∙ long-unpack l
 
 -- ---- the ledger that it leaves counts that
 
@@ -344,7 +344,7 @@ effect-left d l (time_of k answer) e t = absurd (mathlib.Core.Bool.true≢false 
 -- ---- and so it is after any events
 
 abbrev Counts : World → Type 0
-Counts w = (m : List ℕ) → w.ledger ≡ some m → (unpack m).recorded ≡ recorded w.disc
+Counts w = (m : List ℕ) → w.ledger ≡ Some m → (unpack m).recorded ≡ recorded w.disc
 
 done-counts : (d : Disc) (l : List ℕ) (c : Call) → outcome d l c ≡ 0 → only_tells c ≡ false → Counts (after_call d l c)
 unfolding after

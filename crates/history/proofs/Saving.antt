@@ -10,7 +10,7 @@ use mathlib.Core.Path.{◌≡◌, refl, sym, ap, ◌∙◌, subst, subst₂}
 use mathlib.Core.Bool.{Bool, true, false, ◌||◌}
 use mathlib.Core.List.{List, [], ◌++◌, append_assoc}
 use mathlib.Core.Logic.{inl, inr}
-use mathlib.Core.Option.{Option, none, some}
+use Rattle.std.specs.Prelude.{Option, None, Some}
 use lib.Dec.{eqb}
 use lib.ListN.{length, replicate, length-append, length-replicate}
 use borrow.Author.Tests.{eqb-true}
@@ -58,8 +58,8 @@ told-save (time_of k answer) s = absurd (mathlib.Core.Bool.false≢true s)
 pub unsaved : (c : Call) → saves c ≡ false → (second : ℕ) (h : History) → (done (told c) second h).pages ≡ h.pages
 unsaved begin s second h = refl
 unsaved mount s second h = refl
-unsaved (write none block) s second h = refl
-unsaved (write (some n) block) s second h = refl
+unsaved (write None block) s second h = refl
+unsaved (write (Some n) block) s second h = refl
 unsaved (release n) s second h = refl
 unsaved close_packet s second h = refl
 unsaved (commit stamp) s second h = absurd (mathlib.Core.Bool.true≢false s)

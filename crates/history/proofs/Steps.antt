@@ -6,7 +6,7 @@ use mathlib.Core.Path.{◌≡◌, refl, sym, ap, ap₂, ◌∙◌, subst, subst�
 use mathlib.Core.Bool.{Bool, true, false, ◌&&◌}
 use mathlib.Core.List.{List, [], ◌∷◌}
 use mathlib.Core.Logic.{inl, inr}
-use mathlib.Core.Option.{Option, none, some}
+use Rattle.std.specs.Prelude.{Option, None, Some}
 use lib.Dec.{eqb, lit<, eqb-suc-zero}
 use lib.ListN.{length, replicate, length-replicate}
 use lib.Arith.{lt_of_le-ne}
@@ -42,16 +42,16 @@ abbrev pub view_is : Volume → View
 view_is v = record { map = map_of v; last = v.last; looking = eqb v.mode read_only }
 
 abbrev pub view_of : Option (List ℕ) → Option View
-view_of none = none
-view_of (some l) = some (view_is (unpack l))
+view_of None = None
+view_of (Some l) = Some (view_is (unpack l))
 
 abbrev pub state_of : World → State F
 state_of w = at F w.disc (view_of w.ledger)
 
 -- a lost ledger may hold anything; any other is what a call left
 abbrev pub GoodLedger : Option (List ℕ) → Type 0
-GoodLedger none = Unit
-GoodLedger (some l) = Proper (unpack l)
+GoodLedger None = Unit
+GoodLedger (Some l) = Proper (unpack l)
 
 pub record Good (w : World) : Type 0 where
   pub sound-disc : Sound w.disc
@@ -109,7 +109,7 @@ unfolding fed second_number
 refused-fed w c junk n e = rw e
 
 abbrev done_world : World → List ℕ → Call → World
-done_world w l c = record { disc = puts w.disc (recorded w.disc) (effect w.disc l c).sectors; ledger = some (effect w.disc l c).ledger }
+done_world w l c = record { disc = puts w.disc (recorded w.disc) (effect w.disc l c).sectors; ledger = Some (effect w.disc l c).ledger }
 
 done_next : (w : World) (c : Call) (junk : List ℕ) → only_tells c ≡ false → outcome w.disc (ledger_held w.ledger junk) c ≡ 0 → next w (calls c junk) ≡ done_world w (ledger_held w.ledger junk) c
 unfolding next after
@@ -133,7 +133,7 @@ begin-step w l g e =
     record {
       good = record { sound-disc = g.sound-disc; ledger-good = packed-good (begun (recorded d)) ok };
       step =
-          subst (λ (v : View). Step F (state_of w) (answered Told.begin 0 0) (at F d (some v))) (sym (packed-view (begun (recorded d)) ok)) (Step.begun 0 facts.1);
+          subst (λ (v : View). Step F (state_of w) (answered Told.begin 0 0) (at F d (Some v))) (sym (packed-view (begun (recorded d)) ok)) (Step.begun 0 facts.1);
     }
 
 filled-view : (map : List ℕ) (b r : ℕ) → view_is (filled map b r idle) ≡ working F map b
@@ -151,11 +151,11 @@ mount-step w l g e =
     let v : Volume = shown_at d b idle in
     let ok : Proper v = proper-table d g.sound-disc b idle (lit< tt) table in
     let view : view_is (unpack (pack v)) ≡ working F (map_at d b) b = packed-view v ok ∙ filled-view (map_at d b) b (recorded d) in
-    subst (λ (x : ℕ). GoodStep w (answered Told.mount 0 (effect d l mount).second) (record { disc = d; ledger = some (pack (shown_at d x idle)) })) (sym here)
+    subst (λ (x : ℕ). GoodStep w (answered Told.mount 0 (effect d l mount).second) (record { disc = d; ledger = Some (pack (shown_at d x idle)) })) (sym here)
     (record {
       good = record { sound-disc = g.sound-disc; ledger-good = packed-good v ok };
       step =
-          subst (λ (u : View). Step F (state_of w) (answered Told.mount 0 (effect d l mount).second) (at F d (some u))) (sym view)
+          subst (λ (u : View). Step F (state_of w) (answered Told.mount 0 (effect d l mount).second) (at F d (Some u))) (sym view)
           (Step.mounted (effect d l mount).second b facts.1.1);
     })
 
@@ -174,7 +174,7 @@ look-back-step w l k g e =
     let here : block_reached (walked d k) ≡ b = ap block_reached facts.1.1 in
     let v : Volume = shown_at d b read_only in
     let ok : Proper v = proper-table d g.sound-disc b read_only (lit< tt) (walked-table d k b facts.1.1) in
-    subst (λ (x : ℕ). GoodStep w (answered (Told.look_back k) 0 second) (record { disc = d; ledger = some (pack (shown_at d x read_only)) })) (sym here)
+    subst (λ (x : ℕ). GoodStep w (answered (Told.look_back k) 0 second) (record { disc = d; ledger = Some (pack (shown_at d x read_only)) })) (sym here)
     (record {
       good = record { sound-disc = g.sound-disc; ledger-good = packed-good v ok };
       step =
@@ -195,10 +195,10 @@ closed-view v = refl
 wrote-view : (v : Volume) (n : Option ℕ) (b : ℕ) → Writable v n → v.size ≤ length v.entries → length v.entries ≡ limit
     → view_is (wrote n b v) ≡ working F (written_map n (map_of v) b) v.last
 unfolding wrote
-wrote-view v none b w enough long = refl
-wrote-view v (some n) b w enough long =
+wrote-view v None b w enough long = refl
+wrote-view v (Some n) b w enough long =
     let counted : eqb n v.size ≡ eqb n (length (map_of v)) = ap (eqb n) (sym (length-map v enough)) in
-    let maps : map_of (wrote (some n) b v) ≡ grown_map (eqb n (length (map_of v))) (map_of v) n b =
+    let maps : map_of (wrote (Some n) b v) ≡ grown_map (eqb n (length (map_of v))) (map_of v) n b =
     map-wrote v n b w.1 enough (omega (arith, w.0, long)) ∙ ap (λ (t : Bool). grown_map t (map_of v) n b) counted in
     λ i. record { map = maps i; last = v.last; looking = false }
 
@@ -221,7 +221,7 @@ written-grown d l n block f =
 -- the ledger is there, since a lost one lets only begin, mount and look back be done
 module _ (d : Disc) (l : List ℕ) (sound : Sound d) (good : Proper (unpack l)) where
   release-step : (n : ℕ) → outcome d l (release n) ≡ 0
-      → GoodStep (record { disc = d; ledger = some l }) (answered (Told.release n) 0 0) (record { disc = d; ledger = some (pack (released n (unpack l))) })
+      → GoodStep (record { disc = d; ledger = Some l }) (answered (Told.release n) 0 0) (record { disc = d; ledger = Some (pack (released n (unpack l))) })
   release-step n e =
       let facts = release-done d l n e in
       let v : Volume = released n (unpack l) in
@@ -232,12 +232,12 @@ module _ (d : Disc) (l : List ℕ) (sound : Sound d) (good : Proper (unpack l)) 
       record {
         good = record { sound-disc = sound; ledger-good = packed-good v ok };
         step =
-            subst₂ (λ (a b : View). Step F (at F d (some a)) (answered (Told.release n) 0 0) (at F d (some b))) (sym before) (sym after-view)
+            subst₂ (λ (a b : View). Step F (at F d (Some a)) (answered (Told.release n) 0 0) (at F d (Some b))) (sym before) (sym after-view)
             (Step.released (map_of (unpack l)) (unpack l).last n 0);
       }
 
   close-step : outcome d l close_packet ≡ 0
-      → GoodStep (record { disc = d; ledger = some l }) (answered Told.close_packet 0 0) (record { disc = d; ledger = some (pack (closed (unpack l))) })
+      → GoodStep (record { disc = d; ledger = Some l }) (answered Told.close_packet 0 0) (record { disc = d; ledger = Some (pack (closed (unpack l))) })
   unfolding feed
   close-step e =
       let facts = close-done d l e in
@@ -248,17 +248,17 @@ module _ (d : Disc) (l : List ℕ) (sound : Sound d) (good : Proper (unpack l)) 
       record {
         good = record { sound-disc = sound; ledger-good = packed-good v ok };
         step =
-            subst (λ (b : View). Step F (at F d (some (view_is (unpack l)))) (answered Told.close_packet 0 0) (at F d (some b))) same
+            subst (λ (b : View). Step F (at F d (Some (view_is (unpack l)))) (answered Told.close_packet 0 0) (at F d (Some b))) same
             (Step.quiet (λ h. refl));
       }
 
-  read_step : (n : ℕ) (second : ℕ) → GoodStep (record { disc = d; ledger = some l }) (answered (Told.read n) 0 second) (record { disc = d; ledger = some l })
+  read_step : (n : ℕ) (second : ℕ) → GoodStep (record { disc = d; ledger = Some l }) (answered (Told.read n) 0 second) (record { disc = d; ledger = Some l })
   unfolding feed
   read_step n second = record { good = record { sound-disc = sound; ledger-good = good }; step = Step.quiet (λ h. refl) }
 
   write_step : (n : Option ℕ) (block : List ℕ) → outcome d l (write n block) ≡ 0
-      → GoodStep (record { disc = d; ledger = some l }) (answered (Told.write n block) 0 (target (unpack l)))
-      (record { disc = puts d (recorded d) (behind (replicate (links (unpack l)) link) block); ledger = some (pack (wrote n (target (unpack l)) (unpack l))) })
+      → GoodStep (record { disc = d; ledger = Some l }) (answered (Told.write n block) 0 (target (unpack l)))
+      (record { disc = puts d (recorded d) (behind (replicate (links (unpack l)) link) block); ledger = Some (pack (wrote n (target (unpack l)) (unpack l))) })
   write_step n block e =
       let f : WriteDone d l n block = write_done d l n block e in
       let v : Volume = unpack l in
@@ -277,7 +277,7 @@ module _ (d : Disc) (l : List ℕ) (sound : Sound d) (good : Proper (unpack l)) 
       record {
         good = record { sound-disc = g.still-sound; ledger-good = packed-good (wrote n (target v) v) ok };
         step =
-            subst₂ (λ (a b : View). Step F (at F d (some a)) (answered (Told.write n block) 0 (target v)) (at F d' (some b))) (sym before) (sym after-view)
+            subst₂ (λ (a b : View). Step F (at F d (Some a)) (answered (Told.write n block) 0 (target v)) (at F d' (Some b))) (sym before) (sym after-view)
             (Step.wrote (map_of v) v.last n (target v) block g.plainly
             (omega (arith, behind-counted d sound ss (links-whole (links v)) plain-links block f.block-long fits)) (λ z. omega arith)
             (ap (content d') here ∙ behind-content d sound ss (links-whole (links v)) plain-links block f.block-long fits));
@@ -285,7 +285,7 @@ module _ (d : Disc) (l : List ℕ) (sound : Sound d) (good : Proper (unpack l)) 
 
   -- a save, whichever call makes it
   save-step : (c : Call) → saves c ≡ true → outcome d l c ≡ 0
-      → GoodStep (record { disc = d; ledger = some l }) (answered Told.commit 0 (effect d l c).second) (done_world (record { disc = d; ledger = some l }) l c)
+      → GoodStep (record { disc = d; ledger = Some l }) (answered Told.commit 0 (effect d l c).second) (done_world (record { disc = d; ledger = Some l }) l c)
   save-step c is-save e =
       let s : Saving d l c = saving-done d l c is-save e in
       let v : Volume = unpack l in
@@ -298,12 +298,12 @@ module _ (d : Disc) (l : List ℕ) (sound : Sound d) (good : Proper (unpack l)) 
       ap (λ (x : Effect). x.sectors) (sym s.leaves) ∙ leaves-behind d l sound good c s in
       let after-view : view_is (unpack (pack (committed b v))) ≡ working F (map_of v) end =
       packed-view (committed b v) ok ∙ committed-view v b ∙ ap (working F (map_of v)) (at_table d l sound good c s) in
-      subst (λ (x : Effect). GoodStep (record { disc = d; ledger = some l }) (answered Told.commit 0 x.second) (record { disc = puts d (recorded d) x.sectors; ledger = some x.ledger })) (sym s.leaves)
-      (subst (λ (ss : List Sector). GoodStep (record { disc = d; ledger = some l }) (answered Told.commit 0 b) (record { disc = puts d (recorded d) ss; ledger = some (pack (committed b v)) })) (sym records)
+      subst (λ (x : Effect). GoodStep (record { disc = d; ledger = Some l }) (answered Told.commit 0 x.second) (record { disc = puts d (recorded d) x.sectors; ledger = Some x.ledger })) (sym s.leaves)
+      (subst (λ (ss : List Sector). GoodStep (record { disc = d; ledger = Some l }) (answered Told.commit 0 b) (record { disc = puts d (recorded d) ss; ledger = Some (pack (committed b v)) })) (sym records)
       (record {
         good = record { sound-disc = save-sound d l sound good c s; ledger-good = packed-good (committed b v) ok };
         step =
-            subst₂ (λ (x y : View). Step F (at F d (some x)) (answered Told.commit 0 b) (at F d' (some y))) (sym before) (sym after-view)
+            subst₂ (λ (x y : View). Step F (at F d (Some x)) (answered Told.commit 0 b) (at F d' (Some y))) (sym before) (sym after-view)
             (Step.committed (map_of v) v.last end b (save d l sound good c s));
       }))
 
@@ -315,18 +315,18 @@ done-step d o begin junk t g f e = begin-step (record { disc = d; ledger = o }) 
 done-step d o mount junk t g f e = mount-step (record { disc = d; ledger = o }) (ledger_held o junk) g e
 done-step d o (look_back k) junk t g f e = look-back-step (record { disc = d; ledger = o }) (ledger_held o junk) k g e
 done-step d o (time_of k answer) junk t g f e = absurd (mathlib.Core.Bool.true≢false t)
-done-step d none (write n block) junk t g f e = absurd (mathlib.Core.Bool.false≢true (f refl (e, refl)))
-done-step d none (release n) junk t g f e = absurd (mathlib.Core.Bool.false≢true (f refl (e, refl)))
-done-step d none close_packet junk t g f e = absurd (mathlib.Core.Bool.false≢true (f refl (e, refl)))
-done-step d none (commit stamp) junk t g f e = absurd (mathlib.Core.Bool.false≢true (f refl (e, refl)))
-done-step d none (close_session main reserve start) junk t g f e = absurd (mathlib.Core.Bool.false≢true (f refl (e, refl)))
-done-step d none (read n block) junk t g f e = absurd (mathlib.Core.Bool.false≢true (f refl (e, refl)))
-done-step d (some l) (write n block) junk t g f e = write_step d l g.sound-disc g.ledger-good n block e
-done-step d (some l) (release n) junk t g f e = release-step d l g.sound-disc g.ledger-good n e
-done-step d (some l) close_packet junk t g f e = close-step d l g.sound-disc g.ledger-good e
-done-step d (some l) (commit stamp) junk t g f e = save-step d l g.sound-disc g.ledger-good (commit stamp) refl e
-done-step d (some l) (close_session main reserve start) junk t g f e = save-step d l g.sound-disc g.ledger-good (close_session main reserve start) refl e
-done-step d (some l) (read n block) junk t g f e = read_step d l g.sound-disc g.ledger-good n 0
+done-step d None (write n block) junk t g f e = absurd (mathlib.Core.Bool.false≢true (f refl (e, refl)))
+done-step d None (release n) junk t g f e = absurd (mathlib.Core.Bool.false≢true (f refl (e, refl)))
+done-step d None close_packet junk t g f e = absurd (mathlib.Core.Bool.false≢true (f refl (e, refl)))
+done-step d None (commit stamp) junk t g f e = absurd (mathlib.Core.Bool.false≢true (f refl (e, refl)))
+done-step d None (close_session main reserve start) junk t g f e = absurd (mathlib.Core.Bool.false≢true (f refl (e, refl)))
+done-step d None (read n block) junk t g f e = absurd (mathlib.Core.Bool.false≢true (f refl (e, refl)))
+done-step d (Some l) (write n block) junk t g f e = write_step d l g.sound-disc g.ledger-good n block e
+done-step d (Some l) (release n) junk t g f e = release-step d l g.sound-disc g.ledger-good n e
+done-step d (Some l) close_packet junk t g f e = close-step d l g.sound-disc g.ledger-good e
+done-step d (Some l) (commit stamp) junk t g f e = save-step d l g.sound-disc g.ledger-good (commit stamp) refl e
+done-step d (Some l) (close_session main reserve start) junk t g f e = save-step d l g.sound-disc g.ledger-good (close_session main reserve start) refl e
+done-step d (Some l) (read n block) junk t g f e = read_step d l g.sound-disc g.ledger-good n 0
 
 settled-step : (w : World) (c : Call) (junk : List ℕ) → only_tells c ≡ false → Good w → Follows w c junk → GoodStep w (fed w (calls c junk)) (next w (calls c junk))
 settled-step w c junk t g f = go (outcome w.disc (ledger_held w.ledger junk) c) refl
@@ -365,10 +365,10 @@ call_step w (time_of k answer) junk g f = time-step w k answer junk g
 -- ---- a call that is cut
 
 abbrev cut_world : Disc → World
-cut_world d = record { disc = d; ledger = none }
+cut_world d = record { disc = d; ledger = None }
 
 abbrev Clears : Fed → Type 0
-Clears f = (h : History) → feed h f ≡ record { pages = h.pages; draft = none }
+Clears f = (h : History) → feed h f ≡ record { pages = h.pages; draft = None }
 
 lost-step : (w : World) (f : Fed) (d' : Disc) → Clears f → Left w.disc d' → GoodStep w f (cut_world d')
 lost-step w f d' clears left = record { good = record { sound-disc = left.still-sound; ledger-good = tt }; step = Step.lost f clears left.plainly }
@@ -424,8 +424,8 @@ cut-write-left : (d : Disc) (o : Option (List ℕ)) (n : Option ℕ) (block junk
     → (m : ℕ) → outcome d (ledger_held o junk) (write n block) ≡ m → Left d (cut_disc d (sectors_of d (ledger_held o junk) (write n block)) j tear)
 cut-write-left d o n block junk j tear g f h t (suc m) e =
     nothing_left d g.sound-disc (sectors_of d (ledger_held o junk) (write n block)) j tear (refused-records-none d (ledger_held o junk) (write n block) m e) h
-cut-write-left d none n block junk j tear g f h t zero e = absurd (mathlib.Core.Bool.false≢true (f refl (e, refl)))
-cut-write-left d (some l) n block junk j tear g f h t zero e =
+cut-write-left d None n block junk j tear g f h t zero e = absurd (mathlib.Core.Bool.false≢true (f refl (e, refl)))
+cut-write-left d (Some l) n block junk j tear g f h t zero e =
     let same : sectors_of d l (write n block) ≡ behind (replicate (links (unpack l)) link) block = done-records d l (write n block) e ∙ write-records d l n block in
     subst (λ (x : List Sector). Left d (cut_disc d x j tear)) (sym same)
     (cut-written d l n block j tear (write_done d l n block e) (subst (λ (x : List Sector). j ≤ length x) same h) t (eqb j (length (behind (replicate (links (unpack l)) link) block))) refl)
@@ -444,7 +444,7 @@ no-save-follows d l (look_back k) s f e = mathlib.Core.Bool.false≢true s
 no-save-follows d l (time_of k answer) s f e = mathlib.Core.Bool.false≢true s
 
 -- a save that would have been done, cut after j of its sectors
-module _ (d : Disc) (l : List ℕ) (g : Good (record { disc = d; ledger = some l })) (c : Call) (s : Saving d l c) (e : outcome d l c ≡ 0) where
+module _ (d : Disc) (l : List ℕ) (g : Good (record { disc = d; ledger = Some l })) (c : Call) (s : Saving d l c) (e : outcome d l c ≡ 0) where
   abbrev firsts : List Sector
   firsts = before_table d l g.sound-disc g.ledger-good c s
 
@@ -455,23 +455,23 @@ module _ (d : Disc) (l : List ℕ) (g : Good (record { disc = d; ledger = some l
   all-records = done-records d l c e ∙ leaves-behind d l g.sound-disc g.ledger-good c s
 
   cut-done-step : (j : ℕ) (tear : Option (List ℕ)) → j ≤ length (sectors_of d l c) → Torn tear → (t : Bool) → eqb j (length (sectors_of d l c)) ≡ t
-      → GoodStep (record { disc = d; ledger = some l }) (cut_commit (kept d l c j)) (cut_world (cut_disc d (sectors_of d l c) j tear))
+      → GoodStep (record { disc = d; ledger = Some l }) (cut_commit (kept d l c j)) (cut_world (cut_disc d (sectors_of d l c) j tear))
   cut-done-step j tear h t true z =
       let is-kept : kept d l c j ≡ true = ap₂ (λ (x : ℕ) (y : Bool). eqb x 0 && y) e z in
       let all : cut_disc d (sectors_of d l c) j tear ≡ saved_disc d l g.sound-disc g.ledger-good c s =
       cut_all (sectors_of d l c) d tear j (eqb-true j (length (sectors_of d l c)) z) ∙ ap (puts d (recorded d)) all-records in
-      subst₂ (λ (x : Bool) (y : Disc). GoodStep (record { disc = d; ledger = some l }) (cut_commit x) (cut_world y)) (sym is-kept) (sym all)
+      subst₂ (λ (x : Bool) (y : Disc). GoodStep (record { disc = d; ledger = Some l }) (cut_commit x) (cut_world y)) (sym is-kept) (sym all)
       (record {
         good = record { sound-disc = save-sound d l g.sound-disc g.ledger-good c s; ledger-good = tt };
         step =
-            subst (λ (v : View). Step F (at F d (some v)) (cut_commit true) (at F (saved_disc d l g.sound-disc g.ledger-good c s) none)) (sym (working-view (unpack l) s.done.not-looking))
+            subst (λ (v : View). Step F (at F d (Some v)) (cut_commit true) (at F (saved_disc d l g.sound-disc g.ledger-good c s) None)) (sym (working-view (unpack l) s.done.not-looking))
             (Step.lost-saved (map_of (unpack l)) (unpack l).last (recorded d + length firsts) (save d l g.sound-disc g.ledger-good c s));
       })
   cut-done-step j tear h t false z =
       let not-kept : kept d l c j ≡ false = ap₂ (λ (x : ℕ) (y : Bool). eqb x 0 && y) e z in
       let fewer : j ≤ length firsts = not-all j (length (sectors_of d l c)) (length firsts) h (eqb-false j (length (sectors_of d l c)) z) (ap length all-records ∙ length-behind firsts table) in
-      subst₂ (λ (x : Bool) (y : List Sector). GoodStep (record { disc = d; ledger = some l }) (cut_commit x) (cut_world (cut_disc d y j tear))) (sym not-kept) (sym all-records)
-      (lost-step (record { disc = d; ledger = some l }) (cut_commit false) (cut_disc d (behind firsts table) j tear) unsaved-clears
+      subst₂ (λ (x : Bool) (y : List Sector). GoodStep (record { disc = d; ledger = Some l }) (cut_commit x) (cut_world (cut_disc d y j tear))) (sym not-kept) (sym all-records)
+      (lost-step (record { disc = d; ledger = Some l }) (cut_commit false) (cut_disc d (behind firsts table) j tear) unsaved-clears
       (cut-before-left firsts table d j tear g.sound-disc (before-whole d l g.sound-disc g.ledger-good c s) (before-no-tables d l g.sound-disc g.ledger-good c s) (room d l g.sound-disc g.ledger-good c s) fewer t))
 
 cut-save-step : (d : Disc) (o : Option (List ℕ)) (c : Call) → saves c ≡ true → (junk : List ℕ) (j : ℕ) (tear : Option (List ℕ)) → Good (record { disc = d; ledger = o })
@@ -484,8 +484,8 @@ cut-save-step d o c is-save junk j tear g f h t (suc m) e =
     subst (λ (x : Bool). GoodStep (record { disc = d; ledger = o }) (cut_commit x) (cut_world (cut_disc d (sectors_of d l c) j tear))) (sym unsaved)
     (lost-step (record { disc = d; ledger = o }) (cut_commit false) (cut_disc d (sectors_of d l c) j tear) unsaved-clears
     (nothing_left d g.sound-disc (sectors_of d l c) j tear (refused-records-none d l c m e) h))
-cut-save-step d none c is-save junk j tear g f h t zero e = absurd (no-save-follows d junk c is-save (f refl) e)
-cut-save-step d (some l) c is-save junk j tear g f h t zero e =
+cut-save-step d None c is-save junk j tear g f h t zero e = absurd (no-save-follows d junk c is-save (f refl) e)
+cut-save-step d (Some l) c is-save junk j tear g f h t zero e =
     cut-done-step d l g c (saving-done d l c is-save e) e j tear h t (eqb j (length (sectors_of d l c))) refl
 
 -- the calls that record nothing

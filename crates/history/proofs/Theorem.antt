@@ -10,15 +10,16 @@ use native.Mathlib.Omega.{arith}
 use mathlib.Core.Path.{◌≡◌, refl, sym, ap, ◌∙◌, subst, subst₂}
 use mathlib.Core.Bool.{Bool, true, false, ◌||◌, not}
 use mathlib.Core.List.{List, [], ◌∷◌}
-use mathlib.Core.Option.{Option, none, some}
+use Rattle.std.specs.Prelude.{Option, None, Some}
 use lib.Dec.{eqb, lit<}
 use native.Mathlib.Numerals.{add-one}
 use borrow.Author.Tests.{eq-eqb, ne_eqb}
 use lib.ListN.{length, get_or}
 use Rattle.vat.specs.Table.{unused}
 use Rattle.disc.specs.Disc.{Disc, recorded, puts}
-use Rattle.disc.specs.declared.Walk.{Walk}
-use Rattle.disc.specs.declared.Walk.TheVariants.{Reached, Ended}
+use Rattle.disc.specs.Tables.{Walk}
+use Rattle.std.specs.Prelude.{Ok, Err}
+use Rattle.disc.specs.declared.Stop.TheVariants.{Ended}
 use Rattle.disc.specs.Tables.{table_at, map_at, previous_at, newest, walk, block_found}
 use Rattle.disc.proofs.Recording.{Sound}
 use Rattle.disc.proofs.Found.{newest-table, table-recorded}
@@ -70,31 +71,31 @@ all-since (e ∷ es) w h r a s =
     let step : GoodStep w (fed w e) (next w e) = event-step w e r.good a.0 in
     all-since es (next w e) (feed h (fed w e)) (all-kept (e ∷ []) w h r (a.0, tt)) a.1 (since-kept F h step.step r.inv s)
 
-pub walked-behind : (d : Disc) (k t : ℕ) → Behind F d k t → walked d k ≡ Reached t
+pub walked-behind : (d : Disc) (k t : ℕ) → Behind F d k t → walked d k ≡ Ok t
 unfolding walked
 walked-behind d k t r = ap (walk_from d k) r.is-newest ∙ way-walk F d k r.newest t r.way
 
 -- ---- what mount and look back answer on a sound disc
 
 module _ (d : Disc) (l : List ℕ) (ok : Sound d) (long : length l ≡ ledger_length) where
-  mount-none : newest d ≡ none → outcome d l mount ≡ 7
+  mount-none : newest d ≡ None → outcome d l mount ≡ 7
   unfolding outcome tests
   mount-none n =
       let seven : Bool = not (is_some (newest d)) in
       skip-basic d (ledger_lent l) (test 7 seven ∷ []) ok (eq-eqb (length l) ledger_length long) ∙ stop 7 seven [] (ap (λ (o : Option ℕ). not (is_some o)) n)
 
-  mount-some : (b : ℕ) → newest d ≡ some b → outcome d l mount ≡ 0
+  mount-some : (b : ℕ) → newest d ≡ Some b → outcome d l mount ≡ 0
   unfolding outcome tests
   mount-some b n =
       let seven : Bool = not (is_some (newest d)) in
       skip-basic d (ledger_lent l) (test 7 seven ∷ []) ok (eq-eqb (length l) ledger_length long) ∙ skip 7 seven [] (ap (λ (o : Option ℕ). not (is_some o)) n) ∙ none_left
 
-  mount-leaves : (b : ℕ) → newest d ≡ some b → (after d l mount).ledger ≡ pack (shown_at d b idle)
+  mount-leaves : (b : ℕ) → newest d ≡ Some b → (after d l mount).ledger ≡ pack (shown_at d b idle)
   unfolding after effect
   mount-leaves b n = rw (mount-some b n) (ap (λ (o : Option ℕ). pack (shown_at d (block_found o) idle)) n)
 
   -- mount shows the newest table
-  pub mount-shows : (b : ℕ) → newest d ≡ some b → DoneShowing d l mount (page_from F d (map_at d b))
+  pub mount-shows : (b : ℕ) → newest d ≡ Some b → DoneShowing d l mount (page_from F d (map_at d b))
   mount-shows b n =
       record {
         is-done = mount-some b n;
@@ -103,21 +104,21 @@ module _ (d : Disc) (l : List ℕ) (ok : Sound d) (long : length l ≡ ledger_le
             (shows-table d ok b idle (lit< tt) (refl, refl) (newest-table (table_at d) (recorded d) b n));
       }
 
-  look-back-some : (k b t : ℕ) → newest d ≡ some b → walked d k ≡ Reached t → outcome d l (look_back k) ≡ 0
+  look-back-some : (k b t : ℕ) → newest d ≡ Some b → walked d k ≡ Ok t → outcome d l (look_back k) ≡ 0
   unfolding outcome tests
   look-back-some k b t n e =
       skip-basic d (ledger_lent l) (walk_tests d k) ok (eq-eqb (length l) ledger_length long) ∙ skip-walk d k b t [] n e ∙ none_left
 
-  pub look-back-leaves : (k b t : ℕ) → newest d ≡ some b → walked d k ≡ Reached t → (after d l (look_back k)).ledger ≡ pack (shown_at d t read_only)
+  pub look-back-leaves : (k b t : ℕ) → newest d ≡ Some b → walked d k ≡ Ok t → (after d l (look_back k)).ledger ≡ pack (shown_at d t read_only)
   unfolding after effect
   look-back-leaves k b t n e =
       rw (look-back-some k b t n e) (ap (λ (w : Walk). pack (shown_at d (block_reached w) read_only)) e)
 
-  look-back-tells : (k b t : ℕ) → newest d ≡ some b → walked d k ≡ Reached t → (after d l (look_back k)).answer ≡ t
+  look-back-tells : (k b t : ℕ) → newest d ≡ Some b → walked d k ≡ Ok t → (after d l (look_back k)).answer ≡ t
   unfolding after effect
   look-back-tells k b t n e = rw (look-back-some k b t n e) (ap block_reached e)
 
-  look-back-ends : (k b : ℕ) → newest d ≡ some b → walked d k ≡ Ended → (after d l (look_back k)).answer ≡ 9 * 4294967296
+  look-back-ends : (k b : ℕ) → newest d ≡ Some b → walked d k ≡ (Err Ended) → (after d l (look_back k)).answer ≡ 9 * 4294967296
   unfolding outcome tests after
   look-back-ends k b n e =
       let seven : Bool = not (is_some (newest d)) in
@@ -130,7 +131,7 @@ module _ (d : Disc) (l : List ℕ) (ok : Sound d) (long : length l ≡ ledger_le
       ∙ stop 9 nine [] (ap is_ended e) in
       rw ends
 
-  pub look-back-shows : (k b t : ℕ) → newest d ≡ some b → walked d k ≡ Reached t → DoneShowing d l (look_back k) (page_from F d (map_at d t))
+  pub look-back-shows : (k b t : ℕ) → newest d ≡ Some b → walked d k ≡ Ok t → DoneShowing d l (look_back k) (page_from F d (map_at d t))
   look-back-shows k b t n e =
       record {
         is-done = look-back-some k b t n e;
@@ -163,7 +164,7 @@ claimed w h r =
 -- ---- the start
 
 abbrev pub lost_world : Disc → World
-lost_world d = record { disc = d; ledger = none }
+lost_world d = record { disc = d; ledger = None }
 
 -- a call that is done leaves a ledger, lost or not before
 pub started : (w : World) (l : List ℕ) (c : Call) → only_tells c ≡ false → outcome w.disc (ledger_held w.ledger l) c ≡ 0
@@ -177,7 +178,7 @@ begun_kept d l e =
     let facts = begin-done d l e in
     let g : Good (lost_world d) = record { sound-disc = facts.0; ledger-good = tt } in
     let s : GoodStep (lost_world d) (fed (lost_world d) (calls begin l)) (next (lost_world d) (calls begin l)) = event-step (lost_world d) (calls begin l) g (λ z y. refl) in
-    let h : History = record { pages = []; draft = none } in
+    let h : History = record { pages = []; draft = None } in
     let i : Inv F (state_of (lost_world d)) h = record { pages = facts.1; draft = refl } in
     let fed-begin : feed h (fed (lost_world d) (calls begin l)) ≡ begun_history = rw e in
     subst₂ (λ (w : World) (k : History). Kept w k) (started (lost_world d) l begin refl e) fed-begin (record { good = s.good; inv = kept F names-below h s.step i })
@@ -187,13 +188,13 @@ unfolding feed fed shown
 mounted-kept d l e =
     let facts = mount-done d l e in
     let b : ℕ = facts.1.0 in
-    let n : newest d ≡ some b = facts.1.1 in
+    let n : newest d ≡ Some b = facts.1.1 in
     let table : table_at d b ≡ true = newest-table (table_at d) (recorded d) b n in
     let g : Good (lost_world d) = record { sound-disc = facts.0; ledger-good = tt } in
     let s : GoodStep (lost_world d) (fed (lost_world d) (calls mount l)) (next (lost_world d) (calls mount l)) = event-step (lost_world d) (calls mount l) g (λ z y. refl) in
     let p : Snapshot = page_of d (map_at d (block_found (newest d))) in
     let same : p ≡ page_from F d (map_at d b) = ap (λ (o : Option ℕ). page_from F d (map_at d (block_found o))) n in
-    let h : History = record { pages = p ∷ []; draft = none } in
+    let h : History = record { pages = p ∷ []; draft = None } in
     let i : Inv F (state_of (lost_world d)) h =
     record { pages = (b, n, record { is-table = table; inside = table-recorded d facts.0 b table; page = same }); draft = refl } in
     let fed-mount : feed h (fed (lost_world d) (calls mount l)) ≡ mounted_history d = rw e in
@@ -210,9 +211,9 @@ power-cuts =
 
 -- ---- a save makes the draft a page
 
-module _ (d : Disc) (l : List ℕ) (h : History) (k : Kept (record { disc = d; ledger = some l }) h) (c : Call) (is-save : saves c ≡ true) (e : outcome d l c ≡ 0) where
+module _ (d : Disc) (l : List ℕ) (h : History) (k : Kept (record { disc = d; ledger = Some l }) h) (c : Call) (is-save : saves c ≡ true) (e : outcome d l c ≡ 0) where
   -- a save that is done has a draft
-  pub drafted : (p : Snapshot) × (h.draft ≡ some p)
+  pub drafted : (p : Snapshot) × (h.draft ≡ Some p)
   drafted =
       let v : Volume = unpack l in
       let held = subst (λ (t : Bool). HeldIf F t d (map_of v) v.last h.draft) (saving-done d l c is-save e).done.not-looking k.inv.draft in
@@ -241,19 +242,19 @@ saved-block : (d : Disc) (l : List ℕ) (ok : Sound d) (good : Proper (unpack l)
 unfolding after
 saved-block d l ok good c s e = rw e (ap (λ x. x.second) s.leaves)
 
-mount-clean : (d : Disc) (m : List ℕ) → Sound d → length m ≡ ledger_length → (b : ℕ) → newest d ≡ some b → recorded d ≡ suc b → (after d m mount).answer ≡ 1
+mount-clean : (d : Disc) (m : List ℕ) → Sound d → length m ≡ ledger_length → (b : ℕ) → newest d ≡ Some b → recorded d ≡ suc b → (after d m mount).answer ≡ 1
 unfolding after effect
 mount-clean d m ok long b n last =
     let clean : eqb (b + 1) (recorded d) ≡ true = eq-eqb (b + 1) (recorded d) (add-one b ∙ sym last) in
     rw (mount-some d m ok long b n) (ap (λ (o : Option ℕ). clean_number (eqb (block_found o + 1) (recorded d))) n ∙ ap clean_number clean)
 
 -- one step from a table whose previous is known
-module _ (d : Disc) (b t : ℕ) (n : newest d ≡ some b) (named : previous_at d b ≡ t) where
-  steps-to : (t ≡ unused → ⊥) → table_at d t ≡ true → walked d 1 ≡ Reached t
+module _ (d : Disc) (b t : ℕ) (n : newest d ≡ Some b) (named : previous_at d b ≡ t) where
+  steps-to : (t ≡ unused → ⊥) → table_at d t ≡ true → walked d 1 ≡ Ok t
   unfolding walked walk
   steps-to used table = ap (walk_from d 1) n ∙ rw (named, ne_eqb t unused used, table)
 
-  steps-off : t ≡ unused → walked d 1 ≡ Ended
+  steps-off : t ≡ unused → walked d 1 ≡ (Err Ended)
   unfolding walked walk
   steps-off none-there = ap (walk_from d 1) n ∙ rw (named, eq-eqb t unused none-there)
 
@@ -269,7 +270,7 @@ remounts d l good c is-save e m long =
     let same : (after d l c).disc ≡ d' = saved-disc d l ok good c s e in
     let ok' : Sound d' = save-sound d l ok good c s in
     let made : Saved F d d' (working F (map_of v) v.last) b = save d l ok good c s in
-    let n : newest d' ≡ some b = newest-saved F (working F (map_of v) v.last) b made in
+    let n : newest d' ≡ Some b = newest-saved F (working F (map_of v) v.last) b made in
     let state : Volume = shown_at d' b idle in
     let proper : Proper state = proper-table d' ok' b idle (lit< tt) made.a-table in
     let left : unpack (after d' m mount).ledger ≡ state = ap unpack (mount-leaves d' m ok' long b n) ∙ unpack-pack state proper in

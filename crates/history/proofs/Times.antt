@@ -7,7 +7,7 @@ use native.Mathlib.Omega.{arith}
 use mathlib.Core.Path.{◌≡◌, refl, sym, ap, ap₂, ◌∙◌, subst, subst₂}
 use mathlib.Core.Bool.{Bool, true, false, not}
 use mathlib.Core.List.{List, [], ◌∷◌, ◌++◌}
-use mathlib.Core.Option.{Option, none, some}
+use Rattle.std.specs.Prelude.{Option, None, Some}
 use lib.Dec.{eqb}
 use lib.ListN.{length}
 use borrow.Author.Tests.{eq-eqb, eqb-true}
@@ -16,8 +16,8 @@ use Rattle.le.proofs.Runs.{AllBytes}
 use Rattle.timestamp.specs.Timestamp as stamps
 use Rattle.timestamp.specs.Timestamp.{told_length, valid}
 use Rattle.disc.specs.Disc.{Disc, Sector, recorded, puts}
-use Rattle.disc.specs.declared.Walk.{Walk}
-use Rattle.disc.specs.declared.Walk.TheVariants.{Reached}
+use Rattle.disc.specs.Tables.{Walk}
+use Rattle.std.specs.Prelude.{Ok}
 use Rattle.disc.specs.Tables.{time_at, newest}
 use Rattle.disc.proofs.Recording.{Sound}
 use Rattle.volume.specs.Volume.{ledger_length, unpack, map_of}
@@ -38,7 +38,7 @@ use Rattle.history.proofs.Back.{Behind, Since}
 
 -- ---- what is told on a sound disc
 
-module _ (d : Disc) (l answer : List ℕ) (ok : Sound d) (long : length l ≡ ledger_length) (whole : length answer ≡ told_length) (k b t : ℕ) (n : newest d ≡ some b) (way : walked d k ≡ Reached t) where
+module _ (d : Disc) (l answer : List ℕ) (ok : Sound d) (long : length l ≡ ledger_length) (whole : length answer ≡ told_length) (k b t : ℕ) (n : newest d ≡ Some b) (way : walked d k ≡ Ok t) where
   asked : outcome d l (time_of k answer) ≡ first (test 16 (not (valid (time_at d t))) ∷ [])
   unfolding outcome tests
   asked =
@@ -99,8 +99,8 @@ not_more n e = absurd (omega arith)
 -- what a save records makes one
 held-made : (d : Disc) (o : Option (List ℕ)) (c : Call) (junk : List ℕ) → Good (record { disc = d; ledger = o }) → Follows (record { disc = d; ledger = o }) c junk
     → saves c ≡ true → outcome d (ledger_held o junk) c ≡ 0 → Made (puts d (recorded d) (effect d (ledger_held o junk) c).sectors) (saved_stamp c)
-held-made d none c junk g f is e = absurd (no-save-follows d junk c is (f refl) e)
-held-made d (some l) c junk g f is e =
+held-made d None c junk g f is e = absurd (no-save-follows d junk c is (f refl) e)
+held-made d (Some l) c junk g f is e =
     let s : Saving d l c = saving-done d l c is e in
     subst (λ (ss : List Sector). Made (puts d (recorded d) ss) (saved_stamp c)) (sym (leaves-behind d l g.sound-disc g.ledger-good c s)) (saved-made d l g.sound-disc g.ledger-good c s)
 

@@ -1,6 +1,6 @@
 -- The claim about power cuts (demand 3; document 01, 'The book', last paragraph), for the disc and the history that a list of events leaves.
 use Rattle.std.specs.Prelude.{ℕ, ◌*◌, ◌<◌, List, [], ◌∷◌, ◌≡◌, length, get_or}
-use Rattle.std.proofs.Math.Option.{none, some}
+use Rattle.std.specs.Prelude.{None, Some}
 use Rattle.vat.specs.Table.{sector_length, unused}
 use Rattle.disc.specs.Disc.{Disc}
 use Rattle.volume.specs.Volume.{ledger_length, unpack}
@@ -18,8 +18,8 @@ block_number (shows b bytes) = b
 -- "Read of v, lent 2048 bytes, then gives what that page has for v, or 10 if not in use."
 abbrev pub reading : Disc → List ℕ → List ℕ → Entry → After
 reading d l block unused_entry = record { answer = 10 * 4294967296; disc = d; ledger = l; buffer = block }
-reading d l block (shows b (some bytes)) = record { answer = 0; disc = d; ledger = l; buffer = bytes }
-reading d l block (shows b none) = record { answer = 11 * 4294967296; disc = d; ledger = l; buffer = block }
+reading d l block (shows b (Some bytes)) = record { answer = 0; disc = d; ledger = l; buffer = bytes }
+reading d l block (shows b None) = record { answer = 11 * 4294967296; disc = d; ledger = l; buffer = block }
 
 -- The ledger l on the disc d shows the page p: "size and entries are the .. page's", and every number reads what the page has.
 pub record Shows (d : Disc) (l : List ℕ) (p : Snapshot) : Type 0 where

@@ -1,6 +1,6 @@
 -- Closed discs (document 02, R-5): a closing that is done leaves one, and on a closed disc nothing is recorded any more.
 use Rattle.std.specs.Prelude.{ℕ, ◌*◌, ◌≤◌, ◌<◌, true, List, ◌⊎◌, ◌≡◌, length, replicate}
-use Rattle.std.proofs.Math.Option.{some}
+use Rattle.std.specs.Prelude.{Some}
 use Rattle.vat.specs.Table.{sector_length}
 use Rattle.extent.specs.declared.Extent.{Extent}
 use Rattle.anchor.specs.Anchor.{farthest_start}
@@ -23,8 +23,8 @@ pub record ClosedShowing (d : Disc) (p : Snapshot) : Type 0 where
 -- What a closing leaves that is done in this world: there was a draft, and the disc shows it.
 abbrev pub Closes : World → History → Type 0
 Closes w h =
-    (l : List ℕ) → w.ledger ≡ some l → (main reserve : Extent) (start : ℕ) → outcome w.disc l (close_session main reserve start) ≡ 0
-    → (p : Snapshot) × (h.draft ≡ some p) × ClosedShowing (after w.disc l (close_session main reserve start)).disc p
+    (l : List ℕ) → w.ledger ≡ Some l → (main reserve : Extent) (start : ℕ) → outcome w.disc l (close_session main reserve start) ≡ 0
+    → (p : Snapshot) × (h.draft ≡ Some p) × ClosedShowing (after w.disc l (close_session main reserve start)).disc p
 
 -- 17, unless one of 1 to 5 comes first.
 abbrev pub TurnedAway : ℕ → Type 0

@@ -1,6 +1,6 @@
 -- Lists of calls on one disc, done, refused or cut (document 01, 'A cut'), and what the history is fed of them.
 use Rattle.std.specs.Prelude.{ℕ, zero, suc, ◌+◌, ◌≤◌, Bool, true, false, ◌&&◌, List, [], ◌∷◌, map, ◌≡◌, eqb, ltb, length, take}
-use Rattle.std.proofs.Math.Option.{Option, none, some}
+use Rattle.std.specs.Prelude.{Option, None, Some}
 use Rattle.vat.specs.Table.{sector_length, unused}
 use Rattle.disc.specs.Disc.{Disc, Sector, torn, recorded, content, put, puts}
 use Rattle.disc.specs.Tables.{map_at, newest, block_found}
@@ -22,8 +22,8 @@ pub data Event : Type 0 where
 
 -- What a call is lent as ledger: what the one before left, or what a lost one holds.
 abbrev pub ledger_held : Option (List ℕ) → List ℕ → List ℕ
-ledger_held none junk = junk
-ledger_held (some l) junk = l
+ledger_held None junk = junk
+ledger_held (Some l) junk = l
 
 -- "In the cut rule this and any later call that only tells counts as a refused one" (document 02, R-3).
 abbrev pub CountsAsDone : Disc → List ℕ → Call → Type 0
@@ -31,20 +31,20 @@ CountsAsDone d l c = (outcome d l c ≡ 0) × (only_tells c ≡ false)
 
 -- "until a begin, mount or look back is done, only these three and refused calls follow."
 abbrev pub Follows : World → Call → List ℕ → Type 0
-Follows w c junk = (w.ledger ≡ none) → (CountsAsDone w.disc junk c → restores c ≡ true)
+Follows w c junk = (w.ledger ≡ None) → (CountsAsDone w.disc junk c → restores c ≡ true)
 
 -- "A cut keeps the first j of them, for any j from 0 to all; the call's next sector, if there is one, stays blank or has kind 3 with arbitrary bytes."
 abbrev pub Torn : Option (List ℕ) → Type 0
-Torn none = Unit
-Torn (some bytes) = length bytes ≡ sector_length
+Torn None = Unit
+Torn (Some bytes) = length bytes ≡ sector_length
 
 abbrev pub Allowed : World → Event → Type 0
 Allowed w (calls c junk) = Follows w c junk
 Allowed w (cuts c junk j tear) = Follows w c junk × (j ≤ length (sectors_of w.disc (ledger_held w.ledger junk) c)) × Torn tear
 
 abbrev pub torn_at : Bool → Option (List ℕ) → ℕ → Disc → Disc
-torn_at true (some bytes) b d = put d b (torn bytes)
-torn_at true none b d = d
+torn_at true (Some bytes) b d = put d b (torn bytes)
+torn_at true None b d = d
 torn_at false tear b d = d
 
 unfoldable pub cut_disc : Disc → List Sector → ℕ → Option (List ℕ) → Disc
@@ -53,7 +53,7 @@ cut_disc d ss j tear = torn_at (ltb j (length ss)) tear (recorded d + j) (puts d
 -- After a refused call a lost ledger is still lost, and so it is after one that only tells.
 abbrev pub ledger_after : Bool → ℕ → Option (List ℕ) → List ℕ → Option (List ℕ)
 ledger_after true n before left = before
-ledger_after false zero before left = some left
+ledger_after false zero before left = Some left
 ledger_after false (suc n) before left = before
 
 unfoldable pub next : World → Event → World
@@ -64,7 +64,7 @@ next w (calls c junk) =
       ledger = ledger_after (only_tells c) (outcome w.disc l c) w.ledger (after w.disc l c).ledger;
     }
 next w (cuts c junk j tear) =
-    record { disc = cut_disc w.disc (sectors_of w.disc (ledger_held w.ledger junk) c) j tear; ledger = none }
+    record { disc = cut_disc w.disc (sectors_of w.disc (ledger_held w.ledger junk) c) j tear; ledger = None }
 
 -- What the history is told of a call: "a closing counts as a commit".
 abbrev pub told : Call → Told
@@ -122,12 +122,12 @@ page_of d xs = map (shown d) xs
 
 -- "Start: after begin no page and a draft of size 0; after mount one page, the table found, .. and a copy as draft."
 abbrev pub after_call : Disc → List ℕ → Call → World
-after_call d l c = record { disc = (after d l c).disc; ledger = some (after d l c).ledger }
+after_call d l c = record { disc = (after d l c).disc; ledger = Some (after d l c).ledger }
 
 abbrev pub begun_history : History
-begun_history = record { pages = []; draft = some [] }
+begun_history = record { pages = []; draft = Some [] }
 
 abbrev pub mounted_history : Disc → History
 mounted_history d =
     let p : Snapshot = page_of d (map_at d (block_found (newest d))) in
-    record { pages = p ∷ []; draft = some p }
+    record { pages = p ∷ []; draft = Some p }

@@ -1,7 +1,7 @@
 -- What is recorded, after any list of events, allowed or not: "Sectors are recorded in ascending order and never twice" (the tender), and "After each call
 -- that is done, the ledger's recorded equals the disc's" (document 01).
 use Rattle.std.specs.Prelude.{ℕ, ◌*◌, false, List, ◌≡◌, take}
-use Rattle.std.proofs.Math.Option.{some}
+use Rattle.std.specs.Prelude.{Some}
 use Rattle.vat.specs.Table.{sector_length}
 use Rattle.disc.specs.Disc.{Disc, recorded}
 use Rattle.volume.specs.Volume.{unpack}
@@ -23,4 +23,4 @@ WriteOnce = (w : World) (es : List Event) → Untouched w.disc (runs w es).disc
 abbrev pub RecordedSame : Type 0
 RecordedSame =
     (d : Disc) (l : List ℕ) (c : Call) → outcome d l c ≡ 0 → only_tells c ≡ false
-    → (es : List Event) (m : List ℕ) → (runs (after_call d l c) es).ledger ≡ some m → (unpack m).recorded ≡ recorded (runs (after_call d l c) es).disc
+    → (es : List Event) (m : List ℕ) → (runs (after_call d l c) es).ledger ≡ Some m → (unpack m).recorded ≡ recorded (runs (after_call d l c) es).disc

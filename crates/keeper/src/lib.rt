@@ -3,38 +3,37 @@
 // `after_roles` says of what the buffers held at the beginning.
 #![tactic(auto)]
 
-ghost use Rattle.std.specs.Prelude.{◌≡◌, true, ◌||◌, [], ◌≤◌, ◌<◌, eqb, length};
-ghost use Rattle.std.proofs.Math.Option.{none, some};
+ghost use Rattle.std.specs.Prelude.{◌≡◌, true, ◌||◌, [], ◌≤◌, eqb, length};
 ghost use Rattle.vat.specs.Table.{most_own, limit, unused};
 ghost use Rattle.vat.specs.Sector.{table_bytes};
 ghost use Rattle.disc.specs.Disc.{lent, sized};
 ghost use Rattle.disc.specs.Tables.{table_at};
 ghost use Rattle.disc.specs.Again.{fresh_of};
-ghost use Rattle.volume.specs.Volume.{places, ledger_length, unpack, map_of};
-ghost use Rattle.recorder.specs.Calls.{begin, mount, write, release, close_packet, commit, close_session, look_back};
-ghost use Rattle.recorder.specs.Refusals.{first, links, block_of};
-ghost use Rattle.roles.specs.Keeping.{roles_tests, left_roles, after_roles};
+ghost use Rattle.volume.specs.Volume.{ledger_length, unpack, map_of};
+ghost use Rattle.recorder.specs.Calls.{begin, mount, write, release, close_packet, commit, close_session, look_back, stamp_buffer};
+ghost use Rattle.recorder.specs.Refusals.{first, links};
+ghost use Rattle.recorder.specs.Refused.{outcome_of, answer_of, stamp_given};
+ghost use Rattle.roles.specs.Keeping.{written_role, named_before, roles_tests, left_roles, after_roles};
 
 use disc::session::CLOSING;
 use extent::Extent;
-use roles::{IN_USE, TABLE, UNNUMBERED};
+use recorder::Refusal;
+use roles::{Role, TablesEnd};
 use vat::table::{LIMIT, UNUSED};
 use volume::LEDGER;
 
-// An answer from here on is a refusal.
-const REFUSED: u64 = 4294967296;
-
-// 1 and 2 of a call that is lent roles; 0 says that neither applies.
-fn lengths(image: &[u8], kinds: &[u8], roles: &[u8]) -> u32
-    ensures { result ≡ first (roles_tests true (lent image.now kinds.now) roles.now) }
+// 1 and 2 of a call that is lent roles.
+#[tactic(auto, unfolding(recorder::specs::Refusals::first))]
+fn lengths(image: &[u8], kinds: &[u8], roles: &[u8]) -> Result<(), Refusal>
+    ensures { outcome_of result ≡ first (roles_tests true (lent image.now kinds.now) roles.now) }
 {
     if !disc::kinds::sized(image, kinds) {
-        return 1;
+        return Err(Refusal::DiscSize);
     }
     if roles.len() != kinds.len() {
-        return 2;
+        return Err(Refusal::LentLength);
     }
-    0
+    Ok(())
 }
 
 // How many sectors are recorded before a call. A ledger of another length counts none: the log refuses it.
@@ -74,50 +73,58 @@ fn own_ahead(image: &[u8], kinds: &[u8], ledger: &[u8]) -> u32
     calls::basic::own_recorded(image, kinds, ledger)
 }
 
-// The block that number v names, before a call lets go of it; none in what the log refuses.
-fn named_by(ledger: &[u8], v: u32) -> u32
-    ensures { length ledger.now ≡ ledger_length → v < places → result ≡ block_of (unpack ledger.now) v }
+// The block that the number names, before a call lets go of it; none without a number, and in what the log refuses.
+fn named_ahead(ledger: &[u8], v: Option<u32>) -> u32
+    ensures { length ledger.now ≡ ledger_length → result ≡ named_before (unpack ledger.now) v }
 {
-    if ledger.len() != LEDGER {
+    let Some(n) = v else {
+        return UNUSED;
+    };
+    if ledger.len() != LEDGER || LIMIT <= n {
         return UNUSED;
     }
-    if LIMIT <= v {
-        return UNUSED;
-    }
-    volume::ledger::entry(ledger, v)
+    volume::ledger::entry(ledger, n)
 }
 
-pub fn begin(image: &[u8], kinds: &[u8], roles: &mut [u8], ledger: &mut [u8]) -> u64
-    ensures { left_roles result image.now kinds.now roles.new ledger.new [] ≡ after_roles (lent image.now kinds.now) roles.old ledger.old begin }
+// The role of a written block.
+fn written_role(v: Option<u32>) -> u8
+    ensures { result ≡ written_role v }
 {
-    let outcome = lengths(image, kinds, roles);
-    if outcome != 0 {
-        return sector_log::refusal(outcome);
+    match v {
+        Some(_) => Role::InUse as u8,
+        None => Role::Unnumbered as u8,
     }
-    let answer = sector_log::begin(image, kinds, ledger);
-    if REFUSED <= answer {
-        return answer;
-    }
+}
+
+pub fn begin(
+    image: &[u8],
+    kinds: &[u8],
+    roles: &mut [u8],
+    ledger: &mut [u8],
+) -> Result<u32, Refusal>
+    ensures { left_roles (answer_of result) image.now kinds.now roles.new ledger.new [] ≡ after_roles (lent image.now kinds.now) roles.old ledger.old begin }
+{
+    lengths(image, kinds, roles)?;
+    let answer = sector_log::begin(image, kinds, ledger)?;
     // There is no table.
-    roles::scan(image, kinds, roles, ledger, 0, false);
-    answer
+    roles::scan(image, kinds, roles, ledger, TablesEnd::Below(0));
+    Ok(answer)
 }
 
-pub fn mount(image: &[u8], kinds: &[u8], roles: &mut [u8], ledger: &mut [u8]) -> u64
-    ensures { left_roles result image.now kinds.now roles.new ledger.new [] ≡ after_roles (lent image.now kinds.now) roles.old ledger.old mount }
+pub fn mount(
+    image: &[u8],
+    kinds: &[u8],
+    roles: &mut [u8],
+    ledger: &mut [u8],
+) -> Result<u32, Refusal>
+    ensures { left_roles (answer_of result) image.now kinds.now roles.new ledger.new [] ≡ after_roles (lent image.now kinds.now) roles.old ledger.old mount }
 {
-    let outcome = lengths(image, kinds, roles);
-    if outcome != 0 {
-        return sector_log::refusal(outcome);
-    }
-    let answer = sector_log::mount(image, kinds, ledger);
-    if REFUSED <= answer {
-        return answer;
-    }
+    lengths(image, kinds, roles)?;
+    let clean = sector_log::mount(image, kinds, ledger)?;
     // The table mounted is the newest: none stands behind it.
-    let end = volume::ledger::last(ledger);
-    roles::scan(image, kinds, roles, ledger, end, true);
-    answer
+    let tables = TablesEnd::At(volume::ledger::last(ledger));
+    roles::scan(image, kinds, roles, ledger, tables);
+    Ok(clean)
 }
 
 pub fn write(
@@ -125,116 +132,65 @@ pub fn write(
     kinds: &mut [u8],
     roles: &mut [u8],
     ledger: &mut [u8],
-    v: u32,
+    v: Option<u32>,
     block: &[u8],
-) -> u64
-    ensures { left_roles result image.new kinds.new roles.new ledger.new block.now ≡ after_roles (lent image.old kinds.old) roles.old ledger.old (write (some v) block.now) }
+) -> Result<u32, Refusal>
+    ensures { left_roles (answer_of result) image.new kinds.new roles.new ledger.new block.now ≡ after_roles (lent image.old kinds.old) roles.old ledger.old (write v block.now) }
 {
-    let outcome = lengths(image, kinds, roles);
-    if outcome != 0 {
-        return sector_log::refusal(outcome);
-    }
+    lengths(image, kinds, roles)?;
     let at = recorded_ahead(ledger);
     let links = links_ahead(ledger);
-    let replaced = named_by(ledger, v);
-    let answer = sector_log::write(image, kinds, ledger, v, block);
-    if REFUSED <= answer {
-        return answer;
-    }
-    roles::mark(roles, at, links, 0, 1, IN_USE);
+    let replaced = named_ahead(ledger, v);
+    let b = sector_log::write(image, kinds, ledger, v, block)?;
+    roles::mark(roles, at, links, 0, 1, written_role(v));
     roles::let_go(roles, ledger, replaced);
-    answer
+    Ok(b)
 }
 
-pub fn write_unnumbered(
-    image: &mut [u8],
-    kinds: &mut [u8],
+pub fn release(
+    image: &[u8],
+    kinds: &[u8],
     roles: &mut [u8],
     ledger: &mut [u8],
-    block: &[u8],
-) -> u64
-    ensures { left_roles result image.new kinds.new roles.new ledger.new block.now ≡ after_roles (lent image.old kinds.old) roles.old ledger.old (write none block.now) }
+    v: u32,
+) -> Result<u32, Refusal>
+    ensures { left_roles (answer_of result) image.now kinds.now roles.new ledger.new [] ≡ after_roles (lent image.now kinds.now) roles.old ledger.old (release v) }
 {
-    let outcome = lengths(image, kinds, roles);
-    if outcome != 0 {
-        return sector_log::refusal(outcome);
-    }
-    let at = recorded_ahead(ledger);
-    let links = links_ahead(ledger);
-    let answer = sector_log::write_unnumbered(image, kinds, ledger, block);
-    if REFUSED <= answer {
-        return answer;
-    }
-    roles::mark(roles, at, links, 0, 1, UNNUMBERED);
-    answer
-}
-
-pub fn release(image: &[u8], kinds: &[u8], roles: &mut [u8], ledger: &mut [u8], v: u32) -> u64
-    ensures { left_roles result image.now kinds.now roles.new ledger.new [] ≡ after_roles (lent image.now kinds.now) roles.old ledger.old (release v) }
-{
-    let outcome = lengths(image, kinds, roles);
-    if outcome != 0 {
-        return sector_log::refusal(outcome);
-    }
-    let released = named_by(ledger, v);
-    let answer = sector_log::release(image, kinds, ledger, v);
-    if REFUSED <= answer {
-        return answer;
-    }
+    lengths(image, kinds, roles)?;
+    let released = named_ahead(ledger, Some(v));
+    let answer = sector_log::release(image, kinds, ledger, v)?;
     roles::let_go(roles, ledger, released);
-    answer
+    Ok(answer)
 }
 
-pub fn close_packet(image: &[u8], kinds: &[u8], roles: &[u8], ledger: &mut [u8]) -> u64
-    ensures { left_roles result image.now kinds.now roles.now ledger.new [] ≡ after_roles (lent image.now kinds.now) roles.now ledger.old close_packet }
+pub fn close_packet(
+    image: &[u8],
+    kinds: &[u8],
+    roles: &[u8],
+    ledger: &mut [u8],
+) -> Result<u32, Refusal>
+    ensures { left_roles (answer_of result) image.now kinds.now roles.now ledger.new [] ≡ after_roles (lent image.now kinds.now) roles.now ledger.old close_packet }
 {
-    let outcome = lengths(image, kinds, roles);
-    if outcome != 0 {
-        return sector_log::refusal(outcome);
-    }
+    lengths(image, kinds, roles)?;
     sector_log::close_packet(image, kinds, ledger)
 }
 
-pub fn commit(image: &mut [u8], kinds: &mut [u8], roles: &mut [u8], ledger: &mut [u8]) -> u64
-    ensures { left_roles result image.new kinds.new roles.new ledger.new [] ≡ after_roles (lent image.old kinds.old) roles.old ledger.old (commit none) }
-{
-    let outcome = lengths(image, kinds, roles);
-    if outcome != 0 {
-        return sector_log::refusal(outcome);
-    }
-    let at = recorded_ahead(ledger);
-    let links = links_ahead(ledger);
-    let answer = sector_log::commit(image, kinds, ledger);
-    if REFUSED <= answer {
-        return answer;
-    }
-    let before = at + links;
-    roles::mark(roles, at, links, 0, (answer as u32) + 1 - before, TABLE);
-    answer
-}
-
-pub fn commit_at(
+pub fn commit(
     image: &mut [u8],
     kinds: &mut [u8],
     roles: &mut [u8],
     ledger: &mut [u8],
-    stamp: &[u8],
-) -> u64
-    ensures { left_roles result image.new kinds.new roles.new ledger.new stamp.now ≡ after_roles (lent image.old kinds.old) roles.old ledger.old (commit (some stamp.now)) }
+    stamp: Option<&[u8]>,
+) -> Result<u32, Refusal>
+    ensures { left_roles (answer_of result) image.new kinds.new roles.new ledger.new (stamp_buffer (stamp_given stamp.entry)) ≡ after_roles (lent image.old kinds.old) roles.old ledger.old (commit (stamp_given stamp.entry)) }
 {
-    let outcome = lengths(image, kinds, roles);
-    if outcome != 0 {
-        return sector_log::refusal(outcome);
-    }
+    lengths(image, kinds, roles)?;
     let at = recorded_ahead(ledger);
     let links = links_ahead(ledger);
-    let answer = sector_log::commit_at(image, kinds, ledger, stamp);
-    if REFUSED <= answer {
-        return answer;
-    }
+    let table = sector_log::commit(image, kinds, ledger, stamp)?;
     let before = at + links;
-    roles::mark(roles, at, links, 0, (answer as u32) + 1 - before, TABLE);
-    answer
+    roles::mark(roles, at, links, 0, table + 1 - before, Role::Table as u8);
+    Ok(table)
 }
 
 pub fn close_session(
@@ -245,37 +201,31 @@ pub fn close_session(
     main: Extent,
     reserve: Extent,
     start: u32,
-) -> u64
-    ensures { left_roles result image.new kinds.new roles.new ledger.new [] ≡ after_roles (lent image.old kinds.old) roles.old ledger.old (close_session main reserve start) }
+) -> Result<u32, Refusal>
+    ensures { left_roles (answer_of result) image.new kinds.new roles.new ledger.new [] ≡ after_roles (lent image.old kinds.old) roles.old ledger.old (close_session main reserve start) }
 {
-    let outcome = lengths(image, kinds, roles);
-    if outcome != 0 {
-        return sector_log::refusal(outcome);
-    }
+    lengths(image, kinds, roles)?;
     let at = recorded_ahead(ledger);
     let links = links_ahead(ledger);
     let own = own_ahead(image, kinds, ledger);
-    let answer = sector_log::close_session(image, kinds, ledger, main, reserve, start);
-    if REFUSED <= answer {
-        return answer;
-    }
-    roles::mark(roles, at, links, CLOSING - own, own + 1, TABLE);
-    answer
+    let table = sector_log::close_session(image, kinds, ledger, main, reserve, start)?;
+    roles::mark(roles, at, links, CLOSING - own, own + 1, Role::Table as u8);
+    Ok(table)
 }
 
-pub fn look_back(image: &[u8], kinds: &[u8], roles: &mut [u8], ledger: &mut [u8], k: u32) -> u64
-    ensures { left_roles result image.now kinds.now roles.new ledger.new [] ≡ after_roles (lent image.now kinds.now) roles.old ledger.old (look_back k) }
+pub fn look_back(
+    image: &[u8],
+    kinds: &[u8],
+    roles: &mut [u8],
+    ledger: &mut [u8],
+    k: u32,
+) -> Result<u32, Refusal>
+    ensures { left_roles (answer_of result) image.now kinds.now roles.new ledger.new [] ≡ after_roles (lent image.now kinds.now) roles.old ledger.old (look_back k) }
 {
-    let outcome = lengths(image, kinds, roles);
-    if outcome != 0 {
-        return sector_log::refusal(outcome);
-    }
-    let answer = sector_log::look_back(image, kinds, ledger, k);
-    if REFUSED <= answer {
-        return answer;
-    }
+    lengths(image, kinds, roles)?;
+    let table = sector_log::look_back(image, kinds, ledger, k)?;
     // Behind what is recorded all is blank.
-    let end = volume::ledger::recorded(ledger);
-    roles::scan(image, kinds, roles, ledger, end, false);
-    answer
+    let tables = TablesEnd::Below(volume::ledger::recorded(ledger));
+    roles::scan(image, kinds, roles, ledger, tables);
+    Ok(table)
 }

@@ -1,8 +1,7 @@
 -- The laws of little-endian fields, once over the width: what was put is read back, other bytes stay, disjoint fields stay.
 -- Assumes nothing.
 use Prim.Native.Nat.{ℕ, zero, suc, ◌+◌, ◌*◌, ◌/◌, ◌%◌, ◌^◌, ◌≤◌, ◌<◌}
-use native.Mathlib.Nat.{add-zero, zero-add, suc-add, pow-suc, pow-succ', div-add-mod, div-lt_iff_lt-mul, mod-lt, mul_assoc, div-one, div-div-eq-div-mul}
-use lib.Arith.{mod-mul, digits_div, digits_mod}
+use native.Mathlib.Nat.{add-zero, zero-add, suc-add, pow-suc, pow-succ', div-add-mod, div-lt_iff_lt-mul, mul_assoc}
 use native.Mathlib.Omega.{arith}
 use mathlib.Core.Path.{◌≡◌, refl, sym, ap, ap₂, ◌∙◌}
 use mathlib.Core.List.{List, ◌++◌}
@@ -11,7 +10,7 @@ use lib.Dec.{lit<}
 use lib.ListN.{length, drop, get_or}
 use lib.Seq.{sets, length-sets, get_or-drop, drop-drop}
 use Rattle.le.specs.Field.{le, read_le, put_le}
-use Rattle.le.proofs.Bytes.{drop-sets, get_d-sets-other, sets-append}
+use Rattle.le.proofs.Bytes.{drop-sets, get_d-sets-other}
 
 pub length-le : (n x : ℕ) → length (le n x) ≡ n
 unfolding le
@@ -70,10 +69,6 @@ read-sets-apart n s k at vs (inl h) =
 read-sets-apart n s k at vs (inr h) =
     read-agrees n (sets s at vs) s k (λ j low high. get_d-sets-other vs s at j (inr (omega arith)))
 
-256-pos : (n : ℕ) → 0 < 256 ^ n
-256-pos zero = lit< tt
-256-pos (suc n) = rw (pow-suc 256 n) (omega (arith, 256-pos n))
-
 -- two fields side by side are one
 pub read-add : (m n : ℕ) (s : List ℕ) (at : ℕ) → read_le (m + n) s at ≡ read_le m s at + 256 ^ m * read_le n s (at + m)
 unfolding read_le
@@ -85,24 +80,3 @@ read-add (suc m) n s at =
     read-add m n s (at + 1) ∙ ap (λ (k : ℕ). read_le m s (at + 1) + 256 ^ m * read_le n s k) e in
     let scaled : 256 ^ suc m * high ≡ 256 * (256 ^ m * high) = ap (λ (p : ℕ). p * high) (pow-succ' 256 m) ∙ mul_assoc 256 (256 ^ m) high in
     rw (suc-add m n, ih, scaled) (omega arith)
-
-pub le-add : (m n x : ℕ) → le (m + n) x ≡ le m x ++ le n (x / 256 ^ m)
-unfolding le
-le-add zero n x = rw (zero-add n, div-one x)
-le-add (suc m) n x =
-    let shifted : x / 256 / 256 ^ m ≡ x / 256 ^ suc m = div-div-eq-div-mul x 256 (256 ^ m) ∙ ap (λ (p : ℕ). x / p) (sym (pow-succ' 256 m)) in
-    rw (suc-add m n, le-add m n (x / 256), shifted)
-
--- the bytes of a field are those of the low part of the number
-pub le-mod : (n x : ℕ) → le n (x % 256 ^ n) ≡ le n x
-unfolding le
-le-mod zero x = refl
-le-mod (suc n) x =
-    let digits : x % 256 ^ suc n ≡ (x / 256 % 256 ^ n) * 256 + x % 256 = ap (λ (p : ℕ). x % p) (pow-suc 256 n) ∙ mod-mul x (256-pos n) (lit< tt) in
-    let below : x % 256 < 256 = mod-lt x (lit< tt) in
-    rw (digits, digits_mod (x / 256 % 256 ^ n) below, digits_div (x / 256 % 256 ^ n) below, le-mod n (x / 256))
-
--- a number put in two halves is put whole
-pub put-add : (m n : ℕ) (s : List ℕ) (at x : ℕ) → put_le n (put_le m s at (x % 256 ^ m)) (at + m) (x / 256 ^ m) ≡ put_le (m + n) s at x
-put-add m n s at x =
-    rw (le-mod m x, le-add m n x, sets-append (le m x) (le n (x / 256 ^ m)) s at, length-le m x)

@@ -1,6 +1,6 @@
 -- Runs of bytes and fields, on plain values: one turn of each loop over a run, and what is read where a run stands.
 -- Assumes nothing.
-use Prim.Native.Nat.{ℕ, zero, suc, ◌+◌, ◌-◌, ◌*◌, ◌/◌, ◌%◌, ◌≤◌, ◌<◌}
+use Prim.Native.Nat.{ℕ, zero, suc, ◌+◌, ◌*◌, ◌/◌, ◌%◌, ◌≤◌, ◌<◌}
 use native.Mathlib.Nat.{add-zero, not-suc-le-zero, le_of_suc-le-suc}
 use native.Mathlib.Numerals.{add-one}
 use native.Mathlib.Omega.{arith}
@@ -8,10 +8,12 @@ use mathlib.Core.Path.{◌≡◌, refl, sym, ap, ap₂, ◌∙◌}
 use mathlib.Core.Bool.{Bool, true, false, ◌&&◌, and_assoc}
 use mathlib.Core.List.{List, [], ◌∷◌, ◌++◌, append_assoc, append-nil}
 use lib.Dec.{eqb}
-use lib.ListN.{length, take, drop, set, get_or, replicate, length-append, drop_of_length-le}
+use lib.ListN.{length, take, drop, get_or, length-append, drop_of_length-le}
+use lib.Pointwise.{pointwise}
 use lib.Seq.{sets, sets-eq, drop-cons, drop_at, drop-drop, get_or-drop, take-add}
 use borrow.Author.Tests.{eqb-true, eq-eqb}
-use Rattle.le.specs.Bytes.{total, holds_text}
+use borrow.Rule.Slice.PartMut.{put_mid}
+use Rattle.le.specs.Bytes.{every, total, holds_text}
 use Rattle.le.specs.Field.{le, read_le, put_le, leading_words, words, le_words}
 use Rattle.le.proofs.Bytes.{sets-append}
 use Rattle.le.proofs.Fields.{length-le, read-le, read-shift, read-drop}
@@ -23,32 +25,35 @@ sets-all vs l h =
     let all : length l ≤ 0 + length vs = omega arith in
     sets-eq vs l 0 (omega arith) ∙ ap (λ (r : List ℕ). vs ++ r) (drop_of_length-le l all) ∙ append-nil vs
 
+-- ---- a part of the bytes, put or compared in one go
+
+pub put_mid-sets : (s vs : List ℕ) (at n : ℕ) → n ≡ length vs → at + length vs ≤ length s → put_mid at n s vs ≡ sets s at vs
+put_mid-sets s vs at n e h =
+    rw (e, drop-drop (length vs) at s, ← append_assoc (take at s) vs (drop (at + length vs) s)) (sym (sets-eq vs s at h))
+
+pub text-part : (text s : List ℕ) (at n : ℕ) → n ≡ length text → at + length text ≤ length s → pointwise eqb (take n (drop at s)) text ≡ holds_text s at text
+unfolding holds_text
+text-part [] s at n e h = rw e
+text-part (x ∷ xs) s at n e h =
+    rw (e, drop-cons s at 0 (omega arith), ← add-one at) (ap (λ (t : Bool). eqb (get_or s at 0) x && t) (text-part xs s (at + 1) (length xs) refl (omega arith)))
+
 -- ---- what is left, with its first element taken
 
-pub text-taken : (same : Bool) (s text : List ℕ) (place i : ℕ) → i < length text
-    → ((same && eqb (get_or s place 0) (get_or text i 0)) && holds_text s (place + 1) (drop (i + 1) text)) ≡ (same && holds_text s place (drop i text))
-unfolding holds_text
-text-taken same s text place i h =
-    rw (drop-cons text i 0 h, add-one i) (and_assoc same (eqb (get_or s place 0) (get_or text i 0)) (holds_text s (place + 1) (drop (suc i) text)))
+pub test-taken : (test : ℕ → Bool) (held : Bool) (s : List ℕ) (i : ℕ) → i < length s → ((held && test (get_or s i 0)) && every test (drop (i + 1) s)) ≡ (held && every test (drop i s))
+unfolding every
+test-taken test held s i h =
+    rw (drop-cons s i 0 h, add-one i) (and_assoc held (test (get_or s i 0)) (every test (drop (suc i) s)))
 
 pub total-taken : (sum : ℕ) (s : List ℕ) (i : ℕ) → i < length s → ((sum + get_or s i 0) % 256 + total (drop (i + 1) s)) % 256 ≡ (sum + total (drop i s)) % 256
 unfolding total
 total-taken sum s i h = rw (drop-cons s i 0 h, add-one i) (omega arith)
 
-pub byte_put : (s text : List ℕ) (place i : ℕ) → i < length text → sets (set s place (get_or text i 0)) (place + 1) (drop (i + 1) text) ≡ sets s place (drop i text)
-byte_put s text place i h = rw (drop-cons text i 0 h, add-one i, add-one place)
-
-pub word-put : (s xs : List ℕ) (place i : ℕ) → i < length xs → sets (put_le 4 s place (get_or xs i 0)) (place + 4) (le_words (drop (i + 1) xs)) ≡ sets s place (le_words (drop i xs))
+pub word-put : (s xs : List ℕ) (at i x : ℕ) → i < length xs → get_or xs i 0 ≡ x
+    → sets (put_le 4 s (at + 4 * i) x) (at + 4 * (i + 1)) (le_words (drop (i + 1) xs)) ≡ sets s (at + 4 * i) (le_words (drop i xs))
 unfolding le_words
-word-put s xs place i h =
-    rw (drop-cons xs i 0 h, add-one i, sets-append (le 4 (get_or xs i 0)) (le_words (drop (suc i) xs)) s place, length-le 4 (get_or xs i 0))
-
-pub word-repeated : (s : List ℕ) (place x n i : ℕ) → i < n → sets (put_le 4 s place x) (place + 4) (le_words (replicate (n - (i + 1)) x)) ≡ sets s place (le_words (replicate (n - i) x))
-unfolding le_words
-word-repeated s place x n i h =
-    let rest : List ℕ = le_words (replicate (n - (i + 1)) x) in
-    let one : n - i ≡ suc (n - (i + 1)) = omega arith in
-    sym (ap (λ (k : ℕ). sets s place (le_words (replicate k x))) one ∙ sets-append (le 4 x) rest s place ∙ ap (λ (k : ℕ). sets (put_le 4 s place x) (place + k) rest) (length-le 4 x))
+word-put s xs at i x h e =
+    let next : at + 4 * (i + 1) ≡ at + 4 * i + 4 = omega arith in
+    rw (drop-cons xs i 0 h, e, next, add-one i, sets-append (le 4 x) (le_words (drop (suc i) xs)) s (at + 4 * i), length-le 4 x)
 
 pub length-le_words : (xs : List ℕ) → length (le_words xs) ≡ 4 * length xs
 unfolding le_words

@@ -12,8 +12,8 @@ fn main(rt: HostRuntime) -> io::Result<()> {
     let mut input = [0u8; MOST_READ];
     let n = read_full(rt.stdin(), &mut input)?;
     let mut out = [0u8; 832];
-    let length = listing::list::list(&input[0..n], &mut out);
-    rt.write_all(&out[0..length])
+    let length = listing::list::list(&input[..n], &mut out);
+    rt.write_all(&out[..length])
 }
 
 // How many bytes came, up to as many as the buffer takes: fewer only where the input ended.

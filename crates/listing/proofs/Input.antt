@@ -3,21 +3,23 @@
 use Prim.Native.Nat.{ℕ, zero, suc, ◌+◌, ◌-◌, ◌*◌, ◌≤◌, ◌<◌}
 use native.Mathlib.Nat.{not-suc-le-zero}
 use native.Mathlib.Numerals.{add-one}
+use native.Mathlib.Nat.{add-zero, zero-add, add-suc}
 use native.Mathlib.Omega.{arith}
-use mathlib.Core.Path.{◌≡◌, refl, ap, ◌∙◌}
-use mathlib.Core.Bool.{Bool, true, false, ◌&&◌, not, and_assoc}
+use mathlib.Core.Path.{◌≡◌, refl, sym, ap, ◌∙◌}
+use mathlib.Core.Bool.{Bool, true, false, ◌&&◌, not}
 use mathlib.Core.List.{List, [], ◌∷◌, ◌++◌}
 use lib.Dec.{eqb}
-use lib.ListN.{length, get_or, take, drop, set, replicate, length-append, length-drop}
+use lib.ListN.{length, get_or, take, drop, set, replicate, length-drop}
 use lib.Seq.{sets, sets-eq, drop-cons, take_at, take_all}
 use borrow.Author.Tests.{eq-eqb, ne_eqb, eqb-true}
+use Rattle.std.specs.Prelude.{Option, None, Some, MatchOption, unwrap_or}
 use Rattle.le.specs.Bytes.{every, holds_text}
 use Rattle.le.proofs.Rows.{and_left}
 use Rattle.vat.specs.Table.{sector_length}
 use Rattle.disc.specs.Disc.{lent}
 use Rattle.le.proofs.Halves.{and-false}
 use Rattle.listing.specs.Text.{column, newline, refused_line}
-use Rattle.listing.specs.Listing.{first_line, most_listed, this_or, count_up_to, digits_of, image_of, is_kind_digit, formed, kinds_of, listed_if, listed, listing}
+use Rattle.listing.specs.Listing.{first_line, most_listed, count_up_to, digits_of, image_of, is_kind_digit, formed, kinds_of, listed_if, listed, listing}
 use Rattle.listing.proofs.Lines.{length-column, length-refused}
 use Rattle.listing.proofs.Rows.{listed-short}
 
@@ -32,21 +34,25 @@ unfolding count_up_to
 count-this zero s h e = absurd (not-suc-le-zero h)
 count-this (suc n) s h e = rw e
 
-pub count-lower : (n : ℕ) (s : List ℕ) → 0 < n → holds_text s 0 (first_line n) ≡ false → count_up_to (n - 1) s ≡ count_up_to n s
-unfolding count_up_to
-count-lower zero s h e = absurd (not-suc-le-zero h)
-count-lower (suc n) s h e =
-    let one : suc n - 1 ≡ n = omega arith in
-    rw (one, e)
-
-pub count_none : (s : List ℕ) → count_up_to 0 s ≡ 0
+count_none : (s : List ℕ) → count_up_to 0 s ≡ 0
 unfolding count_up_to
 count_none s = refl
 
-pub digit-taken : (held : Bool) (test : ℕ → Bool) (s : List ℕ) (i : ℕ) → i < length s
-    → ((held && test (get_or s i 0)) && every test (drop (i + 1) s)) ≡ (held && every test (drop i s))
-unfolding every
-digit-taken held test s i h = rw (drop-cons s i 0 h, add-one i) (and_assoc held (test (get_or s i 0)) (every test (drop (suc i) s)))
+count-skips : (s : List ℕ) (n more : ℕ) → ((k : ℕ) → n < k → k ≤ n + more → holds_text s 0 (first_line k) ≡ false) → count_up_to (n + more) s ≡ count_up_to n s
+unfolding count_up_to
+count-skips s n zero none = rw add-zero
+count-skips s n (suc more) none = rw (add-suc, none (suc (n + more)) (omega arith) (omega arith)) (count-skips s n more (λ k low high. none k low (omega arith)))
+
+-- What a search from most on found: a count that the line gives, and that it gives none above. Each is told beside a place of the input, where `grind` meets the number.
+abbrev pub NoneAbove : List ℕ → ℕ → ℕ → Type 0
+NoneAbove s n most = (k x : ℕ) → n < k → k ≤ most → get_or s k 0 ≡ x → holds_text s 0 (first_line k) ≡ false
+
+pub count-found : (s : List ℕ) (most : ℕ) (r : Option ℕ) → MatchOption r (NoneAbove s 0 most) (λ n. (0 < n) × (n ≤ most) × (holds_text s 0 (first_line n) ≡ true) × NoneAbove s n most)
+    → unwrap_or r 0 ≡ count_up_to most s
+count-found s most None none = sym (count_none s) ∙ sym (count-skips s 0 most (λ k low high. none k _ low (omega arith) refl)) ∙ ap (λ (k : ℕ). count_up_to k s) (zero-add most)
+count-found s most (Some n) f =
+    let whole : n + (most - n) ≡ most = omega (arith, f.1) in
+    sym (count-this n s f.0 f.2) ∙ sym (count-skips s n (most - n) (λ k low high. f.3 k _ low (omega (arith, f.1)) refl)) ∙ ap (λ (k : ℕ). count_up_to k s) whole
 
 pub length-kinds : (digits : List ℕ) → length (kinds_of digits) ≡ length digits
 unfolding kinds_of
@@ -57,15 +63,6 @@ pub kind-put : (kinds digits : List ℕ) (i : ℕ) → i < length digits
     → sets (set kinds i (get_or digits i 0 - 48)) (i + 1) (kinds_of (drop (i + 1) digits)) ≡ sets kinds i (kinds_of (drop i digits))
 unfolding kinds_of
 kind-put kinds digits i h = rw (drop-cons digits i 0 h, add-one i)
-
-pub count-few : (n : ℕ) (s : List ℕ) → count_up_to n s ≤ n
-unfolding count_up_to
-count-few zero s = omega arith
-count-few (suc n) s = go (holds_text s 0 (first_line (suc n))) (count-few n s)
-  where
-    go : (t : Bool) → count_up_to n s ≤ n → this_or t (suc n) (count_up_to n s) ≤ suc n
-    go true h = omega arith
-    go false h = omega arith
 
 -- ---- the whole
 
@@ -112,9 +109,6 @@ pub front : (kinds digits : List ℕ) (n : ℕ) → length digits ≡ n → take
 front kinds digits n e =
     let none : n - 0 ≡ n = omega arith in
     ap (λ (k : ℕ). take k (kinds_of digits ++ drop k kinds)) none ∙ take_at (kinds_of digits) (drop n kinds) n (length-kinds digits ∙ e)
-
-pub front_long : (kinds filled : List ℕ) (n m : ℕ) → n ≤ length filled → n ≤ length (take 0 kinds ++ (filled ++ drop m (drop 0 kinds)))
-front_long kinds filled n m h = omega (arith, length-append filled (drop m kinds))
 
 pub behind : (s : List ℕ) (at end : ℕ) → end ≡ length s → take (end - at) (drop at s) ≡ drop at s
 behind s at end e = take_all (end - at) (drop at s) (omega (arith, length-drop at s))

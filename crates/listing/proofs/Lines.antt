@@ -1,13 +1,15 @@
--- Columns, put from the last digit on, and entries, counted from the last on.
+-- Columns, put from the last digit on, and entries in use, counted.
 -- Assumes nothing.
 use Prim.Native.Nat.{ℕ, zero, suc, ◌+◌, ◌-◌, ◌/◌, ◌≤◌, ◌<◌}
 use native.Mathlib.Omega.{arith}
 use native.Mathlib.Numerals.{add-one}
 use mathlib.Core.Path.{◌≡◌, refl, sym, ap, ◌∙◌}
+use mathlib.Core.Bool.{Bool, true, false, not, cond}
 use mathlib.Core.List.{List, [], ◌∷◌, ◌++◌}
 use lib.Dec.{eqb}
 use lib.ListN.{length, get_or, drop, set, length-append, drop_of_length-le}
 use lib.Seq.{sets, set_comm, drop-cons}
+use Rattle.std.specs.List.{filter, range_with_len}
 use Rattle.le.specs.Field.{le}
 use Rattle.le.proofs.Bytes.{sets-append}
 use Rattle.vat.specs.Table.{unused}
@@ -60,10 +62,6 @@ column-ends xs at place m h =
     let none : place - at ≡ 0 = omega arith in
     ap (λ (k : ℕ). sets xs at (ahead k m)) none
 
-pub not-blank : (n : ℕ) → (n ≡ 0 → ⊥) → digit n ≡ digit_or_blank n
-not-blank zero h = absurd (h refl)
-not-blank (suc n) h = refl
-
 -- ---- rows
 
 four : (s a b c d e : List ℕ) (at : ℕ) → length a ≡ 4 → length b ≡ 8 → length c ≡ 6 → length d ≡ 6
@@ -101,21 +99,16 @@ length-refused n =
 
 -- ---- entries in use
 
-pub used_turn : (xs : List ℕ) (i : ℕ) → 0 < i → i ≤ length xs → used (drop (i - 1) xs) ≡ counting (eqb (get_or xs (i - 1) unused) unused) (used (drop i xs))
-unfolding used
-used_turn xs i h le =
-    let next : suc (i - 1) ≡ i = omega arith in
-    ap used (drop-cons xs (i - 1) unused (omega arith)) ∙ ap (λ (k : ℕ). counting (eqb (get_or xs (i - 1) unused) unused) (used (drop k xs))) next
+abbrev pub in_use : List ℕ → ℕ → Bool
+in_use xs i = not (eqb (get_or xs i unused) unused)
 
-pub none-used : (xs : List ℕ) (n : ℕ) → length xs ≤ n → used (drop n xs) ≡ 0
+-- the numbers from a on of entries in use are as many as the entries in use from a on
+pub used_from : (xs : List ℕ) (a n : ℕ) → a + n ≡ length xs → length (filter (in_use xs) (range_with_len a n)) ≡ used (drop a xs)
 unfolding used
-none-used xs n h = ap used (drop_of_length-le xs h)
-
-pub used-few : (xs : List ℕ) → used xs ≤ length xs
-unfolding used
-used-few [] = omega arith
-used-few (x ∷ xs) = go (eqb x unused) (used-few xs)
+used_from xs a zero e = let all : length xs ≤ a = omega arith in rw (drop_of_length-le xs all)
+used_from xs a (suc n) e =
+    rw (drop-cons xs a unused (omega arith)) (go (eqb (get_or xs a unused) unused) (filter (in_use xs) (range_with_len (a + 1) n)) (used_from xs (a + 1) n (omega arith) ∙ ap (λ (k : ℕ). used (drop k xs)) (add-one a)))
   where
-    go : (t : mathlib.Core.Bool.Bool) → used xs ≤ length xs → counting t (used xs) ≤ suc (length xs)
-    go mathlib.Core.Bool.true h = omega arith
-    go mathlib.Core.Bool.false h = omega arith
+    go : {m : ℕ} (t : Bool) (ns : List ℕ) → length ns ≡ m → length (cond (not t) (a ∷ ns) ns) ≡ counting t m
+    go true ns h = h
+    go false ns h = ap suc h

@@ -15,9 +15,24 @@ use Rattle.disc.specs.Disc.{Disc}
 use Rattle.volume.specs.Volume.{unpack}
 use Rattle.recorder.specs.Calls.{mount, look_back}
 use Rattle.recorder.specs.Effects.{After, after}
+use Rattle.recorder.specs.declared.Refusal.{Refusal}
+use Rattle.recorder.specs.Refused.{number}
 use Rattle.listing.specs.Text.{column, row_line, heading, clean_line, dirty_line, broken_line, refused_line, used}
 use Rattle.listing.specs.Listing.{outcome_in, second_in, spare, last_line, row_of, row_or, rows_from, most_listed, listed_if, listed}
 use Rattle.listing.proofs.Lines.{length-column, length-refused}
+
+-- ---- an answer's outcome and second number
+
+pub refused-outcome : (r : Refusal) → outcome_in (number r * 4294967296) ≡ number r
+refused-outcome r = omega arith
+
+pub done-outcome : (n : ℕ) → n < 4294967296 → outcome_in n ≡ 0
+done-outcome n h = omega arith
+
+pub done-second : (n : ℕ) → n < 4294967296 → second_in n ≡ n
+done-second n h = omega arith
+
+-- ---- rows
 
 pub length-row : (k block size count : ℕ) → length (row_line k block size count) ≡ 25
 unfolding row_line

@@ -1,11 +1,14 @@
 // The listing, line by line.
-ghost use Rattle.std.specs.Prelude.{◌≡◌, ◌+◌, ◌≤◌, ◌<◌, length};
+ghost use Rattle.std.specs.Prelude.{◌≡◌, ◌+◌, ◌≤◌, ◌<◌, eqb, length};
 ghost use Rattle.std.proofs.lemmas.List.Edits.{sets};
 ghost use Rattle.disc.specs.Disc.{lent};
+ghost use Rattle.recorder.specs.Refused.{number};
 ghost use Rattle.listing.specs.Text.{refused_line};
 ghost use Rattle.listing.specs.Listing.{last_line, rows_from, most_listed, listed, listing};
 
 use crate::text::ROW;
+use recorder::Refusal;
+use volume::LEDGER;
 
 const HEADING: [u8; 25] = *b"   k   block  size  used\n";
 
@@ -49,25 +52,29 @@ fn put_last(out: &mut [u8], at: usize, broken: bool, clean: bool) -> usize
     at + 6
 }
 
+// 8: only this refusal ends the rows with the line `broken`.
+fn is_broken(refusal: Refusal) -> bool
+    ensures { result ≡ eqb (number refusal) 8 }
+{
+    matches!(refusal, Refusal::ChainBroken)
+}
+
 // The rows, newest first, and the last line, behind the heading.
 fn put_rows(image: &[u8], kinds: &[u8], out: &mut [u8], clean: bool) -> usize
     requires { 832 ≤ length out.old }
     ensures { (out.new ≡ sets out.old 25 (rows_from (lent image.now kinds.now) clean (most_listed + 1) 0)) × (result ≡ 25 + length (rows_from (lent image.now kinds.now) clean (most_listed + 1) 0)) }
 {
     let mut at: usize = ROW;
-    let mut k: u32 = 0;
-    while k < 32 {
-        let mut ledger = [0u8; 16364];
-        let answer = sector_log::look_back(image, kinds, &mut ledger, k);
-        let outcome = answer / 4294967296;
-        if outcome != 0 {
-            return put_last(out, at, outcome == 8, clean);
-        }
+    for k in 0..32 {
+        let mut ledger = [0u8; LEDGER];
+        let block = match sector_log::look_back(image, kinds, &mut ledger, k) {
+            Ok(block) => block,
+            Err(refusal) => return put_last(out, at, is_broken(refusal), clean),
+        };
         let size = volume::ledger::size(&ledger);
         let used = crate::text::used(&ledger);
-        crate::text::put_row(out, at, k, (answer % 4294967296) as u32, size, used);
+        crate::text::put_row(out, at, k, block, size, used);
         at += ROW;
-        k += 1;
     }
     put_last(out, at, false, clean)
 }
@@ -77,15 +84,15 @@ fn put_listed(image: &[u8], kinds: &[u8], out: &mut [u8]) -> usize
     requires { 832 ≤ length out.old }
     ensures { (out.new ≡ sets out.old 0 (listed (lent image.now kinds.now))) × (result ≡ length (listed (lent image.now kinds.now))) }
 {
-    let mut ledger = [0u8; 16364];
-    let answer = sector_log::mount(image, kinds, &mut ledger);
-    let outcome = answer / 4294967296;
-    if outcome != 0 {
-        return put_refused(out, outcome as u32);
+    let mut ledger = [0u8; LEDGER];
+    match sector_log::mount(image, kinds, &mut ledger) {
+        Ok(clean) => {
+            let heading = HEADING;
+            le::run::put_text(out, 0, &heading);
+            put_rows(image, kinds, out, clean == 1)
+        }
+        Err(refusal) => put_refused(out, refusal.number()),
     }
-    let heading = HEADING;
-    le::run::put_text(out, 0, &heading);
-    put_rows(image, kinds, out, answer % 4294967296 == 1)
 }
 
 // The answer to an input of any length, at the beginning of a buffer of at least 832 bytes; how long it is.
@@ -96,10 +103,9 @@ pub fn list(input: &[u8], out: &mut [u8]) -> usize
     if input.len() < 9 {
         return put_refused(out, 1);
     }
-    let n = crate::form::count(input);
-    if n == 0 {
+    let Some(n) = crate::form::count(input) else {
         return put_refused(out, 1);
-    }
+    };
     if !crate::form::is_formed(input, n) {
         return put_refused(out, 1);
     }

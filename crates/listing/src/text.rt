@@ -1,11 +1,11 @@
 // The text of a listing: numbers in columns, rows and lines.
-ghost use Rattle.std.specs.Prelude.{◌≡◌, ◌+◌, ◌≤◌, ◌<◌, eqb, length};
-ghost use Rattle.vat.specs.Table.{unused};
+ghost use Rattle.std.specs.Prelude.{◌≡◌, ◌+◌, ◌≤◌, ◌<◌, length};
 ghost use Rattle.std.proofs.lemmas.List.Edits.{sets};
 ghost use Rattle.volume.specs.Volume.{ledger_length, unpack};
-ghost use Rattle.listing.specs.Text.{digit, digit_or_blank, column, row_line, counting, used};
+ghost use Rattle.listing.specs.Text.{digit, digit_or_blank, column, row_line, used};
 
 use vat::table::UNUSED;
+use volume::PLACES;
 
 // How long a row is, with its newline, and so is the heading.
 pub const ROW: usize = 25;
@@ -13,16 +13,13 @@ pub const ROW: usize = 25;
 fn digit(n: u32) -> u8
     ensures { result ≡ digit n }
 {
-    (48 + n % 10) as u8
+    b'0' + (n % 10) as u8
 }
 
 fn digit_or_blank(n: u32) -> u8
     ensures { result ≡ digit_or_blank n }
 {
-    if n == 0 {
-        return 32;
-    }
-    digit(n)
+    if n == 0 { b' ' } else { digit(n) }
 }
 
 // A number right-justified in w + 1 columns, from its last digit on.
@@ -33,11 +30,9 @@ pub fn put_column(out: &mut [u8], at: usize, w: usize, n: u32)
     let last = at + w;
     out[last] = digit(n);
     let mut m = n / 10;
-    let mut place = last;
-    while at < place {
-        place -= 1;
+    for place in (at..last).rev() {
         out[place] = digit_or_blank(m);
-        m = m / 10;
+        m /= 10;
     }
 }
 
@@ -49,18 +44,7 @@ pub fn put_row(out: &mut [u8], at: usize, k: u32, block: u32, size: u32, used: u
     put_column(out, at + 4, 7, block);
     put_column(out, at + 12, 5, size);
     put_column(out, at + 18, 5, used);
-    le::put8(out, at + 24, 10);
-}
-
-// One entry more.
-fn counted(count: u32, entry: u32) -> u32
-    requires { count < 4294967295 }
-    ensures { result ≡ counting (eqb entry unused) count }
-{
-    if entry == UNUSED {
-        return count;
-    }
-    count + 1
+    le::put8(out, at + 24, b'\n');
 }
 
 // Entries in use, of all that the ledger has: those from size on are unused.
@@ -68,11 +52,7 @@ pub fn used(ledger: &[u8]) -> u32
     requires { length ledger.now ≡ ledger_length }
     ensures { result ≡ used (unpack ledger.now).entries }
 {
-    let mut count: u32 = 0;
-    let mut i: u32 = 4087;
-    while 0 < i {
-        i -= 1;
-        count = counted(count, volume::ledger::entry(ledger, i));
-    }
-    count
+    (0..PLACES as u32)
+        .filter(|i| volume::ledger::entry(ledger, *i) != UNUSED)
+        .count() as u32
 }

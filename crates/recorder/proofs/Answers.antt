@@ -5,10 +5,10 @@ use native.Mathlib.Omega.{arith}
 use mathlib.Core.Path.{◌≡◌, refl, sym, subst}
 use mathlib.Core.Bool.{Bool, true, false}
 use mathlib.Core.List.{List, []}
-use mathlib.Core.Option.{Option, none, some}
+use Rattle.std.specs.Prelude.{Option, None, Some}
 use lib.Dec.{eqb, lit<}
 use lib.ListN.{length}
-use Rattle.disc.specs.declared.Walk.TheVariants.{Reached}
+use Rattle.std.specs.Prelude.{Ok}
 use Rattle.disc.specs.Disc.{Disc, Sector, recorded}
 use Rattle.disc.specs.Tables.{table_at, previous_at, newest, block_found}
 use Rattle.vat.specs.Sector.{no_stamp}
@@ -33,13 +33,13 @@ pub answer-of : (d : Disc) (l : List ℕ) (c : Call) → outcome d l c ≡ 0 →
 unfolding after second_number
 answer-of d l c e = rw e
 
-pub walked-table : (d : Disc) (k t : ℕ) → walked d k ≡ Reached t → table_at d t ≡ true
+pub walked-table : (d : Disc) (k t : ℕ) → walked d k ≡ Ok t → table_at d t ≡ true
 unfolding walked
 walked-table d k t e = go (newest d) refl e
   where
-    go : (o : Option ℕ) → newest d ≡ o → walk_from d k o ≡ Reached t → table_at d t ≡ true
-    go none n e = absurd (let z : ◌≡◌ {A = ℕ} 0 1 = cc in omega arith)
-    go (some b) n e = walk-table (table_at d) (previous_at d) k b t e (newest-table (table_at d) (recorded d) b n)
+    go : (o : Option ℕ) → newest d ≡ o → walk_from d k o ≡ Ok t → table_at d t ≡ true
+    go None n e = absurd (let z : ◌≡◌ {A = ℕ} 0 1 = cc in omega arith)
+    go (Some b) n e = walk-table (table_at d) (previous_at d) k b t e (newest-table (table_at d) (recorded d) b n)
 
 -- ---- a second number has 32 bits
 

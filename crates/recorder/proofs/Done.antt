@@ -6,7 +6,7 @@ use native.Mathlib.Nat.{add-zero, zero-add}
 use mathlib.Core.Path.{◌≡◌, refl, sym, ap, ◌∙◌, subst}
 use mathlib.Core.Bool.{Bool, true, false, ◌&&◌, ◌||◌, not}
 use mathlib.Core.List.{List, [], ◌∷◌, ◌++◌}
-use mathlib.Core.Option.{Option, none, some}
+use Rattle.std.specs.Prelude.{Option, None, Some}
 use lib.Dec.{eqb, ltb, leb}
 use lib.ListN.{length, get_or, drop, length-replicate}
 use lib.Seq.{get_or-take}
@@ -19,8 +19,9 @@ use Rattle.vat.specs.Sector.{no_stamp, table_bytes}
 use Rattle.extent.specs.declared.Extent.{Extent}
 use Rattle.anchor.specs.Anchor.{farthest_start, anchor_tagged}
 use Rattle.disc.specs.Disc.{Disc, sized, in_order, recorded, blanks, kind_at, Sector}
-use Rattle.disc.specs.declared.Walk.{Walk}
-use Rattle.disc.specs.declared.Walk.TheVariants.{Reached, Broken, Ended}
+use Rattle.disc.specs.Tables.{Walk}
+use Rattle.std.specs.Prelude.{Ok, Err}
+use Rattle.disc.specs.declared.Stop.TheVariants.{Broken, Ended}
 use Rattle.disc.specs.Tables.{below, table_at, newest}
 use Rattle.disc.specs.Session.{closing_length, session_closed}
 use Rattle.disc.specs.Again.{fresh_of}
@@ -288,25 +289,25 @@ read_done d l n block e =
 pub shown-within : (d : Disc) (b : ℕ) → Sound d → table_at d b ≡ true → sector_length * b + sector_length ≤ length d.image
 shown-within d b s e = sector-end d (sized-tells d (sound-sized d s)) b (table-within d b e)
 
-none_found : (o : Option ℕ) → is_some o ≡ false → o ≡ none
-none_found none e = refl
-none_found (some b) e = absurd (true-false e)
+none_found : (o : Option ℕ) → is_some o ≡ false → o ≡ None
+none_found None e = refl
+none_found (Some b) e = absurd (true-false e)
   where
     true-false : true ≡ false → ⊥
     true-false e = mathlib.Core.Bool.true≢false e
 
-some-found : (o : Option ℕ) → not (is_some o) ≡ false → (b : ℕ) × (o ≡ some b)
-some-found none e = absurd (mathlib.Core.Bool.true≢false e)
-some-found (some b) e = (b, refl)
+some-found : (o : Option ℕ) → not (is_some o) ≡ false → (b : ℕ) × (o ≡ Some b)
+some-found None e = absurd (mathlib.Core.Bool.true≢false e)
+some-found (Some b) e = (b, refl)
 
-pub begin-done : (d : Disc) (l : List ℕ) → outcome d l begin ≡ 0 → Sound d × (newest d ≡ none)
+pub begin-done : (d : Disc) (l : List ℕ) → outcome d l begin ≡ 0 → Sound d × (newest d ≡ None)
 unfolding outcome tests
 begin-done d l e =
     let six : Bool = is_some (newest d) in
     let b : Basic d (ledger_lent l) (test 6 six ∷ []) = basic-passed d (ledger_lent l) (test 6 six ∷ []) e in
     (b.sound-disc, none_found (newest d) (passed 5 six [] b.rest-passed))
 
-pub mount-done : (d : Disc) (l : List ℕ) → outcome d l mount ≡ 0 → Sound d × ((b : ℕ) × (newest d ≡ some b))
+pub mount-done : (d : Disc) (l : List ℕ) → outcome d l mount ≡ 0 → Sound d × ((b : ℕ) × (newest d ≡ Some b))
 unfolding outcome tests
 mount-done d l e =
     let seven : Bool = not (is_some (newest d)) in
@@ -315,12 +316,12 @@ mount-done d l e =
 
 -- what is known of a number that may be written
 abbrev pub Writable : Volume → Option ℕ → Type 0
-Writable v none = Unit
-Writable v (some n) = (n < limit) × (n ≤ v.size)
+Writable v None = Unit
+Writable v (Some n) = (n < limit) × (n ≤ v.size)
 
 pub size_fits : (v : Volume) (n : Option ℕ) → Writable v n → v.size ≤ limit → size_with n v.size ≤ limit
-size_fits v none w few = few
-size_fits v (some n) w few = go (eqb n v.size) refl
+size_fits v None w few = few
+size_fits v (Some n) w few = go (eqb n v.size) refl
   where
     go : (t : Bool) → eqb n v.size ≡ t → grown t v.size ≤ limit
     go true e = let same : n ≡ v.size = eqb-true n v.size e in omega (arith, w.0, same)
@@ -341,8 +342,8 @@ neither false b e = refl
 
 -- 13 and 12 passed, and what comes behind them
 numbered : (v : Volume) (n : Option ℕ) (rest : List Test) → first (number_tests v n ++ rest) ≡ 0 → Writable v n × (first rest ≡ 0)
-numbered v none rest e = (tt, e)
-numbered v (some n) rest e =
+numbered v None rest e = (tt, e)
+numbered v (Some n) rest e =
     let thirteen : Bool = leb limit n in
     let twelve : Bool = ltb v.size n in
     let e₁ : first (test 12 twelve ∷ rest) ≡ 0 = later 12 thirteen (test 12 twelve ∷ rest) e in
@@ -441,8 +442,8 @@ pub record SaveDone (d : Disc) (l : List ℕ) (first : List Sector) (stamp : Lis
   pub room : links (unpack l) + (length first + length (save_of d l first stamp)) ≤ blanks d
 
 stamp-long : (stamp : Option (List ℕ)) → stamp_long stamp ≡ true → length (stamp_of stamp) ≡ stamp_length
-stamp-long none e = refl
-stamp-long (some stamp) e = eqb-true (length stamp) stamp_length e
+stamp-long None e = refl
+stamp-long (Some stamp) e = eqb-true (length stamp) stamp_length e
 
 pub record CommitDone (d : Disc) (l : List ℕ) (stamp : Option (List ℕ)) : Type 0 where
   pub right-stamp : stamp_wrong stamp ≡ false
@@ -506,15 +507,15 @@ closing-done d l main reserve start e =
           };
     }
 
-way-reached : (w : Walk) → is_broken w ≡ false → is_ended w ≡ false → (b : ℕ) × (w ≡ Reached b)
-way-reached (Reached b) p q = (b, refl)
-way-reached Broken p q = absurd (mathlib.Core.Bool.true≢false p)
-way-reached Ended p q = absurd (mathlib.Core.Bool.true≢false q)
+way-reached : (w : Walk) → is_broken w ≡ false → is_ended w ≡ false → (b : ℕ) × (w ≡ Ok b)
+way-reached (Ok b) p q = (b, refl)
+way-reached (Err Broken) p q = absurd (mathlib.Core.Bool.true≢false p)
+way-reached (Err Ended) p q = absurd (mathlib.Core.Bool.true≢false q)
 
 -- 7, 8 and 9 do not apply: a table was reached
 pub record Walked (d : Disc) (k : ℕ) (rest : List Test) : Type 0 where
   pub block : ℕ
-  pub reached : walked d k ≡ Reached block
+  pub reached : walked d k ≡ Ok block
   pub rest-passed : first rest ≡ 0
 
 walk-passed : (d : Disc) (k : ℕ) (rest : List Test) → first (walk_tests d k ++ rest) ≡ 0 → Walked d k rest
@@ -527,7 +528,7 @@ walk-passed d k rest e =
     let way = way-reached (walked d k) (passed 7 eight (test 9 nine ∷ rest) e₁) (passed 8 nine rest e₂) in
     record { block = way.0; reached = way.1; rest-passed = later 8 nine rest e₂ }
 
-pub skip-walk : (d : Disc) (k b t : ℕ) (rest : List Test) → newest d ≡ some b → walked d k ≡ Reached t → first (walk_tests d k ++ rest) ≡ first rest
+pub skip-walk : (d : Disc) (k b t : ℕ) (rest : List Test) → newest d ≡ Some b → walked d k ≡ Ok t → first (walk_tests d k ++ rest) ≡ first rest
 skip-walk d k b t rest n way =
     let seven : Bool = not (is_some (newest d)) in
     let eight : Bool = is_broken (walked d k) in
@@ -536,7 +537,7 @@ skip-walk d k b t rest n way =
     ∙ skip 8 eight (test 9 nine ∷ rest) (ap is_broken way)
     ∙ skip 9 nine rest (ap is_ended way)
 
-pub look-back-done : (d : Disc) (l : List ℕ) (k : ℕ) → outcome d l (look_back k) ≡ 0 → Sound d × ((b : ℕ) × (walked d k ≡ Reached b))
+pub look-back-done : (d : Disc) (l : List ℕ) (k : ℕ) → outcome d l (look_back k) ≡ 0 → Sound d × ((b : ℕ) × (walked d k ≡ Ok b))
 unfolding outcome tests
 look-back-done d l k e =
     let b : Basic d (ledger_lent l) (walk_tests d k) = basic-passed d (ledger_lent l) (walk_tests d k) e in
@@ -547,7 +548,7 @@ pub record TimeDone (d : Disc) (k : ℕ) (answer : List ℕ) : Type 0 where
   pub sound-disc : Sound d
   pub answer-long : length answer ≡ told_length
   pub block : ℕ
-  pub reached : walked d k ≡ Reached block
+  pub reached : walked d k ≡ Ok block
   pub right-time : valid (time_back d k) ≡ true
 
 pub time-done : (d : Disc) (l : List ℕ) (k : ℕ) (answer : List ℕ) → outcome d l (time_of k answer) ≡ 0 → TimeDone d k answer

@@ -1,6 +1,6 @@
 -- The calls (document 01, 'The calls', and document 02), each with its numbers and the buffer that it is lent beside disc and ledger.
 use Rattle.std.specs.Prelude.{ℕ, Bool, true, false, List, []}
-use Rattle.std.proofs.Math.Option.{Option, none, some}
+use Rattle.std.specs.Prelude.{Option, None, Some}
 use Rattle.extent.specs.declared.Extent.{Extent}
 use Rattle.vat.specs.Sector.{no_stamp}
 
@@ -18,13 +18,13 @@ pub data Call : Type 0 where
 
 -- The timestamp that a commit records: "as access, modification and attribute time", or zeros without one.
 abbrev pub stamp_of : Option (List ℕ) → List ℕ
-stamp_of none = no_stamp
-stamp_of (some stamp) = stamp
+stamp_of None = no_stamp
+stamp_of (Some stamp) = stamp
 
 -- The buffer: "write and read are lent a block too", a commit its timestamp, and a time its answer.
 abbrev pub stamp_buffer : Option (List ℕ) → List ℕ
-stamp_buffer none = []
-stamp_buffer (some stamp) = stamp
+stamp_buffer None = []
+stamp_buffer (Some stamp) = stamp
 
 abbrev pub buffer_of : Call → List ℕ
 buffer_of begin = []

@@ -5,9 +5,8 @@ use Rattle.extent.specs.declared.Extent.{Extent}
 use Rattle.timestamp.specs.Timestamp.{told}
 use Rattle.vat.specs.Sector.{no_stamp, table_bytes}
 use Rattle.disc.specs.Disc.{Disc, lent, Sector, link, plain, recorded, sector_at, puts}
-use Rattle.disc.specs.declared.Walk.{Walk}
-use Rattle.disc.specs.declared.Walk.TheVariants.{Reached, Broken, Ended}
-use Rattle.disc.specs.Tables.{map_at, newest, block_found}
+use Rattle.std.specs.Prelude.{Ok, Err}
+use Rattle.disc.specs.Tables.{Walk, map_at, newest, block_found}
 use Rattle.disc.specs.Session.{closing}
 use Rattle.disc.specs.Again.{fresh_of}
 use Rattle.disc.specs.Save.{save_sectors, last_block}
@@ -28,9 +27,8 @@ settles second ledger = record { second = second; sectors = []; ledger = ledger;
 
 -- The block that look back k reaches; 0 where it fails, which no call that is done meets.
 abbrev pub block_reached : Walk → ℕ
-block_reached (Reached b) = b
-block_reached Broken = 0
-block_reached Ended = 0
+block_reached (Ok b) = b
+block_reached (Err s) = 0
 
 -- "Clean means that it is the last recorded sector": 1 if clean and 0 if dirty.
 abbrev pub clean_number : Bool → ℕ

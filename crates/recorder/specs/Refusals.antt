@@ -2,15 +2,15 @@
 -- and none without its condition", where lowest "means first in the order of tests", in demand 1 too (document 02, R-1). Each call has a list of tests in
 -- order; the first that applies gives its number, and 0 is done.
 use Rattle.std.specs.Prelude.{ℕ, ◌+◌, Bool, true, false, ◌&&◌, ◌||◌, not, List, [], ◌∷◌, ◌++◌, eqb, ltb, leb, length, get_or}
-use Rattle.std.proofs.Math.Option.{Option, none, some}
+use Rattle.std.specs.Prelude.{Option, None, Some}
 use Rattle.timestamp.specs.Timestamp.{stamp_length, told_length, valid}
 use Rattle.vat.specs.Table.{sector_length, limit, unused, is_table}
 use Rattle.vat.specs.Sector.{table_bytes}
 use Rattle.anchor.specs.Anchor.{farthest_start, anchor_tagged}
 use Rattle.disc.specs.Disc.{Disc, sized, in_order, blanks, kind_at}
-use Rattle.disc.specs.declared.Walk.{Walk}
-use Rattle.disc.specs.declared.Walk.TheVariants.{Reached, Broken, Ended}
-use Rattle.disc.specs.Tables.{below, table_at, previous_at, time_at, newest, walk}
+use Rattle.std.specs.Prelude.{Ok, Err}
+use Rattle.disc.specs.declared.Stop.TheVariants.{Broken, Ended}
+use Rattle.disc.specs.Tables.{Walk, below, table_at, previous_at, time_at, newest, walk}
 use Rattle.disc.specs.Session.{closing_length, session_closed}
 use Rattle.disc.specs.Save.{save_sectors}
 use Rattle.volume.specs.declared.Volume.{Volume}
@@ -68,8 +68,8 @@ block_lent l block = ledger_lent l && eqb (length block) sector_length
 
 -- "A lent timestamp or answer of another length gives 2."
 abbrev pub stamp_long : Option (List ℕ) → Bool
-stamp_long none = true
-stamp_long (some stamp) = eqb (length stamp) stamp_length
+stamp_long None = true
+stamp_long (Some stamp) = eqb (length stamp) stamp_length
 
 abbrev pub stamp_lent : List ℕ → Option (List ℕ) → Bool
 stamp_lent l stamp = ledger_lent l && stamp_long stamp
@@ -94,8 +94,8 @@ forbidden_at d b block = is_table (below d b) block b || anchor_tagged block b
 -- Write's own tests: the number, if it has one, the room, the lent block. "13 comes directly before 12": "a number at or above the limit gives 13, even
 -- above size".
 abbrev pub number_tests : Volume → Option ℕ → List Test
-number_tests v none = []
-number_tests v (some n) = test 13 (leb limit n) ∷ test 12 (ltb v.size n) ∷ []
+number_tests v None = []
+number_tests v (Some n) = test 13 (leb limit n) ∷ test 12 (ltb v.size n) ∷ []
 
 abbrev pub block_tests : Disc → Volume → List ℕ → List Test
 block_tests d v block =
@@ -106,8 +106,8 @@ write_tests d v n block = number_tests v n ++ block_tests d v block
 
 -- 16, "a timestamp given .. breaks these limits": "tested after 5 on a commit".
 abbrev pub stamp_wrong : Option (List ℕ) → Bool
-stamp_wrong none = false
-stamp_wrong (some stamp) = not (valid stamp)
+stamp_wrong None = false
+stamp_wrong (Some stamp) = not (valid stamp)
 
 -- 14 of a save that records so many sectors behind its links.
 abbrev pub no_room : Disc → Volume → ℕ → Test
@@ -139,26 +139,26 @@ numbered_tests d l n =
 
 -- 6 and 7: a table sector exists, or none.
 abbrev pub is_some : Option ℕ → Bool
-is_some none = false
-is_some (some b) = true
+is_some None = false
+is_some (Some b) = true
 
 -- The walk of look back k: "from the table that mount would find, follows the previous entry k times".
 abbrev pub walk_from : Disc → ℕ → Option ℕ → Walk
-walk_from d k none = Broken
-walk_from d k (some b) = walk (table_at d) (previous_at d) k b
+walk_from d k None = Err Broken
+walk_from d k (Some b) = walk (table_at d) (previous_at d) k b
 
 unfoldable pub walked : Disc → ℕ → Walk
 walked d k = walk_from d k (newest d)
 
 abbrev pub is_broken : Walk → Bool
-is_broken (Reached b) = false
-is_broken Broken = true
-is_broken Ended = false
+is_broken (Ok b) = false
+is_broken (Err Broken) = true
+is_broken (Err Ended) = false
 
 abbrev pub is_ended : Walk → Bool
-is_ended (Reached b) = false
-is_ended Broken = false
-is_ended Ended = true
+is_ended (Ok b) = false
+is_ended (Err Broken) = false
+is_ended (Err Ended) = true
 
 -- The tests of a walk back k tables. "Look back stops at its first failing step."
 abbrev pub walk_tests : Disc → ℕ → List Test
@@ -166,9 +166,8 @@ walk_tests d k = test 7 (not (is_some (newest d))) ∷ test 8 (is_broken (walked
 
 -- The modification time of the table k saves back; none where the walk fails, which no call that is done meets.
 abbrev pub time_reached : Disc → Walk → List ℕ
-time_reached d (Reached b) = time_at d b
-time_reached d Broken = []
-time_reached d Ended = []
+time_reached d (Ok b) = time_at d b
+time_reached d (Err s) = []
 
 abbrev pub time_back : Disc → ℕ → List ℕ
 time_back d k = time_reached d (walked d k)

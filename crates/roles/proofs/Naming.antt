@@ -1,15 +1,16 @@
 -- What one entry more of the map makes of all roles, what a number that lets go of a block does, and what a call recorded as runs of roles.
 -- Assumes nothing.
-use Prim.Native.Nat.{ℕ, zero, suc, ◌+◌, ◌≤◌, ◌<◌}
-use native.Mathlib.Nat.{not-suc-le-zero}
+use Prim.Native.Nat.{ℕ, zero, suc, ◌+◌, ◌-◌, ◌≤◌, ◌<◌}
 use native.Mathlib.Numerals.{add-one}
 use native.Mathlib.Omega.{arith}
-use mathlib.Core.Path.{◌≡◌, refl, sym, ap, ◌∙◌}
+use mathlib.Core.Path.{◌≡◌, refl, sym, ap, ap₂, ◌∙◌}
 use mathlib.Core.Bool.{Bool, true, false, not}
 use mathlib.Core.List.{List, [], ◌∷◌, ◌++◌}
 use lib.Dec.{eqb}
-use lib.ListN.{length, get_or, take, set, replicate, length-replicate, get_or-eq_default}
-use lib.Seq.{take-suc, get_or-take}
+use lib.ListN.{length, get_or, take, drop, set, replicate, length-replicate, get_or-eq_default}
+use lib.Seq.{take-suc, get_or-take, drop-drop}
+use Rattle.std.proofs.lemmas.List.{get_or_default}
+use borrow.Rule.Slice.PartMut.{put_mid}
 use borrow.Author.Tests.{eqb-true, eqb-false, ne_eqb}
 use Rattle.le.proofs.Runs.{length-words}
 use Rattle.vat.specs.Table.{limit, unused}
@@ -22,16 +23,10 @@ use Rattle.roles.specs.Roles.{in_use, superseded, unnumbered, link_role, blank_r
 use Rattle.roles.specs.Keeping.{supersede_if, let_go, marked}
 use Rattle.roles.proofs.Roles.{length-tabulate, get_d_tabulate, tabulate-same, set-tabulate, names-last, names-other, role-names, stored-append}
 
--- within a list the default is not told
-inside-same : (xs : List ℕ) (i x y : ℕ) → i < length xs → get_or xs i x ≡ get_or xs i y
-inside-same [] i x y h = absurd (not-suc-le-zero h)
-inside-same (z ∷ zs) zero x y h = refl
-inside-same (z ∷ zs) (suc i) x y h = inside-same zs i x y (omega arith)
-
 -- an entry of the map, as the ledger has it
 pub map-entry : (l : List ℕ) (n : ℕ) → n < (unpack l).size → (unpack l).size ≤ limit → get_or (unpack l).entries n unused ≡ get_or (map_of (unpack l)) n 0
 map-entry l n h few =
-    inside-same (unpack l).entries n unused 0 (omega (arith, long-unpack l)) ∙ sym (get_or-take (unpack l).size (unpack l).entries n 0 h)
+    get_or_default (unpack l).entries n unused 0 (omega (arith, long-unpack l)) ∙ sym (get_or-take (unpack l).size (unpack l).entries n 0 h)
 
 -- the map, one entry further
 pub map-suc : (l : List ℕ) (n : ℕ) → n < limit → take (n + 1) (unpack l).entries ≡ take n (unpack l).entries ++ (get_or (unpack l).entries n unused ∷ [])
@@ -101,7 +96,7 @@ module _ (l : List ℕ) (b : ℕ) (roles : List ℕ) where
 
   pub let-go-other : b < length roles → (get_or roles b 0 ≡ in_use → ⊥) → let_go l b roles ≡ roles
   unfolding let_go
-  let-go-other h other = rw (inside-same roles b blank_role 0 h, ne_eqb (get_or roles b 0) in_use other)
+  let-go-other h other = rw (get_or_default roles b blank_role 0 h, ne_eqb (get_or roles b 0) in_use other)
 
   pub let-go-named : names (map_of (unpack l)) b ≡ true → let_go l b roles ≡ roles
   unfolding let_go
@@ -109,9 +104,16 @@ module _ (l : List ℕ) (b : ℕ) (roles : List ℕ) where
 
   pub let-go-now : b < length roles → get_or roles b 0 ≡ in_use → names (map_of (unpack l)) b ≡ false → let_go l b roles ≡ set roles b superseded
   unfolding let_go
-  let-go-now h was n = rw (inside-same roles b blank_role 0 h, was, n)
+  let-go-now h was n = rw (get_or_default roles b blank_role 0 h, was, n)
 
 -- ---- what a call recorded
+
+-- a part of the list filled
+pub filled-part : (at n x : ℕ) (xs ys : List ℕ) → ys ≡ replicate n x → put_mid at (at + n - at) xs ys ≡ stored xs at (replicate n x)
+unfolding stored
+filled-part at n x xs ys e =
+    let behind : at + (at + n - at) ≡ at + length (replicate n x) = omega (arith, length-replicate {A = ℕ} n x) in
+    ap₂ (λ (l rest : List ℕ). take at xs ++ (l ++ rest)) e (drop-drop (at + n - at) at xs ∙ ap (λ (k : ℕ). drop k xs) behind)
 
 -- the links, the sectors between and those of the role, each run behind the other
 pub marked-runs : (at links between count role : ℕ) (xs : List ℕ) → at + links + between + count ≤ length xs

@@ -14,7 +14,7 @@ use lib.Seq.{get_or_at, get_or-set_same, get_or-set_other, ext_get_or, take-suc-
 use borrow.Author.Tests.{eqb-true, eqb-false, eq-eqb, ne_eqb}
 use Rattle.le.specs.Bytes.{every}
 use Rattle.disc.specs.Disc.{Disc, kind_at, stored}
-use Rattle.roles.specs.Roles.{unreadable, blank_role, names, of_table, role_of_kind, role_of_data, role_at, tabulate}
+use Rattle.roles.specs.Roles.{blank_role, names, of_table, role_of_kind, role_of_data, role_at, tabulate}
 
 -- ---- a table of a function's values
 
@@ -114,12 +114,6 @@ pub role-names : (d : Disc) (map map' apart apart' : List ℕ) (b : ℕ) → nam
     → role_at d map apart b ≡ role_at d map' apart' b
 unfolding role_at
 role-names d map map' apart apart' b m a = ap₂ (λ (t u : Bool). role_of_kind (kind_at d b) (role_of_data (of_table d b) t u)) m a
-
-pub kind-unreadable : (k own : ℕ) → (k ≡ 0 → ⊥) → (k ≡ 1 → ⊥) → (k ≡ 2 → ⊥) → role_of_kind k own ≡ unreadable
-kind-unreadable zero own blank plain link = absurd (blank refl)
-kind-unreadable (suc zero) own blank plain link = absurd (plain refl)
-kind-unreadable (suc (suc zero)) own blank plain link = absurd (link refl)
-kind-unreadable (suc (suc (suc k))) own blank plain link = refl
 
 module _ (d : Disc) (map apart : List ℕ) (b : ℕ) where
   pub role-blank : kind_at d b ≡ 0 → role_at d map apart b ≡ blank_role

@@ -1,17 +1,25 @@
 -- The roles kept up (document 02, R-7: "Each call that alters disc or ledger is lent these bytes too"): what each call makes of them, and all that it
 -- then leaves.
-use Rattle.std.specs.Prelude.{ℕ, zero, suc, ◌+◌, Bool, true, false, ◌&&◌, ◌||◌, not, List, [], ◌∷◌, ◌++◌, eqb, length, get_or, set, replicate}
-use Rattle.std.proofs.Math.Option.{Option, none, some}
+use Rattle.std.specs.Prelude.{◌≡◌, ℕ, zero, suc, ◌+◌, ◌≤◌, ◌<◌, Bool, true, false, ◌&&◌, ◌||◌, not, List, [], ◌∷◌, ◌++◌, eqb, length, get_or, set, replicate}
+use Rattle.std.specs.Prelude.{Option, None, Some}
 use Rattle.vat.specs.Table.{unused}
 use Rattle.vat.specs.Sector.{no_stamp, table_bytes}
 use Rattle.disc.specs.Disc.{Disc, sized, recorded, Sector, stored}
+use Rattle.disc.specs.Tables.{table_at}
 use Rattle.disc.specs.Save.{save_sectors}
 use Rattle.volume.specs.declared.Volume.{Volume}
 use Rattle.volume.specs.Volume.{unpack, map_of}
 use Rattle.recorder.specs.Calls.{Call, begin, mount, write, release, close_packet, commit, close_session, read, look_back, time_of, stamp_of, buffer_of, restores, may_record}
 use Rattle.recorder.specs.Refusals.{Test, test, first, links, target, block_of, tests}
 use Rattle.recorder.specs.Effects.{closing_first, effect, After, left, settled, after}
+use Rattle.roles.specs.declared.TablesEnd.{TablesEnd}
+use Rattle.roles.specs.declared.TablesEnd.TheVariants.{Below, At}
 use Rattle.roles.specs.Roles.{in_use, superseded, unnumbered, table_role, link_role, blank_role, names, roles_of}
+
+-- The tables of a disc end there, within what is recorded.
+abbrev pub EndThere : Disc → TablesEnd → Type 0
+EndThere d (Below n) = (n ≤ recorded d) × ((b : ℕ) → n ≤ b → table_at d b ≡ false)
+EndThere d (At n) = (n ≤ recorded d) × (table_at d n ≡ true) × ((b : ℕ) → n < b → table_at d b ≡ false)
 
 -- Begin, mount and look back: "a scan then gives the start", of the disc with the ledger's map.
 unfoldable pub scanned : Disc → List ℕ → List ℕ
@@ -40,12 +48,12 @@ marked_save d v first stamp roles =
 
 -- A write with a number and without one: the role of its block, and the block that its number named before.
 abbrev pub written_role : Option ℕ → ℕ
-written_role none = unnumbered
-written_role (some n) = in_use
+written_role None = unnumbered
+written_role (Some n) = in_use
 
 abbrev pub named_before : Volume → Option ℕ → ℕ
-named_before v none = unused
-named_before v (some n) = block_of v n
+named_before v None = unused
+named_before v (Some n) = block_of v n
 
 -- What a call that is done makes of the roles.
 unfoldable pub kept_up : Disc → List ℕ → List ℕ → Call → List ℕ

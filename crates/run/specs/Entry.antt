@@ -1,9 +1,9 @@
 -- A run (document 02, R-6: "Runs longer than a block") and its entry: "an ordinary file entry" (ECMA-167 4/14.9) whose short allocation descriptors name
 -- the extents that hold it. Which sectors are such entries, what a run holds, and the entry that is recorded for a list of extents.
-use Rattle.std.specs.Prelude.{ℕ, zero, suc, ◌+◌, ◌*◌, ◌/◌, ◌%◌, Bool, true, ◌&&◌, List, [], ◌∷◌, ◌++◌, eqb, ltb, leb, length, take, drop, replicate}
+use Rattle.std.specs.Prelude.{ℕ, ◌+◌, ◌*◌, ◌/◌, ◌%◌, Bool, true, ◌&&◌, List, [], ◌∷◌, ◌++◌, eqb, ltb, leb, length, take, drop, replicate}
 use Rattle.std.proofs.lemmas.List.Edits.{sets}
 use Rattle.le.specs.Bytes.{every}
-use Rattle.le.specs.Field.{Row, row, le, read_le, holds, lay}
+use Rattle.le.specs.Field.{Row, row, read_le, holds, lay}
 use Rattle.tag.specs.Tag.{sealed, seal}
 use Rattle.vat.specs.Table.{sector_length, table_start, tag_version, entry_rows, length_rows, allocation_type}
 use Rattle.vat.specs.Sector.{own_rows, station_at, station_name}

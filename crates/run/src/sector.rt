@@ -6,18 +6,17 @@ ghost use Rattle.extent.specs.Extents.{total_length};
 ghost use Rattle.run.specs.Entry.{most_extents, total_sectors, paired, file_rows, entry};
 
 use crate::entry::FILE_TYPE;
-use vat::table::{ATTRIBUTES_AT, TAG_VERSION};
+use vat::table::{ATTRIBUTES_AT, SECTOR, TAG_VERSION};
 
 // Of each two words the first is a length.
 fn total_length(words: &[u32]) -> u64
     requires { (length words.now % 2 ≡ 0) × (length words.now ≤ 2 * most_extents) }
     ensures { result ≡ total_length (paired words.now) }
 {
-    let mut total: u64 = 0;
-    let mut i: usize = 0;
-    while i < words.len() {
-        total += words[i] as u64;
-        i += 2;
+    let (pairs, _) = words.as_chunks::<2>();
+    let mut total = 0;
+    for [length, _] in pairs {
+        total += u64::from(*length);
     }
     total
 }
@@ -26,11 +25,10 @@ fn total_sectors(words: &[u32]) -> u64
     requires { (length words.now % 2 ≡ 0) × (length words.now ≤ 2 * most_extents) }
     ensures { result ≡ total_sectors (paired words.now) }
 {
-    let mut total: u64 = 0;
-    let mut i: usize = 0;
-    while i < words.len() {
-        total += ((words[i] as u64) + 2047) / 2048;
-        i += 2;
+    let (pairs, _) = words.as_chunks::<2>();
+    let mut total = 0;
+    for [length, _] in pairs {
+        total += u64::from(*length).div_ceil(SECTOR as u64);
     }
     total
 }

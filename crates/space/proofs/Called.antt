@@ -6,7 +6,7 @@ use mathlib.Core.Path.{◌≡◌, refl, sym, ap, ◌∙◌, subst}
 use mathlib.Core.Bool.{Bool, true, false, ◌||◌, not}
 use mathlib.Core.List.{List, [], ◌∷◌, ◌++◌}
 use mathlib.Core.Logic.{◌⊎◌, inl, inr}
-use mathlib.Core.Option.{some}
+use Rattle.std.specs.Prelude.{Some}
 use lib.Dec.{eqb}
 use lib.ListN.{length}
 use borrow.Author.Tests.{eqb-true}
@@ -64,8 +64,8 @@ module _ (d : Disc) (roles l : List ℕ) (c : Call) where
 
 -- the ledger goes on as it is left, also by a call that only tells
 goes_on : (d : Disc) (l : List ℕ) (c : Call) (t : Bool) → (n : ℕ) → (t ≡ true → (effect d l c).ledger ≡ l)
-    → ledger_after t n (some l) (settled d l (buffer_of c) n (effect d l c)).ledger ≡ some (settled d l (buffer_of c) n (effect d l c)).ledger
-goes_on d l c true zero h = ap some (sym (h refl))
+    → ledger_after t n (Some l) (settled d l (buffer_of c) n (effect d l c)).ledger ≡ Some (settled d l (buffer_of c) n (effect d l c)).ledger
+goes_on d l c true zero h = ap Some (sym (h refl))
 goes_on d l c true (suc n) h = refl
 goes_on d l c false zero h = refl
 goes_on d l c false (suc n) h = refl
@@ -90,7 +90,7 @@ module _ (s : Lent) (c : Call) (fit : length s.roles ≡ length s.disc.kinds) wh
   same_next : world_of (leaves s c) ≡ next (world_of s) (calls c [])
   unfolding next after
   same_next =
-      (λ i. record { disc = (same-call i).disc; ledger = some (same-call i).ledger })
+      (λ i. record { disc = (same-call i).disc; ledger = Some (same-call i).ledger })
       ∙ (λ i. record { disc = (after s.disc s.ledger c).disc; ledger = sym (goes_on s.disc s.ledger c (only_tells c) (outcome s.disc s.ledger c) (only-tells s.disc s.ledger c)) i })
 
   still-fit : length (leaves s c).roles ≡ length (leaves s c).disc.kinds

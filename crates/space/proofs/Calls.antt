@@ -5,7 +5,7 @@ use native.Mathlib.Omega.{arith}
 use mathlib.Core.Path.{◌≡◌, refl, sym, ap, ap₂, ◌∙◌, subst}
 use mathlib.Core.Bool.{Bool, true, false, ◌||◌}
 use mathlib.Core.List.{List, [], ◌∷◌, ◌++◌}
-use mathlib.Core.Option.{Option, none, some}
+use Rattle.std.specs.Prelude.{Option, None, Some}
 use lib.Dec.{eqb}
 use lib.ListN.{length, get_or, drop, replicate, length-replicate}
 use lib.Seq.{get_or-take, get_or-drop}
@@ -41,7 +41,7 @@ use Rattle.space.proofs.Sectors.{role_of_sector, roles_from, recorded-roles, rol
 
 -- the blocks of `apart` are recorded, and no number names them
 pub record Kept (d : Disc) (l roles apart : List ℕ) : Type 0 where
-  pub good : Good (record { disc = d; ledger = some l })
+  pub good : Good (record { disc = d; ledger = Some l })
   pub free : (b : ℕ) → names apart b ≡ true → (b < recorded d) × (names (map_of (unpack l)) b ≡ false)
   pub roles-are : roles ≡ roles_of d (map_of (unpack l)) apart
 
@@ -54,11 +54,11 @@ pub after_is : (d : Disc) (l : List ℕ) (c : Call) (n : ℕ) → outcome d l c 
 unfolding after
 after_is d l c n e = ap (λ (k : ℕ). settled d l (buffer_of c) k (effect d l c)) e
 
-pub good-after : (d : Disc) (l : List ℕ) (c : Call) → Good (record { disc = d; ledger = some l }) → only_tells c ≡ false → outcome d l c ≡ 0
-    → Good (record { disc = puts d (recorded d) (effect d l c).sectors; ledger = some (effect d l c).ledger })
+pub good-after : (d : Disc) (l : List ℕ) (c : Call) → Good (record { disc = d; ledger = Some l }) → only_tells c ≡ false → outcome d l c ≡ 0
+    → Good (record { disc = puts d (recorded d) (effect d l c).sectors; ledger = Some (effect d l c).ledger })
 good-after d l c g t e =
-    let w : World = record { disc = d; ledger = some l } in
-    subst (λ (a : After). Good (record { disc = a.disc; ledger = some a.ledger })) (after_is d l c 0 e)
+    let w : World = record { disc = d; ledger = Some l } in
+    subst (λ (a : After). Good (record { disc = a.disc; ledger = Some a.ledger })) (after_is d l c 0 e)
     (subst Good (started w [] c t e) (event-step w (calls c []) g (λ z. absurd (none-some l (sym z)))).good)
 
 -- the map of a state that was packed
@@ -160,43 +160,43 @@ module _ (d : Disc) (l roles apart : List ℕ) (k : Kept d l roles apart) where
         ∙ recorded-roles m a (behind ss block) d sound (omega (arith, length-behind ss block, fits_in)) (behind-whole ss block (links-whole (links (unpack l))) done-write.block-long)
         (plain-below d written grown.plainly)
 
-  pub unnumbered-kept : (block : List ℕ) → outcome d l (write none block) ≡ 0 → DoneKept d l roles apart (write none block)
+  pub unnumbered-kept : (block : List ℕ) → outcome d l (write None block) ≡ 0 → DoneKept d l roles apart (write None block)
   unfolding kept_up effect wrote names
   unnumbered-kept block e =
       let v : Volume = unpack l in
       let b : ℕ = target v in
       let m : List ℕ = map_of v in
-      let d' : Disc = written none block e in
-      let l' : List ℕ = pack (noted none block e) in
-      let f : WriteDone d l none block = done-write none block e in
-      let map : map_of (unpack l') ≡ m = packed-map (noted none block e) (proper none block e) in
-      let good : Good (record { disc = d'; ledger = some l' }) = good-after d l (write none block) k.good refl e in
-      let above : recorded d ≤ b = omega (arith, here none block e) in
-      let last : recorded d' ≡ suc b = one_more none block e in
-      let few : b < unused = small none block e in
+      let d' : Disc = written None block e in
+      let l' : List ℕ = pack (noted None block e) in
+      let f : WriteDone d l None block = done-write None block e in
+      let map : map_of (unpack l') ≡ m = packed-map (noted None block e) (proper None block e) in
+      let good : Good (record { disc = d'; ledger = Some l' }) = good-after d l (write None block) k.good refl e in
+      let above : recorded d ≤ b = omega (arith, here None block e) in
+      let last : recorded d' ≡ suc b = one_more None block e in
+      let few : b < unused = small None block e in
       let fresh : names m b ≡ false = not_named f.fit b above few in
       let its-role : role_of_data false (names m b) (names (b ∷ apart) b) ≡ unnumbered = rw (fresh, eq-eqb b b refl) in
       let same : (i : ℕ) → i < recorded d → (names m i ≡ names m i) × (names apart i ≡ names (b ∷ apart) i) =
       λ i h. (refl, ap (λ (t : Bool). t || names apart i) (sym (ne_eqb b i (λ z. omega arith)))) in
-      subst (λ (x : After). Kept x.disc x.ledger (let_go x.ledger unused (marked (recorded d) (links v) 0 1 unnumbered roles)) (x.answer ∷ apart)) (sym (after_is d l (write none block) 0 e))
+      subst (λ (x : After). Kept x.disc x.ledger (let_go x.ledger unused (marked (recorded d) (links v) 0 1 unnumbered roles)) (x.answer ∷ apart)) (sym (after_is d l (write None block) 0 e))
       (record {
         good = good;
         free = λ i h.
             let since : (i < recorded d') × (names m i ≡ false) = free-since f.fit (recorded d') (omega arith) (omega arith) i (eqb b i) (λ z. let at : b ≡ i = eqb-true b i z in (omega arith, omega arith)) h in
             (since.0, ap (λ (x : List ℕ). names x i) map ∙ since.1);
         roles-are =
-            lets_go d' l' m (b ∷ apart) (marked (recorded d) (links v) 0 1 unnumbered roles) unused (marks none block e m (b ∷ apart) same its-role)
+            lets_go d' l' m (b ∷ apart) (marked (recorded d) (links v) 0 1 unnumbered roles) unused (marks None block e m (b ∷ apart) same its-role)
             (λ i low other. ap (λ (x : List ℕ). names x i) (sym map)) (λ low. absurd (omega (arith, good.sound-disc.few)));
       })
 
-  module _ (n : ℕ) (block : List ℕ) (e : outcome d l (write (some n) block) ≡ 0) where
+  module _ (n : ℕ) (block : List ℕ) (e : outcome d l (write (Some n) block) ≡ 0) where
     -- the ledger holds the map with that entry
-    noted-map : map_of (unpack (pack (noted (some n) block e))) ≡ grown_map (eqb n (unpack l).size) (map_of (unpack l)) n (target (unpack l))
+    noted-map : map_of (unpack (pack (noted (Some n) block e))) ≡ grown_map (eqb n (unpack l).size) (map_of (unpack l)) n (target (unpack l))
     noted-map =
         let v : Volume = unpack l in
-        let f : WriteDone d l (some n) block = done-write (some n) block e in
+        let f : WriteDone d l (Some n) block = done-write (Some n) block e in
         let long : length v.entries ≡ limit = k.good.ledger-good.long in
-        packed-map (noted (some n) block e) (proper (some n) block e)
+        packed-map (noted (Some n) block e) (proper (Some n) block e)
         ∙ map-wrote v n (target v) f.writable.1 (omega (arith, f.fit.few)) (omega (arith, f.writable.0))
 
     -- the block that the number named, if any, and no other, may be named no longer
@@ -204,22 +204,22 @@ module _ (d : Disc) (l roles apart : List ℕ) (k : Kept d l roles apart) where
         → names (map_of (unpack l) ++ (target (unpack l) ∷ [])) i ≡ names (grown_map t (map_of (unpack l)) n (target (unpack l))) i
     moved true z i other = refl
     moved false z i other =
-        let f : WriteDone d l (some n) block = done-write (some n) block e in
+        let f : WriteDone d l (Some n) block = done-write (Some n) block e in
         sym (entry_set f.fit n (lt_of_le-ne f.writable.1 (eqb-false n (unpack l).size z)) (target (unpack l)) i other)
 
     named-before : (t : Bool) → eqb n (unpack l).size ≡ t → block_of (unpack l) n < unused → names (map_of (unpack l)) (block_of (unpack l) n) ≡ true
     named-before true z low =
         let v : Volume = unpack l in
-        let f : WriteDone d l (some n) block = done-write (some n) block e in
+        let f : WriteDone d l (Some n) block = done-write (Some n) block e in
         let last : n ≡ v.size = eqb-true n v.size z in
         let none-there : block_of v n ≡ unused =
         ap (λ (i : ℕ). get_or v.entries i unused) (omega arith) ∙ sym (get_or-drop v.size v.entries 0 unused) ∙ first-unused (drop v.size v.entries) f.fit.rest-unused in
         absurd (omega arith)
     named-before false z low =
-        let f : WriteDone d l (some n) block = done-write (some n) block e in
+        let f : WriteDone d l (Some n) block = done-write (Some n) block e in
         entry_named f.fit n (lt_of_le-ne f.writable.1 (eqb-false n (unpack l).size z))
 
-    pub numbered-kept : DoneKept d l roles apart (write (some n) block)
+    pub numbered-kept : DoneKept d l roles apart (write (Some n) block)
     unfolding kept_up effect
     numbered-kept =
         let v : Volume = unpack l in
@@ -228,23 +228,23 @@ module _ (d : Disc) (l roles apart : List ℕ) (k : Kept d l roles apart) where
         let named : List ℕ = m ++ (b ∷ []) in
         let t : Bool = eqb n v.size in
         let old : ℕ = block_of v n in
-        let d' : Disc = written (some n) block e in
-        let l' : List ℕ = pack (noted (some n) block e) in
-        let f : WriteDone d l (some n) block = done-write (some n) block e in
-        let good : Good (record { disc = d'; ledger = some l' }) = good-after d l (write (some n) block) k.good refl e in
-        let above : recorded d ≤ b = omega (arith, here (some n) block e) in
-        let last : recorded d' ≡ suc b = one_more (some n) block e in
+        let d' : Disc = written (Some n) block e in
+        let l' : List ℕ = pack (noted (Some n) block e) in
+        let f : WriteDone d l (Some n) block = done-write (Some n) block e in
+        let good : Good (record { disc = d'; ledger = Some l' }) = good-after d l (write (Some n) block) k.good refl e in
+        let above : recorded d ≤ b = omega (arith, here (Some n) block e) in
+        let last : recorded d' ≡ suc b = one_more (Some n) block e in
         let its-role : role_of_data false (names named b) (names apart b) ≡ in_use = rw (names-last m b) in
         let same : (i : ℕ) → i < recorded d → (names m i ≡ names named i) × (names apart i ≡ names apart i) =
         λ i h. (sym (names-other m b i (λ z. omega arith)), refl) in
-        subst (λ (x : After). Kept x.disc x.ledger (let_go x.ledger old (marked (recorded d) (links v) 0 1 in_use roles)) apart) (sym (after_is d l (write (some n) block) 0 e))
+        subst (λ (x : After). Kept x.disc x.ledger (let_go x.ledger old (marked (recorded d) (links v) 0 1 in_use roles)) apart) (sym (after_is d l (write (Some n) block) 0 e))
         (record {
           good = good;
           free = λ i h.
               let before : (i < recorded d) × (names m i ≡ false) = k.free i h in
               (omega arith, ap (λ (x : List ℕ). names x i) noted-map ∙ names-grown t m n b i (λ z. omega arith) before.1);
           roles-are =
-              lets_go d' l' named apart (marked (recorded d) (links v) 0 1 in_use roles) old (marks (some n) block e named apart same its-role)
+              lets_go d' l' named apart (marked (recorded d) (links v) 0 1 in_use roles) old (marks (Some n) block e named apart same its-role)
               (λ i low other. moved t refl i other ∙ ap (λ (x : List ℕ). names x i) (sym noted-map))
               (λ low.
               let is-named : names m old ≡ true = named-before t refl (omega (arith, good.sound-disc.few)) in

@@ -7,7 +7,7 @@ use mathlib.Core.Path.{◌≡◌, refl, sym, ap, ◌∙◌}
 use mathlib.Core.Bool.{Bool, true, false, ◌||◌, or-true, or_comm}
 use mathlib.Core.List.{List, [], ◌∷◌, ◌++◌}
 use mathlib.Core.Logic.{inl, inr}
-use mathlib.Core.Option.{Option, none, some}
+use Rattle.std.specs.Prelude.{Option, None, Some}
 use lib.Dec.{eqb}
 use lib.ListN.{length, get_or, set}
 use borrow.Author.Tests.{eq-eqb, ne_eqb, eqb-true, eqb-false}
@@ -126,10 +126,10 @@ again-named d bytes previous at b h e = again-listed (content d) (named_by d pre
 fresh-listed : (rs : List (Option ℕ)) (ss : List (List ℕ)) (at b : ℕ) → at ≤ b → b < at + length (fresh rs ss) → names (own_blocks rs at) b ≡ true
 unfolding fresh own_blocks names
 fresh-listed [] ss at b low high = absurd (omega arith)
-fresh-listed (none ∷ rs) [] at b low high = absurd (omega arith)
-fresh-listed (some o ∷ rs) [] at b low high = absurd (omega arith)
-fresh-listed (some o ∷ rs) (s ∷ ss) at b low high = rw (fresh-listed rs ss at b low high) (or-true (eqb o b))
-fresh-listed (none ∷ rs) (s ∷ ss) at b low high = go (eqb at b) refl (fresh-listed rs ss (at + 1) b)
+fresh-listed (None ∷ rs) [] at b low high = absurd (omega arith)
+fresh-listed (Some o ∷ rs) [] at b low high = absurd (omega arith)
+fresh-listed (Some o ∷ rs) (s ∷ ss) at b low high = rw (fresh-listed rs ss at b low high) (or-true (eqb o b))
+fresh-listed (None ∷ rs) (s ∷ ss) at b low high = go (eqb at b) refl (fresh-listed rs ss (at + 1) b)
   where
     go : (t : Bool) → eqb at b ≡ t → (at + 1 ≤ b → b < at + 1 + length (fresh rs ss) → names (own_blocks rs (at + 1)) b ≡ true) → (eqb at b || names (own_blocks rs (at + 1)) b) ≡ true
     go true z ih = rw z

@@ -7,7 +7,7 @@ use native.Mathlib.Numerals.{add-one}
 use mathlib.Core.Path.{◌≡◌, refl, sym, ap, ap₂, ◌∙◌, subst}
 use mathlib.Core.Bool.{Bool, true, false, ◌||◌}
 use mathlib.Core.List.{List, [], ◌∷◌, ◌++◌, append_assoc}
-use mathlib.Core.Option.{Option, some}
+use Rattle.std.specs.Prelude.{Option, Some}
 use lib.ListN.{length, replicate, length-replicate}
 use Rattle.extent.specs.declared.Extent.{Extent}
 use Rattle.extent.specs.Extents.{locations}
@@ -103,7 +103,7 @@ module _ (d : Disc) (l roles apart : List ℕ) (k : Kept d l roles apart) where
     icb-names : named_by left-disc icb-block ≡ own_blocks (again_of d (table d l sound good c s) (unpack l).last) from
     icb-names =
         let icb : List ℕ = table_sector d l sound good c s in
-        let reads : content left-disc icb-block ≡ some icb =
+        let reads : content left-disc icb-block ≡ Some icb =
         behind-content d sound (before_table d l sound good c s) (before-whole d l sound good c s) (before-no-tables d l sound good c s) icb (sector-long d l sound good c s) (room d l sound good c s) in
         names_of left-disc icb-block (save d l sound good c s).a-table ∙ ap (λ (x : List ℕ). locations (own_of x)) (data-there left-disc icb-block icb reads).1 ∙ (read_back d l sound good c s).names
 
@@ -174,7 +174,7 @@ module _ (d : Disc) (l roles apart : List ℕ) (k : Kept d l roles apart) where
         let last : recorded d' ≡ suc b = (save d l sound good c s).last-sector ∙ ap suc (sym (at_table d l sound good c s)) in
         let same : (i : ℕ) → i < recorded d → (names m i ≡ names m i) × (names apart i ≡ names a i) =
         λ i h. (refl, since-new new (target v) i (λ j z. (within j z).0) (omega arith)) in
-        let left : Good (record { disc = puts d (recorded d) (effect d l c).sectors; ledger = some (effect d l c).ledger }) = good-after d l c k.good t e in
+        let left : Good (record { disc = puts d (recorded d) (effect d l c).sectors; ledger = Some (effect d l c).ledger }) = good-after d l c k.good t e in
         let few : recorded d' < unused = omega (arith, last, at_table d l sound good c s, room d l sound good c s, sound.few) in
         let records : saved_by.sectors ≡ behind before icb = ap (λ (x : Effect). x.sectors) (sym s.leaves) ∙ leaves-behind d l sound good c s in
         subst (λ (x : After). Kept x.disc x.ledger (marked_save d v s.first (saved_stamp c) roles) a) (sym (after_is d l c 0 e))
@@ -182,8 +182,8 @@ module _ (d : Disc) (l roles apart : List ℕ) (k : Kept d l roles apart) where
         (subst (λ (ss : List Sector). Kept (puts d (recorded d) ss) (pack (committed b v)) (marked_save d v s.first (saved_stamp c) roles) a) (sym records)
         (record {
           good =
-              subst (λ (ss : List Sector). Good (record { disc = puts d (recorded d) ss; ledger = some (pack (committed b v)) })) records
-              (subst (λ (x : Effect). Good (record { disc = puts d (recorded d) x.sectors; ledger = some x.ledger })) s.leaves left);
+              subst (λ (ss : List Sector). Good (record { disc = puts d (recorded d) ss; ledger = Some (pack (committed b v)) })) records
+              (subst (λ (x : Effect). Good (record { disc = puts d (recorded d) x.sectors; ledger = Some x.ledger })) s.leaves left);
           free = λ i h.
               let since : (i < recorded d') × (names m i ≡ false) =
               free-since d l roles apart k fit (recorded d') (omega arith) few i (names new i) (λ z. let w : (target v ≤ i) × (i < b) = within i z in (omega arith, omega arith)) (sym (names-append new apart i) ∙ h) in

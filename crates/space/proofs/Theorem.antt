@@ -7,7 +7,7 @@ use Prim.Native.Nat.{ℕ, zero, suc}
 use mathlib.Core.Path.{◌≡◌, refl, sym, ap, ◌∙◌, subst, subst₂}
 use mathlib.Core.Bool.{Bool, true, false}
 use mathlib.Core.List.{List, [], ◌∷◌}
-use mathlib.Core.Option.{none, some}
+use Rattle.std.specs.Prelude.{None, Some}
 use lib.ListN.{length}
 use Rattle.disc.specs.Disc.{Disc, recorded, puts}
 use Rattle.disc.proofs.Recording.{Sound}
@@ -31,7 +31,7 @@ use Rattle.space.proofs.Saves.{commit-kept, closing-kept}
 -- ---- begin, mount and look back
 
 -- they scan what they leave
-scan-kept : (d : Disc) (l : List ℕ) → Good (record { disc = d; ledger = some l }) → Kept d l (scanned d l) []
+scan-kept : (d : Disc) (l : List ℕ) → Good (record { disc = d; ledger = Some l }) → Kept d l (scanned d l) []
 unfolding scanned
 scan-kept d l g = record { good = g; free = λ b e. absurd (mathlib.Core.Bool.false≢true (sym (names-none b) ∙ e)); roles-are = refl }
 
@@ -63,8 +63,8 @@ module _ (d : Disc) (l roles apart : List ℕ) (k : Kept d l roles apart) where
   unfolding kept_up effect puts
   done-kept begin e = start-kept d l begin refl e roles apart
   done-kept mount e = start-kept d l mount refl e roles apart
-  done-kept (write none block) e = unnumbered-kept d l roles apart k block e
-  done-kept (write (some n) block) e = numbered-kept d l roles apart k n block e
+  done-kept (write None block) e = unnumbered-kept d l roles apart k block e
+  done-kept (write (Some n) block) e = numbered-kept d l roles apart k n block e
   done-kept (release n) e = release-kept d l roles apart k n e
   done-kept close_packet e = close-kept d l roles apart k e
   done-kept (commit stamp) e = commit-kept d l roles apart k stamp e

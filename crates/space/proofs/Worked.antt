@@ -4,7 +4,7 @@
 use Prim.Native.Nat.{ℕ}
 use mathlib.Core.Bool.{Bool, true, ◌&&◌}
 use mathlib.Core.List.{List, [], ◌∷◌, ◌++◌}
-use mathlib.Core.Option.{none, some}
+use Rattle.std.specs.Prelude.{None, Some}
 use mathlib.Core.Path.{◌≡◌, refl, sym, ◌∙◌}
 use lib.Dec.{T, eqb, eqb→eq}
 use lib.ListN.{replicate}
@@ -44,7 +44,7 @@ all_right (r ∷ rs) = same (leaves_all r.lent r.calls).roles r.roles && all_rig
 unfoldable pub kept : List Row
 kept =
     row (blank 20) (replicate 20 9) full
-    (begin ∷ write (some 0) (block 1) ∷ commit none ∷ write (some 0) (block 2) ∷ write none (block 3) ∷ release 0 ∷ close_packet ∷ commit none ∷ [])
+    (begin ∷ write (Some 0) (block 1) ∷ commit None ∷ write (Some 0) (block 2) ∷ write None (block 3) ∷ release 0 ∷ close_packet ∷ commit None ∷ [])
     (1 ∷ 3 ∷ 1 ∷ 2 ∷ replicate 7 4 ++ (3 ∷ replicate 8 6))
     ∷ []
 
@@ -56,7 +56,7 @@ kept-rows = tt
 unfoldable pub looked : List Row
 looked =
     row (blank 20) (replicate 20 9) full
-    (begin ∷ write (some 0) (block 1) ∷ commit none ∷ write (some 0) (block 2) ∷ write none (block 3) ∷ commit none ∷ look_back 1 ∷ [])
+    (begin ∷ write (Some 0) (block 1) ∷ commit None ∷ write (Some 0) (block 2) ∷ write None (block 3) ∷ commit None ∷ look_back 1 ∷ [])
     (0 ∷ 3 ∷ 1 ∷ 1 ∷ 3 ∷ replicate 15 6)
     ∷ []
 
@@ -82,7 +82,7 @@ shared-rows = tt
 
 -- Two saves of 600 numbers, whose tables have two own sectors each: the second names the first of these again, and records the other anew.
 abbrev large : List Call
-large = commit none ∷ write (some 599) (block 1) ∷ commit none ∷ []
+large = commit None ∷ write (Some 599) (block 1) ∷ commit None ∷ []
 
 unfoldable pub owning : List Row
 owning =
@@ -106,7 +106,7 @@ scratched =
     }
 
 unfoldable pub evening : List Call
-evening = write (some 1) (block 7) ∷ write none (block 8) ∷ []
+evening = write (Some 1) (block 7) ∷ write None (block 8) ∷ []
 
 unfoldable pub after-evening : List ℕ
 after-evening = 5 ∷ 1 ∷ 3 ∷ replicate 7 4 ++ (0 ∷ 2 ∷ replicate 16 6)

@@ -1,7 +1,7 @@
 -- What the exported calls leave, which are lent roles, and what the claims about lists of calls speak of: such a call is refused for its lengths and alters
 -- nothing, or it answers and leaves what it does without roles, whatever bytes these hold.
 use Rattle.std.specs.Prelude.{ℕ, ◌*◌, List, [], map, ◌⊎◌, ◌≡◌, length}
-use Rattle.std.proofs.Math.Option.{some}
+use Rattle.std.specs.Prelude.{Some}
 use Rattle.disc.specs.Disc.{Disc}
 use Rattle.recorder.specs.Calls.{Call, buffer_of}
 use Rattle.recorder.specs.Effects.{after}
@@ -20,7 +20,7 @@ abbrev pub as_events : List Call → List Event
 as_events cs = map (λ c. calls c []) cs
 
 abbrev pub world_of : Lent → World
-world_of s = record { disc = s.disc; ledger = some s.ledger }
+world_of s = record { disc = s.disc; ledger = Some s.ledger }
 
 pub record AsWithoutRoles : Type 0 where
   pub each-call : (d : Disc) (roles l : List ℕ) (c : Call) → RefusedForLengths d roles l c ⊎ ((after_roles d roles l c).call ≡ after d l c)

@@ -2,7 +2,7 @@
 -- them": "keeping it up on each call gives the same bytes as working it out afresh from that history", and "the counts of the six recorded roles add up
 -- to recorded".
 use Rattle.std.specs.Prelude.{ℕ, zero, suc, ◌+◌, ◌-◌, true, List, [], ◌∷◌, ◌++◌, ◌≡◌, eqb}
-use Rattle.std.proofs.Math.Option.{none, some}
+use Rattle.std.specs.Prelude.{None, Some}
 use Rattle.disc.specs.Disc.{Disc, recorded}
 use Rattle.disc.specs.Session.{closing_length}
 use Rattle.volume.specs.Volume.{unpack, map_of, grown}
@@ -36,8 +36,8 @@ blocks_from b (suc n) = b ∷ blocks_from (b + 1) n
 abbrev pub apart_after : Call → ℕ → List ℕ → List ℕ
 apart_after begin second apart = []
 apart_after mount second apart = []
-apart_after (write none block) second apart = second ∷ apart
-apart_after (write (some n) block) second apart = apart
+apart_after (write None block) second apart = second ∷ apart
+apart_after (write (Some n) block) second apart = apart
 apart_after (release n) second apart = apart
 apart_after close_packet second apart = apart
 apart_after (commit stamp) second apart = apart

@@ -1,9 +1,9 @@
 // The calls and the archive's viewer as C functions for the host program, and nothing else: an archive has only the exported functions of the crate that it
-// is made of. Each slice is a pointer and then a length. The promises are those of the keeper, the log and the viewer, word for word.
+// is made of. Each slice is a pointer and then a length. The promises are those of the keeper, the log and the viewer, of the one answer of 64 bits.
 #![tactic(auto)]
 
 ghost use Rattle.std.specs.Prelude.{◌≡◌, []};
-ghost use Rattle.std.proofs.Math.Option.{none, some};
+ghost use Rattle.std.specs.Prelude.{None, Some};
 ghost use Rattle.extent.specs.Extents.{extent};
 ghost use Rattle.disc.specs.Disc.{lent};
 ghost use Rattle.recorder.specs.Calls.{begin, mount, write, release, close_packet, commit, close_session, read, look_back, time_of};
@@ -22,7 +22,7 @@ pub extern "C" fn station_begin_roles(
 ) -> u64
     ensures { left_roles result image.now kinds.now roles.new ledger.new [] ≡ after_roles (lent image.now kinds.now) roles.old ledger.old begin }
 {
-    keeper::begin(image, kinds, roles, ledger)
+    recorder::answer(keeper::begin(image, kinds, roles, ledger))
 }
 
 #[unsafe(no_mangle)]
@@ -34,7 +34,7 @@ pub extern "C" fn station_mount_roles(
 ) -> u64
     ensures { left_roles result image.now kinds.now roles.new ledger.new [] ≡ after_roles (lent image.now kinds.now) roles.old ledger.old mount }
 {
-    keeper::mount(image, kinds, roles, ledger)
+    recorder::answer(keeper::mount(image, kinds, roles, ledger))
 }
 
 #[unsafe(no_mangle)]
@@ -46,9 +46,9 @@ pub extern "C" fn station_write_roles(
     v: u32,
     block: &[u8],
 ) -> u64
-    ensures { left_roles result image.new kinds.new roles.new ledger.new block.now ≡ after_roles (lent image.old kinds.old) roles.old ledger.old (write (some v) block.now) }
+    ensures { left_roles result image.new kinds.new roles.new ledger.new block.now ≡ after_roles (lent image.old kinds.old) roles.old ledger.old (write (Some v) block.now) }
 {
-    keeper::write(image, kinds, roles, ledger, v, block)
+    recorder::answer(keeper::write(image, kinds, roles, ledger, Some(v), block))
 }
 
 #[unsafe(no_mangle)]
@@ -59,9 +59,9 @@ pub extern "C" fn station_write_unnumbered_roles(
     ledger: &mut [u8],
     block: &[u8],
 ) -> u64
-    ensures { left_roles result image.new kinds.new roles.new ledger.new block.now ≡ after_roles (lent image.old kinds.old) roles.old ledger.old (write none block.now) }
+    ensures { left_roles result image.new kinds.new roles.new ledger.new block.now ≡ after_roles (lent image.old kinds.old) roles.old ledger.old (write None block.now) }
 {
-    keeper::write_unnumbered(image, kinds, roles, ledger, block)
+    recorder::answer(keeper::write(image, kinds, roles, ledger, None, block))
 }
 
 #[unsafe(no_mangle)]
@@ -74,7 +74,7 @@ pub extern "C" fn station_release_roles(
 ) -> u64
     ensures { left_roles result image.now kinds.now roles.new ledger.new [] ≡ after_roles (lent image.now kinds.now) roles.old ledger.old (release v) }
 {
-    keeper::release(image, kinds, roles, ledger, v)
+    recorder::answer(keeper::release(image, kinds, roles, ledger, v))
 }
 
 #[unsafe(no_mangle)]
@@ -86,7 +86,7 @@ pub extern "C" fn station_close_packet_roles(
 ) -> u64
     ensures { left_roles result image.now kinds.now roles.now ledger.new [] ≡ after_roles (lent image.now kinds.now) roles.now ledger.old close_packet }
 {
-    keeper::close_packet(image, kinds, roles, ledger)
+    recorder::answer(keeper::close_packet(image, kinds, roles, ledger))
 }
 
 #[unsafe(no_mangle)]
@@ -96,9 +96,9 @@ pub extern "C" fn station_commit_roles(
     roles: &mut [u8],
     ledger: &mut [u8],
 ) -> u64
-    ensures { left_roles result image.new kinds.new roles.new ledger.new [] ≡ after_roles (lent image.old kinds.old) roles.old ledger.old (commit none) }
+    ensures { left_roles result image.new kinds.new roles.new ledger.new [] ≡ after_roles (lent image.old kinds.old) roles.old ledger.old (commit None) }
 {
-    keeper::commit(image, kinds, roles, ledger)
+    recorder::answer(keeper::commit(image, kinds, roles, ledger, None))
 }
 
 #[unsafe(no_mangle)]
@@ -109,9 +109,9 @@ pub extern "C" fn station_commit_at_roles(
     ledger: &mut [u8],
     stamp: &[u8],
 ) -> u64
-    ensures { left_roles result image.new kinds.new roles.new ledger.new stamp.now ≡ after_roles (lent image.old kinds.old) roles.old ledger.old (commit (some stamp.now)) }
+    ensures { left_roles result image.new kinds.new roles.new ledger.new stamp.now ≡ after_roles (lent image.old kinds.old) roles.old ledger.old (commit (Some stamp.now)) }
 {
-    keeper::commit_at(image, kinds, roles, ledger, stamp)
+    recorder::answer(keeper::commit(image, kinds, roles, ledger, Some(stamp)))
 }
 
 #[unsafe(no_mangle)]
@@ -136,7 +136,15 @@ pub extern "C" fn station_close_session_roles(
         length: reserve_length,
         location: reserve_location,
     };
-    keeper::close_session(image, kinds, roles, ledger, main, reserve, partition_start)
+    recorder::answer(keeper::close_session(
+        image,
+        kinds,
+        roles,
+        ledger,
+        main,
+        reserve,
+        partition_start,
+    ))
 }
 
 #[unsafe(no_mangle)]
@@ -149,7 +157,7 @@ pub extern "C" fn station_read(
 ) -> u64
     ensures { left result image.now kinds.now ledger.now block.new ≡ after (lent image.now kinds.now) ledger.now (read v block.old) }
 {
-    sector_log::read(image, kinds, ledger, v, block)
+    recorder::answer(sector_log::read(image, kinds, ledger, v, block))
 }
 
 #[unsafe(no_mangle)]
@@ -162,7 +170,7 @@ pub extern "C" fn station_look_back_roles(
 ) -> u64
     ensures { left_roles result image.now kinds.now roles.new ledger.new [] ≡ after_roles (lent image.now kinds.now) roles.old ledger.old (look_back k) }
 {
-    keeper::look_back(image, kinds, roles, ledger, k)
+    recorder::answer(keeper::look_back(image, kinds, roles, ledger, k))
 }
 
 #[unsafe(no_mangle)]
@@ -175,7 +183,7 @@ pub extern "C" fn station_time_of(
 ) -> u64
     ensures { left result image.now kinds.now ledger.now answer.new ≡ after (lent image.now kinds.now) ledger.now (time_of k answer.old) }
 {
-    sector_log::time_of(image, kinds, ledger, k, answer)
+    recorder::answer(sector_log::time_of(image, kinds, ledger, k, answer))
 }
 
 #[unsafe(no_mangle)]
@@ -189,5 +197,5 @@ pub extern "C" fn station_view(
 ) -> u64
     ensures { left result image.now kinds.now ledger.now buffer.new ≡ view (lent image.now kinds.now) ledger.now v offset buffer.old }
 {
-    viewer::view(image, kinds, ledger, v, offset, buffer)
+    recorder::answer(viewer::view(image, kinds, ledger, v, offset, buffer))
 }

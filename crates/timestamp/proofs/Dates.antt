@@ -62,17 +62,17 @@ month-bounds y (suc m) l h =
     let t : T (leb 1 d && leb d 31) = at_both (λ b k. leb 1 (get_or (months_if b) k 0) && leb (get_or (months_if b) k 0) 31) 12 tt (leap y) m h in
     (leb→le 1 d (both_left (leb 1 d) (leb d 31) t), leb→le d 31 (both_right (leb 1 d) (leb d 31) t))
 
-pub february-days : (y m : ℕ) (b : Bool) → m ≡ 2 → b ≡ leap y → february b ≡ days_of_month y m
+-- the table of a common year holds them, but for February of a leap year
+pub by-table : (y m : ℕ) → (m ≡ 2 → leap y ≡ false) → get_or (0 ∷ common) m 0 ≡ days_of_month y m
 unfolding months
-february-days y m b e q = ap february q ∙ ap (λ (k : ℕ). days_of_month y k) (sym e)
+by-table y zero n = refl
+by-table y (suc zero) n = refl
+by-table y (suc (suc zero)) n = ap february (sym (n refl))
+by-table y (suc (suc (suc m))) n = refl
 
--- the other months have as many days in every year
-pub other-month : (y m : ℕ) → (m ≡ 2 → ⊥) → get_or (0 ∷ common) m 0 ≡ days_of_month y m
+pub leap-february : (y m : ℕ) → m ≡ 2 → leap y ≡ true → 29 ≡ days_of_month y m
 unfolding months
-other-month y zero n = refl
-other-month y (suc zero) n = refl
-other-month y (suc (suc zero)) n = absurd (n refl)
-other-month y (suc (suc (suc m))) n = refl
+leap-february y m e q = sym (ap (days_of_month y) e ∙ ap february q)
 
 -- ---- the days of the months before
 
@@ -96,12 +96,6 @@ days-small y k h =
 abbrev pub Counted : ℕ → ℕ → ℕ → Type 0
 Counted y k n = (n ≡ total (take k (months y))) × (n < 366)
 
-pub until-march : (y k : ℕ) → k < 2 → Counted y k (get_or (passed 0 common) k 0)
-unfolding months total
-until-march y zero h = (refl, lit< tt)
-until-march y (suc zero) h = (refl, lit< tt)
-until-march y (suc (suc k)) h = absurd (not-suc-le-zero (le_of_suc-le-suc (le_of_suc-le-suc h)))
-
 -- from March on a leap year has a day more behind it
 march : (y k : ℕ) (b : Bool) → 2 ≤ k → k < 12 → b ≡ leap y → get_or (passed 0 common) k 0 + february b ≡ total (take k (months y)) + 28
 unfolding months total
@@ -112,8 +106,15 @@ march y (suc (suc k)) b l h q = omega (arith, passed-at common 0 (suc (suc k)) h
 pub in-leap-year : (y k : ℕ) → 2 ≤ k → k < 12 → true ≡ leap y → Counted y k (get_or (passed 0 common) k 0 + 1)
 in-leap-year y k l h q = (omega (arith, march y k true l h q), omega (arith, march y k true l h q, days-small y k h))
 
-pub in-common-year : (y k : ℕ) → 2 ≤ k → k < 12 → false ≡ leap y → Counted y k (get_or (passed 0 common) k 0)
-in-common-year y k l h q = (omega (arith, march y k false l h q), omega (arith, march y k false l h q, days-small y k h))
+-- the table holds them in a common year, and in each year up to February
+pub in-common-year : (y k : ℕ) → k < 12 → (2 ≤ k → leap y ≡ false) → Counted y k (get_or (passed 0 common) k 0)
+unfolding months total
+in-common-year y zero h q = (refl, lit< tt)
+in-common-year y (suc zero) h q = (refl, lit< tt)
+in-common-year y (suc (suc k)) h q =
+    let l : 2 ≤ suc (suc k) = omega arith in
+    let e = march y (suc (suc k)) false l h (sym (q l)) in
+    (omega (arith, e), omega (arith, e, days-small y (suc (suc k)) h))
 
 total-take : (xs : List ℕ) (k : ℕ) → total (take (suc k) xs) ≡ total (take k xs) + get_or xs k 0
 unfolding total
@@ -189,6 +190,9 @@ within t r =
     let m = is-month y t.month some in
     let d = month-bounds y t.month m.0 m.1 in
     record { month-from = m.0; month-to = m.1; day-from = r.from_first; day-to = le_trans r.to_last d.1; hour-to = r.hours; minute-to = r.minutes }
+
+pub real_within : (t : Moment) → real t ≡ true → Within t
+real_within t e = within t (is_real t e)
 
 pub minutes-small : (t : Moment) → 1970 ≤ t.year → t.year ≤ 2099 → Real t → minutes_before t < 100000000
 unfolding minutes_before days_before

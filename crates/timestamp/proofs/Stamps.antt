@@ -1,47 +1,39 @@
--- Laws of a timestamp's definitions: the zone by its sign, what a valid stamp holds, the minutes by whether the zone is given, and what is
+-- Laws of a timestamp's definitions: how far a zone goes, what a valid stamp holds, that its minutes fit 32 bits, and what is
 -- read of the answer (`told-minutes`, `told-mark`).
 -- Assumes nothing.
 use Prim.Native.Nat.{ℕ, ◌+◌, ◌%◌, ◌≤◌, ◌<◌}
-use native.Mathlib.Nat.{lt_trans, mod-lt}
+use native.Mathlib.Nat.{mod-lt}
 use native.Mathlib.Omega.{arith}
 use mathlib.Core.Path.{◌≡◌, refl, sym, ap, ap₂, ◌∙◌}
 use mathlib.Core.Bool.{Bool, true, false, ◌&&◌}
 use mathlib.Core.List.{List, [], ◌++◌, append-nil}
 use lib.Dec.{eqb, leb, lit<}
-use lib.IntN.{ℤ, pos, negsuc, ◌-ℤ◌}
-use lib.ListN.{length, replicate, length-append, drop_of_length-le}
-use lib.Seq.{sets, sets-eq, drop_at}
+use lib.IntN.{ℤ}
+use lib.ListN.{length, replicate, length-append}
+use lib.Seq.{sets, drop_at}
 use lib.Signed.{mag}
-use borrow.Author.Tests.{le-leb, lt-leb, leb-true}
+use borrow.Author.Tests.{leb-true}
 use mir.Syntax.{w32}
 use mir.Val.{SFits, bool_byte, to_z}
 use Rattle.le.specs.Field.{le, read_le, put_le}
 use Rattle.le.proofs.Bytes.{sets-append}
 use Rattle.le.proofs.Fields.{length-le, read-le}
 use Rattle.le.proofs.Rows.{and_left, and_right}
-use Rattle.timestamp.specs.Calendar.{real, minutes_before}
+use Rattle.le.proofs.Runs.{sets-all}
+use Rattle.timestamp.specs.Calendar.{real}
 use Rattle.timestamp.specs.Timestamp.{stamp_length, told_length, signed_if, zone_of, moment_of, zoned, not_given, valid, kind_of, counted, marked, minutes_of, word, told}
 use Rattle.timestamp.proofs.Dates.{is_real, minutes-small}
-use Rattle.timestamp.proofs.Signed.{taken, mag_sum, sum-within, word_lt, word_read}
+use Rattle.std.proofs.lemmas.Int.{ints}
+use Rattle.timestamp.proofs.Signed.{word_lt, word_read}
 
 -- ---- the zone
 
-pub zone-below : (s : List ℕ) (x : ℕ) → x ≡ read_le 2 s 0 → 2048 ≤ x % 4096 → (pos (x % 4096) -ℤ pos 4096) ≡ zone_of s
-unfolding zone_of
-zone-below s x e h =
-    ap (λ (b : Bool). signed_if b (x % 4096)) (sym (le-leb 2048 (x % 4096) h)) ∙ ap (λ (n : ℕ). signed_if (leb 2048 (n % 4096)) (n % 4096)) e
-
-pub zone-ahead : (s : List ℕ) (x : ℕ) → x ≡ read_le 2 s 0 → x % 4096 < 2048 → pos (x % 4096) ≡ zone_of s
-unfolding zone_of
-zone-ahead s x e h =
-    ap (λ (b : Bool). signed_if b (x % 4096)) (sym (lt-leb 2048 (x % 4096) h)) ∙ ap (λ (n : ℕ). signed_if (leb 2048 (n % 4096)) (n % 4096)) e
-
-signed-near : (b : Bool) (x : ℕ) → x < 4096 → mag (signed_if b x) < 8194
-signed-near true x h = mag_sum x (negsuc 4095) 4097 (omega arith) (lit< tt)
+signed-near : (b : Bool) (x : ℕ) → x < 4096 → mag (signed_if b x) < 4096
+signed-near true x h = grind (arith, ints)
 signed-near false x h = omega arith
 
 -- a zone, given or not, is far from the ends of 32 bits
-pub zone-near : (s : List ℕ) → mag (zone_of s) < 8194
+pub zone-near : (s : List ℕ) → mag (zone_of s) < 4096
 unfolding zone_of
 zone-near s = signed-near (leb 2048 (read_le 2 s 0 % 4096)) (read_le 2 s 0 % 4096) (mod-lt (read_le 2 s 0) (lit< tt))
 
@@ -69,18 +61,7 @@ dated s e =
 
 -- ---- the minutes
 
-pub minutes-marked : (s : List ℕ) → not_given (zone_of s) ≡ true → pos (minutes_before (moment_of s)) ≡ minutes_of s
-unfolding minutes_of
-minutes-marked s e =
-    let n : ℕ = minutes_before (moment_of s) in
-    let none : n ≡ n + 0 = omega arith in
-    ap pos none ∙ ap (λ (b : Bool). pos n -ℤ counted b (zone_of s)) (sym e)
-
-pub minutes-given : (s : List ℕ) → not_given (zone_of s) ≡ false → (pos (minutes_before (moment_of s)) -ℤ zone_of s) ≡ minutes_of s
-unfolding minutes_of
-minutes-given s e = ap (λ (b : Bool). pos (minutes_before (moment_of s)) -ℤ counted b (zone_of s)) (sym e)
-
-counted-near : (b : Bool) (z : ℤ) → mag z < 8194 → mag (counted b z) < 8194
+counted-near : (b : Bool) (z : ℤ) → mag z < 4096 → mag (counted b z) < 4096
 counted-near true z h = lit< tt
 counted-near false z h = h
 
@@ -88,10 +69,9 @@ pub minutes-fit : (s : List ℕ) → valid s ≡ true → SFits w32 (minutes_of 
 unfolding minutes_of
 minutes-fit s e =
     let d = dated s e in
-    let z : ℤ = counted (not_given (zone_of s)) (zone_of s) in
-    sum-within taken (minutes_before (moment_of s)) z
-    (lt_trans (minutes-small (moment_of s) d.since d.until (is_real (moment_of s) d.date)) (lit< tt))
-    (lt_trans (counted-near (not_given (zone_of s)) (zone_of s) (zone-near s)) (lit< tt))
+    let few = minutes-small (moment_of s) d.since d.until (is_real (moment_of s) d.date) in
+    let near = counted-near (not_given (zone_of s)) (zone_of s) (zone-near s) in
+    omega (arith, ints)
 
 -- ---- the answer
 
@@ -118,18 +98,13 @@ pub mark-byte : (b : Bool) → bool_byte b ≡ marked b
 mark-byte true = refl
 mark-byte false = refl
 
--- a run as long as the bytes replaces them all
-all_set : (vs l : List ℕ) → length vs ≡ length l → sets l 0 vs ≡ vs
-all_set vs l e =
-    sets-eq vs l 0 (omega arith) ∙ ap (λ (r : List ℕ). vs ++ r) (drop_of_length-le l {i = 0 + length vs} (omega arith)) ∙ append-nil vs
-
 -- two fields of four bytes fill the answer
 pub two_fields : (l : List ℕ) (x y : ℕ) → length l ≡ told_length → put_le 4 (put_le 4 l 0 x) 4 y ≡ le 4 x ++ le 4 y
 two_fields l x y h =
     let four : length (le 4 x) ≡ 4 = length-le 4 x in
     let eight : length (le 4 x ++ le 4 y) ≡ length l = length-append (le 4 x) (le 4 y) ∙ ap₂ ◌+◌ four (length-le 4 y) ∙ sym h in
     let place : 4 ≡ 0 + length (le 4 x) = omega arith in
-    ap (λ (k : ℕ). sets (put_le 4 l 0 x) k (le 4 y)) place ∙ sym (sets-append (le 4 x) (le 4 y) l 0) ∙ all_set (le 4 x ++ le 4 y) l eight
+    ap (λ (k : ℕ). sets (put_le 4 l 0 x) k (le 4 y)) place ∙ sym (sets-append (le 4 x) (le 4 y) l 0) ∙ sets-all (le 4 x ++ le 4 y) l eight
 
 -- zeros, which a commit without a timestamp records, are none
 pub zeros-wrong : valid (replicate stamp_length 0) ≡ false

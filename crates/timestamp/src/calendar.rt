@@ -14,30 +14,25 @@ const DAYS_BEFORE: [u32; 12] = [0, 31, 59, 90, 120, 151, 181, 212, 243, 273, 304
 fn leap(y: u32) -> bool
     ensures { result ≡ leap y }
 {
-    (y % 4 == 0) & ((y % 100 != 0) | (y % 400 == 0))
+    y % 4 == 0 && (y % 100 != 0 || y % 400 == 0)
 }
 
+// 0 where there is no such month.
 fn days_of_month(y: u32, m: u32) -> u32
     ensures { result ≡ days_of_month y m }
 {
-    if m == 2 {
-        if leap(y) {
-            return 29;
-        }
-        return 28;
+    if m == 2 && leap(y) {
+        29
+    } else {
+        DAYS.get(m as usize).copied().unwrap_or(0)
     }
-    if 12 < m {
-        return 0;
-    }
-    let days = DAYS;
-    days[m as usize]
 }
 
+#[tactic(auto, unfolding(crate::specs::Calendar::real))]
 pub fn real(t: Moment) -> bool
     ensures { result ≡ real t }
 {
-    let days = days_of_month(t.year, t.month);
-    (1 <= t.day) & ((t.day <= days) & ((t.hour <= 23) & (t.minute <= 59)))
+    (1..=days_of_month(t.year, t.month)).contains(&t.day) && t.hour <= 23 && t.minute <= 59
 }
 
 // The days of the first n years from 1970 on. Up to 2099 every fourth year is a leap year, 2000 too; the first is 1972.
@@ -53,18 +48,11 @@ fn days_of_months(y: u32, m: u32) -> u32
     requires { (1 ≤ m) × (m ≤ 12) }
     ensures { (result ≡ total (take (m - 1) (months y))) × (result < 366) }
 {
-    let before = DAYS_BEFORE;
-    let at = (m - 1) as usize;
-    let days = before[at];
-    if m < 3 {
-        return days;
-    }
-    if leap(y) {
-        return days + 1;
-    }
-    days
+    let days = DAYS_BEFORE[(m - 1) as usize];
+    if 2 < m && leap(y) { days + 1 } else { days }
 }
 
+#[tactic(auto, using(crate::proofs::Dates::real_within), unfolding(crate::specs::Calendar::days_before, crate::specs::Calendar::minutes_before))]
 pub fn minutes(t: Moment) -> u32
     requires { (1970 ≤ t.year) × (t.year ≤ 2099) × (real t ≡ true) }
     ensures { (result ≡ minutes_before t) × (result < 100000000) }

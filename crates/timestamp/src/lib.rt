@@ -22,56 +22,56 @@ pub const STAMP: usize = 12;
 pub const TOLD: usize = 8;
 
 // "The zone is a signed field of twelve bits": its sign is extended.
+#[tactic(auto, using(std::proofs::lemmas::Int::ints), unfolding(crate::specs::Timestamp::zone_of))]
 fn zone(s: &[u8]) -> i32
     requires { length s.now ≡ stamp_length }
     ensures { result ≡ zone_of s.now }
 {
-    let x = le::read16(s, 0) % 4096;
-    if 2048 <= x {
-        return (x as i32) - 4096;
-    }
-    x as i32
+    let x = i32::from(le::read16(s, 0) % 4096);
+    if x < 2048 { x } else { x - 4096 }
 }
 
 // "-2047 for not given".
 fn not_given(zone: i32) -> bool
     ensures { result ≡ not_given zone }
 {
-    (-2047 <= zone) & (zone <= -2047)
+    zone == -2047
 }
 
 fn zoned(zone: i32) -> bool
     ensures { result ≡ zoned zone }
 {
-    ((-1440 <= zone) & (zone <= 1440)) | not_given(zone)
+    (-1440..=1440).contains(&zone) || not_given(zone)
 }
 
+#[tactic(auto, unfolding(crate::specs::Timestamp::moment_of))]
 fn read_moment(s: &[u8]) -> Moment
     requires { length s.now ≡ stamp_length }
     ensures { result ≡ moment_of s.now }
 {
     Moment {
-        year: le::read16(s, 2) as u32,
-        month: le::read8(s, 4) as u32,
-        day: le::read8(s, 5) as u32,
-        hour: le::read8(s, 6) as u32,
-        minute: le::read8(s, 7) as u32,
+        year: u32::from(le::read16(s, 2)),
+        month: u32::from(le::read8(s, 4)),
+        day: u32::from(le::read8(s, 5)),
+        hour: u32::from(le::read8(s, 6)),
+        minute: u32::from(le::read8(s, 7)),
     }
 }
 
+#[tactic(auto, unfolding(crate::specs::Timestamp::valid, crate::specs::Timestamp::moment_of))]
 pub fn valid(s: &[u8]) -> bool
     requires { length s.now ≡ stamp_length }
     ensures { result ≡ valid s.now }
 {
-    let kind = le::read16(s, 0) / 4096 == 1;
-    let year = le::read16(s, 2);
-    let years = (1970 <= year) & (year <= 2099);
-    let date = calendar::real(read_moment(s));
-    let seconds = le::read8(s, 8) <= 59;
-    let hundredths = le::read8(s, 9) <= 99;
-    let hundreds = le::read8(s, 10) <= 99;
-    let micros = le::read8(s, 11) <= 99;
-    kind & (years & (date & (seconds & (hundredths & (hundreds & (micros & zoned(zone(s))))))))
+    let t = read_moment(s);
+    le::read16(s, 0) / 4096 == 1
+        && (1970..=2099).contains(&t.year)
+        && calendar::real(t)
+        && le::read8(s, 8) <= 59
+        && le::read8(s, 9) <= 99
+        && le::read8(s, 10) <= 99
+        && le::read8(s, 11) <= 99
+        && zoned(zone(s))
 }
 
 // The minutes on the stamp's own clock, less the zone: below 0 before 1970.
@@ -81,20 +81,7 @@ fn minutes(s: &[u8]) -> i32
 {
     let clock = calendar::minutes(read_moment(s)) as i32;
     let zone = zone(s);
-    if not_given(zone) {
-        return clock;
-    }
-    clock - zone
-}
-
-// The 32 bits of a signed number.
-fn word(x: i32) -> u32
-    ensures { result ≡ word x }
-{
-    if x < 0 {
-        return ((x as i64) + 4294967296) as u32;
-    }
-    x as u32
+    if not_given(zone) { clock } else { clock - zone }
 }
 
 // "the minutes, then 1 if marked or else 0, 32 bits each".
@@ -102,6 +89,6 @@ pub fn tell(s: &[u8], answer: &mut [u8])
     requires { (length s.now ≡ stamp_length) × (valid s.now ≡ true) × (length answer.old ≡ told_length) }
     ensures { answer.new ≡ told s.now }
 {
-    le::put32(answer, 0, word(minutes(s)));
-    le::put32(answer, 4, not_given(zone(s)) as u32);
+    le::put32(answer, 0, minutes(s).cast_unsigned());
+    le::put32(answer, 4, u32::from(not_given(zone(s))));
 }

@@ -3,11 +3,11 @@
 use Prim.Native.Nat.{ℕ, zero, suc, ◌+◌, ◌-◌, ◌*◌, ◌/◌, ◌≤◌, ◌<◌}
 use native.Mathlib.Numerals.{add-one}
 use native.Mathlib.Omega.{arith}
-use mathlib.Core.Path.{◌≡◌, refl, sym, ap, ap₂, ◌∙◌}
+use mathlib.Core.Path.{◌≡◌, refl, sym, ap, ◌∙◌}
 use mathlib.Core.Bool.{Bool}
 use mathlib.Core.List.{List, [], ◌∷◌, ◌++◌}
-use lib.ListN.{length, take, drop, get_or, length-take, length-drop, drop_of_length-le}
-use lib.Seq.{sets, length-take-le, drop-cons, get_or-take}
+use lib.ListN.{length, take, drop, get_or, length-drop, drop_of_length-le}
+use lib.Seq.{sets, length-take-le, drop-cons}
 use borrow.Author.Tests.{le-ltb}
 use Rattle.le.specs.Field.{Row, row, le, words, put_le, lay}
 use Rattle.le.proofs.Bytes.{sets-append}
@@ -44,20 +44,17 @@ length-told left long [] e most least = omega arith
 length-told left long (b ∷ bs) e most least = omega arith
 
 -- one of those that are left is put: its length, then its block
-pub descriptor-put : (s blocks : List ℕ) (m at i left long : ℕ) → i < m → m ≤ length blocks → long + (left - sector_length) ≡ left
-    → left ≤ sector_length * (m - i) → sector_length * (m - i) < left + sector_length
-    → sets (put_le 4 (put_le 4 s at long) (at + 4) (get_or blocks i 0)) (at + 8) (descriptors (extents_at (left - long) (drop (i + 1) (take m blocks))))
-    ≡ sets s at (descriptors (extents_at left (drop i (take m blocks))))
+pub descriptor-put : (s blocks : List ℕ) (at i left long : ℕ) → i < length blocks → long + (left - sector_length) ≡ left
+    → left ≤ sector_length * (length blocks - i) → sector_length * (length blocks - i) < left + sector_length
+    → sets (put_le 4 (put_le 4 s at long) (at + 4) (get_or blocks i 0)) (at + 8) (descriptors (extents_at (left - long) (drop (i + 1) blocks)))
+    ≡ sets s at (descriptors (extents_at left (drop i blocks)))
 unfolding descriptors extents_at
-descriptor-put s blocks m at i left long h inside e most least =
-    let bs : List ℕ = take m blocks in
+descriptor-put s blocks at i left long h e most least =
     let b : ℕ = get_or blocks i 0 in
-    let later : List ℕ = drop (i + 1) bs in
+    let later : List ℕ = drop (i + 1) blocks in
     let rest : List ℕ = descriptors (extents_at (left - sector_length) later) in
-    let count : length bs ≡ m = length-take-le m blocks inside in
-    let here : drop i bs ≡ b ∷ later =
-    drop-cons bs i 0 (omega arith) ∙ ap₂ {C = List ℕ} (λ (x k : ℕ). x ∷ drop k bs) (get_or-take m blocks i 0 h) (sym (add-one i)) in
-    let others : length later ≡ m - (i + 1) = length-drop (i + 1) bs ∙ ap (λ (k : ℕ). k - (i + 1)) count in
+    let here : drop i blocks ≡ b ∷ later = drop-cons blocks i 0 h ∙ ap (λ (k : ℕ). b ∷ drop k blocks) (sym (add-one i)) in
+    let others : length later ≡ length blocks - (i + 1) = length-drop (i + 1) blocks in
     let so-long : long ≡ length_before left later = length-told left long later e (omega arith) (omega arith) in
     let less : left - long ≡ left - sector_length = omega arith in
     let eight : at + 4 + 4 ≡ at + 8 = omega arith in
@@ -73,11 +70,9 @@ descriptor-put s blocks m at i left long h inside e most least =
     ∙ ap (λ (k : ℕ). sets u (at + 4 + k) rest) (length-le 4 b)
     ∙ ap (λ (k : ℕ). sets u k rest) eight)
 
-pub none-put : (s blocks : List ℕ) (at left i m : ℕ) → m ≤ i → sets s at (descriptors (extents_at left (drop i (take m blocks)))) ≡ s
+pub none-put : (s blocks : List ℕ) (at left i : ℕ) → length blocks ≤ i → sets s at (descriptors (extents_at left (drop i blocks))) ≡ s
 unfolding descriptors extents_at
-none-put s blocks at left i m h =
-    let short : length (take m blocks) ≤ i = rw (length-take m blocks) (omega arith) in
-    ap (λ (l : List ℕ). sets s at (descriptors (extents_at left l))) (drop_of_length-le (take m blocks) short)
+none-put s blocks at left i h = ap (λ (l : List ℕ). sets s at (descriptors (extents_at left l))) (drop_of_length-le blocks h)
 
 -- ---- what stands behind the header
 

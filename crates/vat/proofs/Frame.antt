@@ -1,29 +1,21 @@
 -- What the recogniser's functions need of its definition, on plain values.
 -- Assumes nothing.
 use Prim.Native.Nat.{ℕ, ◌+◌, ◌-◌, ◌*◌, ◌/◌, ◌%◌, ◌≤◌, ◌<◌}
-use native.Mathlib.Numerals.{add-one}
 use native.Mathlib.Omega.{arith}
 use mathlib.Core.Path.{◌≡◌, refl, sym, ap, ◌∙◌}
-use mathlib.Core.Bool.{Bool, true, false, ◌&&◌, ◌||◌, or-true, or-false, false≢true}
+use mathlib.Core.Bool.{Bool, true, false, ◌&&◌, ◌||◌, false≢true}
 use mathlib.Core.List.{List, [], ◌∷◌}
 use lib.Dec.{eqb, ltb, leb}
 use lib.ListN.{length, take, drop, length-take, length-drop, length-append}
 use lib.Seq.{length-take-le}
-use borrow.Author.Tests.{eq-eqb, ne_eqb, eqb-true, ltb-true, le-leb, leb-true}
+use borrow.Author.Tests.{eq-eqb, ne_eqb, eqb-true, ltb-true, leb-true}
 use Rattle.le.specs.Bytes.{holds_text}
 use Rattle.le.specs.Field.{read_le, holds}
 use Rattle.le.proofs.Rows.{and_left, and_right}
 use Rattle.extent.specs.declared.Extent.{Extent}
 use Rattle.extent.specs.Extents.{descriptors_length, extents_from, total_length}
 use Rattle.tag.specs.Tag.{crc_length}
-use Rattle.vat.specs.Table.{sector_length, most_own, most_bytes, limit, unused, unused_or_below, Lower, table_start, entry_rows, plain_rows, length_rows, embedded, outside, attribute_length, described_length, whole_length, placed, own_if, own_of, measured, framed, is_there, bytes_of, lies, full_before, laid, joined, inside, bytes_if, table_of, table_length, regid_at, table_name, entry_count, previous_of, enclosed}
-
--- the count up to a block tells whether a sector at block b may name it
-pub none_named : (b x : ℕ) → x ≡ unused → leb 0 b ≡ unused_or_below b x
-none_named b x e = le-leb 0 b (omega arith) ∙ sym (ap (λ (t : Bool). ltb x b || t) (eq-eqb x unused e) ∙ or-true (ltb x b))
-
-pub block-named : (b x : ℕ) → (x ≡ unused → ⊥) → leb (x + 1) b ≡ unused_or_below b x
-block-named b x n = rw (ne_eqb x unused n, or-false (ltb x b)) (ap (λ (y : ℕ). leb y b) (add-one x))
+use Rattle.vat.specs.Table.{sector_length, most_own, most_bytes, limit, unused_or_below, Lower, table_start, entry_rows, plain_rows, length_rows, embedded, outside, attribute_length, described_length, whole_length, placed, own_if, own_of, measured, framed, is_there, bytes_of, lies, full_before, laid, joined, inside, bytes_if, table_of, table_length, regid_at, table_name, entry_count, previous_of, enclosed}
 
 -- without its tag identifier a sector is framed as no table
 pub untagged-frame : (s : List ℕ) (b : ℕ) → eqb (read_le 2 s 0) 261 ≡ false → framed s b ≡ false
@@ -187,14 +179,10 @@ module _ (lower : Lower) (s : List ℕ) (b : ℕ) (whole : length s ≡ sector_l
   unfolding entry_count
   few-entries = omega (arith, table-short)
 
--- the entries lie within them, and of 36 bytes or more the end too
+-- the entries lie within them
 pub entries-within : (t : List ℕ) → regid_at (entry_count t) ≤ length t
 unfolding entry_count
 entries-within t = omega arith
-
-pub ends-within : (t : List ℕ) → 36 ≤ length t → regid_at (entry_count t) + 36 ≤ length t
-unfolding entry_count
-ends-within t h = omega arith
 
 -- what an enclosed table tells
 pub record Enclosed (t : List ℕ) (b : ℕ) : Type 0 where

@@ -9,7 +9,7 @@ use native.Mathlib.Omega.{arith}
 use mathlib.Core.Path.{◌≡◌, refl, sym, ap, ap₂, ◌∙◌}
 use mathlib.Core.Bool.{Bool, true, false}
 use mathlib.Core.List.{List, [], ◌∷◌, ◌++◌, append-nil}
-use mathlib.Core.Option.{Option, some}
+use Rattle.std.specs.Prelude.{Option, Some}
 use lib.Dec.{ltb}
 use lib.ListN.{length, take, drop, get_or, replicate, length-append, length-replicate, length-take, length-drop, take-append-drop, get_or-append, get_or-eq_default, get_or-replicate}
 use lib.Seq.{take_all, take_at, length-take-le, drop-drop, get_or-take, get_or-append-add}
@@ -33,7 +33,7 @@ abbrev pub Stand : Lower → List ℕ → List (List ℕ) → Type 0
 Stand lower [] [] = Unit
 Stand lower [] (s ∷ ss) = ⊥
 Stand lower (b ∷ bs) [] = ⊥
-Stand lower (b ∷ bs) (s ∷ ss) = (lower b ≡ some s) × Stand lower bs ss
+Stand lower (b ∷ bs) (s ∷ ss) = (lower b ≡ Some s) × Stand lower bs ss
 
 -- ---- whole sectors
 
@@ -98,7 +98,7 @@ own-field n t i at h = filled-read n (drop (sector_length * i) t) at h ∙ read-
 first-bytes : (t : List ℕ) (n : ℕ) → length (take sector_length t) ≡ n → take n (filled_up (take sector_length t)) ≡ take sector_length t
 first-bytes t n e = take_at (take sector_length t) (replicate (sector_length - length (take sector_length t)) 0) n e
 
-lies-there : (lower : Lower) (n b : ℕ) (s : List ℕ) → lower b ≡ some s → 0 < n → n ≤ sector_length → lies lower (extent n b) ≡ true
+lies-there : (lower : Lower) (n b : ℕ) (s : List ℕ) → lower b ≡ Some s → 0 < n → n ≤ sector_length → lies lower (extent n b) ≡ true
 unfolding lies
 lies-there lower n b s e low high = rw (e, lt-ltb 0 n low, le-leb n sector_length high)
 

@@ -2,7 +2,6 @@ pub mod Frame
 pub mod Record
 pub mod Theorems
 pub mod Joined
-pub mod Lowered
 pub mod Made
 pub mod Measured
 pub mod Described

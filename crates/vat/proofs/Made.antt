@@ -3,7 +3,7 @@
 --     sector-made    with the entries taken from bytes
 --     entries-alone  a sector that holds entries alone is these bytes
 -- Assumes nothing.
-use Prim.Native.Nat.{ℕ, zero, suc, ◌+◌, ◌-◌, ◌*◌, ◌≤◌}
+use Prim.Native.Nat.{ℕ, zero, suc, min, ◌+◌, ◌-◌, ◌*◌, ◌≤◌}
 use native.Mathlib.Nat.{not-suc-le-zero, le_of_suc-le-suc, add-zero, zero-add, sub-zero, suc-sub-suc, zero-sub}
 use native.Mathlib.Omega.{arith}
 use mathlib.Core.Path.{◌≡◌, refl, sym, ap, ap₂, ◌∙◌}
@@ -11,10 +11,12 @@ use mathlib.Core.List.{List, [], ◌∷◌, ◌++◌, append-nil}
 use mathlib.Core.Logic.{◌⊎◌, inl, inr}
 use lib.ListN.{length, take, drop, replicate, length-append, length-replicate, length-take, length-drop, drop_of_length-le}
 use lib.Seq.{sets, sets-eq, length-take-le, take_all, take_at, drop_at, drop-drop, take-append-add}
+use Rattle.std.proofs.lemmas.Bool.{cases_lt}
+use Rattle.std.proofs.lemmas.List.{drop-replicate}
 use Rattle.le.specs.Field.{le, read_le, words, le_words}
 use Rattle.le.proofs.Bytes.{part-take, sets-append}
 use Rattle.le.proofs.Fields.{length-le}
-use Rattle.le.proofs.Runs.{length-le_words, length-words, words-none, words_step, AllBytes, le_words-words}
+use Rattle.le.proofs.Runs.{length-le_words, length-words, words-none, words_step, AllBytes, le_words-words, sets-all}
 use Rattle.vat.specs.Table.{sector_length}
 use Rattle.vat.specs.Sector.{table_regid, table_bytes}
 use Rattle.vat.specs.Own.{filled_up, own_sector}
@@ -33,17 +35,12 @@ drop-append zero xs ys = ap (λ (n : ℕ). xs ++ drop n ys) (sym (zero-sub (leng
 drop-append (suc k) [] ys = ap (λ (n : ℕ). drop n ys) (sym (sub-zero (suc k)))
 drop-append (suc k) (x ∷ xs) ys = drop-append k xs ys ∙ ap (λ (n : ℕ). drop k xs ++ drop n ys) (sym (suc-sub-suc k (length xs)))
 
-drop-zeros : (k n : ℕ) → ◌≡◌ {A = List ℕ} (drop k (replicate n 0)) (replicate (n - k) 0)
-drop-zeros zero n = ap (λ (m : ℕ). replicate {A = ℕ} m 0) (sym (sub-zero n))
-drop-zeros (suc k) zero = ap (λ (m : ℕ). replicate {A = ℕ} m 0) (sym (zero-sub (suc k)))
-drop-zeros (suc k) (suc n) = drop-zeros k n ∙ ap (λ (m : ℕ). replicate {A = ℕ} m 0) (sym (suc-sub-suc n k))
-
 -- bytes stored from the beginning on, over zeros
 stored-front : (xs : List ℕ) (n : ℕ) → length xs ≤ n → sets (replicate n 0) 0 xs ≡ xs ++ replicate (n - length xs) 0
 stored-front xs n h =
     let zeros : List ℕ = replicate n 0 in
     let inside : 0 + length xs ≤ length zeros = omega (arith, length-replicate {A = ℕ} n 0) in
-    sets-eq xs zeros 0 inside ∙ ap (λ (k : ℕ). xs ++ drop k zeros) (zero-add (length xs)) ∙ ap (λ (l : List ℕ). xs ++ l) (drop-zeros (length xs) n)
+    sets-eq xs zeros 0 inside ∙ ap (λ (k : ℕ). xs ++ drop k zeros) (zero-add (length xs)) ∙ ap (λ (l : List ℕ). xs ++ l) (drop-replicate (length xs) n 0)
 
 pub own-made : (entries tail : List ℕ) (first : ℕ) → let front : List ℕ = take sector_length (drop first entries) in
     sets (sets (replicate sector_length 0) 0 front) (length front) (take (sector_length - length front) (drop (first - length entries) tail))
@@ -97,17 +94,15 @@ words-taken (suc k) (suc n) s at h =
 
 -- the tail put into bytes of its own
 pub tail-alone : (t : List ℕ) (previous : ℕ) → length t ≡ 36 → sets t 0 (table_regid ++ le 4 previous) ≡ table_regid ++ le 4 previous
-tail-alone t previous long =
-    let tail : List ℕ = table_regid ++ le 4 previous in
-    let all : length t ≤ 0 + length tail = omega (arith, length-tail previous) in
-    sets-eq tail t 0 (omega (arith, length-tail previous)) ∙ ap (λ (r : List ℕ). tail ++ r) (drop_of_length-le t all) ∙ append-nil tail
+tail-alone t previous long = sets-all (table_regid ++ le 4 previous) t (length-tail previous ∙ sym long)
+
+min-is : (r a b : ℕ) → r ≡ min a b → (r ≡ a) ⊎ (r ≡ b)
+min-is r a b e = elim (cases_lt b a) [ inl h ↦ inr (omega (arith, h)) | inr h ↦ inl (omega (arith, h)) ]
 
 -- `before` of n entries stand before sector i, and `count` in it
 pub record Split (n i before count : ℕ) : Type 0 where
-  pub before-few : (before ≤ 512 * i) × (before ≤ n)
-  pub before-is : (before ≡ 512 * i) ⊎ (before ≡ n)
-  pub count-few : (count ≤ n - before) × (count ≤ 512)
-  pub count-is : (count ≡ n - before) ⊎ (count ≡ 512)
+  pub before-is : before ≡ min n (512 * i)
+  pub count-is : count ≡ min (n - before) 512
 
 module _ (n i before count : ℕ) (p : Split n i before count) (l : List ℕ) where
   length-entries : length (le_words (words n l 0)) ≡ 4 * n
@@ -115,64 +110,60 @@ module _ (n i before count : ℕ) (p : Split n i before count) (l : List ℕ) wh
 
   -- those from sector i on
   entries_from : drop (2048 * i) (le_words (words n l 0)) ≡ le_words (words (n - before) l (4 * before))
-  entries_from = go p.before-is
+  entries_from = go (min-is before n (512 * i) p.before-is)
     where
       place : 0 + 4 * before ≡ 4 * before
       place = zero-add (4 * before)
 
-      go : (before ≡ 512 * i) ⊎ (before ≡ n) → drop (2048 * i) (le_words (words n l 0)) ≡ le_words (words (n - before) l (4 * before))
+      go : (before ≡ n) ⊎ (before ≡ 512 * i) → drop (2048 * i) (le_words (words n l 0)) ≡ le_words (words (n - before) l (4 * before))
       go (inl e) =
-          let at : 2048 * i ≡ 4 * before = omega arith in
-          ap (λ (k : ℕ). drop k (le_words (words n l 0))) at
-          ∙ words-dropped before n l 0 p.before-few.1
-          ∙ ap (λ (k : ℕ). le_words (words (n - before) l k)) place
-      go (inr e) =
           let none : n - before ≡ 0 = omega arith in
-          let past : length (le_words (words n l 0)) ≤ 2048 * i = omega (arith, length-entries, p.before-few.0) in
+          let past : length (le_words (words n l 0)) ≤ 2048 * i = omega (arith, length-entries, p.before-is) in
           drop_of_length-le (le_words (words n l 0)) past
           ∙ sym (ap (λ (k : ℕ). le_words (words k l (4 * before))) none ∙ nothing (4 * before))
         where
           nothing : (at : ℕ) → le_words (words 0 l at) ≡ []
           nothing at = ap le_words (words-none l at) ∙ le_words-none
+      go (inr e) =
+          let at : 2048 * i ≡ 4 * before = omega arith in
+          ap (λ (k : ℕ). drop k (le_words (words n l 0))) at
+          ∙ words-dropped before n l 0 (omega (arith, p.before-is))
+          ∙ ap (λ (k : ℕ). le_words (words (n - before) l k)) place
 
   front : take sector_length (drop (2048 * i) (le_words (words n l 0))) ≡ le_words (words count l (4 * before))
-  front = ap (take sector_length) entries_from ∙ go p.count-is
+  front = ap (take sector_length) entries_from ∙ go (min-is count (n - before) 512 p.count-is)
     where
       long : length (le_words (words (n - before) l (4 * before))) ≡ 4 * (n - before)
       long = length-le_words (words (n - before) l (4 * before)) ∙ ap (λ (k : ℕ). 4 * k) (length-words (n - before) l (4 * before))
 
       go : (count ≡ n - before) ⊎ (count ≡ 512) → take sector_length (le_words (words (n - before) l (4 * before))) ≡ le_words (words count l (4 * before))
       go (inl e) =
-          take_all sector_length (le_words (words (n - before) l (4 * before))) (omega (arith, long, p.count-few.1))
+          take_all sector_length (le_words (words (n - before) l (4 * before))) (omega (arith, long, p.count-is))
           ∙ ap (λ (k : ℕ). le_words (words k l (4 * before))) (sym e)
       go (inr e) =
           let full : sector_length ≡ 4 * count = omega arith in
-          ap (λ (k : ℕ). take k (le_words (words (n - before) l (4 * before)))) full ∙ words-taken count (n - before) l (4 * before) p.count-few.0
+          ap (λ (k : ℕ). take k (le_words (words (n - before) l (4 * before)))) full ∙ words-taken count (n - before) l (4 * before) (omega (arith, p.count-is))
 
   -- the sector, with so many bytes of the tail
-  pub sector-made : (previous from long : ℕ) → from ≡ 2048 * i - 4 * before → (long ≤ 36 - from) × (long ≤ 2048 - 4 * count) → (long ≡ 36 - from) ⊎ (long ≡ 2048 - 4 * count)
+  pub sector-made : (previous from long : ℕ) → from ≡ 2048 * i - 4 * before → long ≡ min (36 - from) (2048 - 4 * count)
       → sets (sets (replicate sector_length 0) 0 (le_words (words count l (4 * before)))) (4 * count) (take long (drop from (table_regid ++ le 4 previous)))
       ≡ own_sector (table_bytes (words n l 0) previous) i
   unfolding table_bytes
-  sector-made previous from long e few is =
+  sector-made previous from long e is =
       let entries : List ℕ = le_words (words n l 0) in
       let tail : List ℕ = table_regid ++ le 4 previous in
       let w : List ℕ = le_words (words count l (4 * before)) in
       let place : length (take sector_length (drop (2048 * i) entries)) ≡ 4 * count =
       ap length front ∙ length-le_words (words count l (4 * before)) ∙ ap (λ (k : ℕ). 4 * k) (length-words count l (4 * before)) in
-      let behind : 2048 * i - length entries ≡ from = start p.before-is in
+      let behind : 2048 * i - length entries ≡ from = omega (arith, length-entries, e, p.before-is) in
       let tail-long : length (drop from tail) ≡ 36 - from =
       length-drop from tail ∙ ap (λ (k : ℕ). k - from) (length-tail previous) in
       ap₂ (λ (a : List ℕ) (k : ℕ). sets (sets (replicate sector_length 0) 0 a) k (take long (drop from tail))) (sym front) (sym place)
-      ∙ ap (sets (sets (replicate sector_length 0) 0 (take sector_length (drop (2048 * i) entries))) (length (take sector_length (drop (2048 * i) entries)))) (same-part tail-long place is)
+      ∙ ap (sets (sets (replicate sector_length 0) 0 (take sector_length (drop (2048 * i) entries))) (length (take sector_length (drop (2048 * i) entries)))) (same-part tail-long place (min-is long (36 - from) (2048 - 4 * count) is))
       ∙ ap (λ (k : ℕ). sets (sets (replicate sector_length 0) 0 (take sector_length (drop (2048 * i) entries))) (length (take sector_length (drop (2048 * i) entries)))
       (take (sector_length - length (take sector_length (drop (2048 * i) entries))) (drop k tail))) (sym behind)
       ∙ own-made entries tail (2048 * i)
     where
-      start : (before ≡ 512 * i) ⊎ (before ≡ n) → 2048 * i - length (le_words (words n l 0)) ≡ from
-      start (inl z) = omega (arith, length-entries, e, p.before-few.1)
-      start (inr z) = omega (arith, length-entries, e)
-
       same-part : length (drop from (table_regid ++ le 4 previous)) ≡ 36 - from → length (take sector_length (drop (2048 * i) (le_words (words n l 0)))) ≡ 4 * count → (long ≡ 36 - from) ⊎ (long ≡ 2048 - 4 * count)
           → take long (drop from (table_regid ++ le 4 previous)) ≡ take (sector_length - length (take sector_length (drop (2048 * i) (le_words (words n l 0))))) (drop from (table_regid ++ le 4 previous))
       same-part t c (inr z) =
@@ -180,7 +171,7 @@ module _ (n i before count : ℕ) (p : Split n i before count) (l : List ℕ) wh
           ap (λ (k : ℕ). take k (drop from (table_regid ++ le 4 previous))) q
       same-part t c (inl z) =
           take_all long (drop from (table_regid ++ le 4 previous)) (omega (arith, t, z))
-          ∙ sym (take_all (sector_length - length (take sector_length (drop (2048 * i) (le_words (words n l 0))))) (drop from (table_regid ++ le 4 previous)) (omega (arith, t, z, c, few.1)))
+          ∙ sym (take_all (sector_length - length (take sector_length (drop (2048 * i) (le_words (words n l 0))))) (drop from (table_regid ++ le 4 previous)) (omega (arith, t, z, c, is)))
 
 -- ---- a sector of entries alone
 

@@ -12,11 +12,12 @@ use mathlib.Core.Path.{◌≡◌, refl, sym, ap, ap₂, ◌∙◌, subst}
 use mathlib.Core.Bool.{Bool, true, false, ◌&&◌, ◌||◌}
 use mathlib.Core.List.{List, [], ◌∷◌, ◌++◌, append_assoc, append-nil}
 use mathlib.Core.Logic.{◌⊎◌, inl, inr}
-use mathlib.Core.Option.{Option}
+use Rattle.std.specs.Prelude.{Option}
 use lib.Dec.{eqb, ltb, leb, lit≤}
 use lib.ListN.{length, take, drop, get_or, replicate, length-replicate}
 use lib.Seq.{sets, take_at}
 use borrow.Author.Tests.{eq-eqb, eqb-true, ltb-true, ltb-false, lt-ltb, le-leb}
+use Rattle.std.proofs.lemmas.Bool.{false_from_ne_true}
 use Rattle.le.specs.Bytes.{every, holds_text}
 use Rattle.le.specs.Field.{Row, row, le, read_le, words, le_words, holds, lay}
 use Rattle.le.proofs.Bytes.{drop-sets, drop-sets-after}
@@ -79,10 +80,6 @@ unfolding plain_rows
 location s b e =
     let links : List Row = row 48 2 0 ∷ [] in
     located s tag_version 0 b (and_left (holds s (entry_rows tag_version 0 b)) (holds s links) (sym (holds-append (entry_rows tag_version 0 b) links s) ∙ e))
-
-not-true : (t : Bool) → (t ≡ true → ⊥) → t ≡ false
-not-true true h = absurd (h refl)
-not-true false h = refl
 
 pub at-one-block : (lower lower' : Lower) (s : List ℕ) (b b' : ℕ) → is_table lower s b ≡ true → is_table lower' s b' ≡ true → b ≡ b'
 at-one-block lower lower' s b b' e e' = sym (location s b (recognised lower s b e).frame.plain) ∙ location s b' (recognised lower' s b' e').frame.plain
@@ -427,7 +424,7 @@ not-elsewhere map previous blocks stamp b few count timely low lower b' other =
     let t : List ℕ = table_bytes map previous in
     let s : List ℕ = icb t blocks stamp b in
     let ok : Recordable t blocks = recordable t blocks (omega (arith, length-table map previous)) count in
-    not-true (is_table lower s b')
+    false_from_ne_true (is_table lower s b')
     (λ e. other (sym (location s b' (recognised lower s b' e).frame.plain) ∙ location s b (plain-held t blocks s b (held t blocks stamp b ok low timely))))
 
 -- ---- what keeps it

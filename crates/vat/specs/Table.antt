@@ -2,7 +2,7 @@
 -- times and larger tables), in three steps: its ICB, the table's bytes, which stand behind the ICB's extended attributes or in sectors of their own, and what
 -- these bytes hold.
 use Rattle.std.specs.Prelude.{ℕ, ◌+◌, ◌-◌, ◌*◌, ◌/◌, ◌%◌, Bool, true, false, ◌&&◌, ◌||◌, List, [], ◌∷◌, ◌++◌, eqb, ltb, leb, length, take, drop}
-use Rattle.std.proofs.Math.Option.{Option, none, some}
+use Rattle.std.specs.Prelude.{Option, None, Some}
 use Rattle.le.specs.Bytes.{every, holds_text}
 use Rattle.le.specs.Field.{Row, row, read_le, holds, words}
 use Rattle.extent.specs.declared.Extent.{Extent}
@@ -131,12 +131,12 @@ modified_of s = take stamp_length (drop modified_at s)
 
 -- A sector that can be read, and its bytes.
 abbrev pub is_there : Option (List ℕ) → Bool
-is_there none = false
-is_there (some s) = true
+is_there None = false
+is_there (Some s) = true
 
 abbrev pub bytes_of : Option (List ℕ) → List ℕ
-bytes_of none = []
-bytes_of (some s) = s
+bytes_of None = []
+bytes_of (Some s) = s
 
 -- Own sectors: "allocation and extent type 0, blocks below the ICB, kind 1, full but the last, none empty". An extent of another type has a length above a
 -- sector's.

@@ -12,6 +12,7 @@ use crate::table::{ATTRIBUTES_AT, MODIFIED_AT, TABLE_NAME, TAG_VERSION, UNUSED};
 
 const STATION_NAME: [u8; 14] = *b"*Bench Station";
 
+#[tactic(auto, unfolding(le::specs::Field::lay))]
 pub fn put_entry(s: &mut [u8], version: u16, file_type: u8, b: u32)
     requires { length s.old ≡ sector_length }
     ensures { s.new ≡ lay s.old (entry_rows version file_type b) }
@@ -24,6 +25,7 @@ pub fn put_entry(s: &mut [u8], version: u16, file_type: u8, b: u32)
     le::put8(s, 27, file_type);
 }
 
+#[tactic(auto, unfolding(le::specs::Field::lay, crate::specs::Table::plain_rows))]
 fn put_plain(s: &mut [u8], b: u32)
     requires { length s.old ≡ sector_length }
     ensures { s.new ≡ lay s.old (plain_rows b) }
@@ -33,6 +35,7 @@ fn put_plain(s: &mut [u8], b: u32)
 }
 
 // The lengths of an entry without attributes.
+#[tactic(auto, unfolding(le::specs::Field::lay, crate::specs::Table::length_rows))]
 pub fn put_lengths(s: &mut [u8], descriptors: u32, information: u64)
     requires { (length s.old ≡ sector_length) × (descriptors ≤ sector_length) }
     ensures { s.new ≡ lay s.old (length_rows 0 descriptors information) }
@@ -43,6 +46,7 @@ pub fn put_lengths(s: &mut [u8], descriptors: u32, information: u64)
     le::put16(s, 10, (160 + descriptors) as u16);
 }
 
+#[tactic(auto, unfolding(le::specs::Field::lay, crate::specs::Sector::own_rows))]
 pub fn put_own(s: &mut [u8], allocation: u16)
     requires { length s.old ≡ sector_length }
     ensures { s.new ≡ lay s.old (own_rows allocation) }
@@ -54,12 +58,12 @@ pub fn put_own(s: &mut [u8], allocation: u16)
     le::put32(s, 108, 1);
 }
 
+#[tactic(auto, unfolding(crate::specs::Sector::station_name))]
 pub fn put_name(s: &mut [u8])
     requires { length s.old ≡ sector_length }
     ensures { s.new ≡ sets s.old station_at station_name }
 {
-    let station = STATION_NAME;
-    le::run::put_text(s, 129, &station);
+    le::run::put_text(s, 129, &STATION_NAME);
 }
 
 // What stands behind the entries: the regid (flags, text, suffix) and the previous table, one behind the other.
@@ -67,9 +71,8 @@ pub fn put_tail(s: &mut [u8], at: usize, previous: u32)
     requires { at + 36 ≤ length s.old }
     ensures { s.new ≡ sets s.old at (table_regid ++ le 4 previous) }
 {
-    let name = TABLE_NAME;
     le::put8(s, at, 0);
-    le::run::put_text(s, at + 1, &name);
+    le::run::put_text(s, at + 1, &TABLE_NAME);
     le::put64(s, at + 24, 0x0150);
     le::put32(s, at + 32, previous);
 }
@@ -85,6 +88,7 @@ fn put_table(s: &mut [u8], map: &[u8], n: u32, previous: u32)
 }
 
 // The timestamp as access, modification and attribute time.
+#[tactic(auto, unfolding(crate::specs::Sector::timed))]
 fn put_times(s: &mut [u8], stamp: &[u8])
     requires { (length s.old ≡ sector_length) × (length stamp.now ≡ stamp_length) }
     ensures { s.new ≡ timed stamp.now s.old }
@@ -94,31 +98,18 @@ fn put_times(s: &mut [u8], stamp: &[u8])
     le::run::put_text(s, 96, stamp);
 }
 
-// The bytes of an own sector, of which so many are left of the table from it on: "full but the last".
-fn own_length(left: u32) -> u32
-    ensures { result + (left - sector_length) ≡ left }
+// The descriptors of the blocks at which a table of so many bytes lies: "full but the last".
+fn put_descriptors(s: &mut [u8], blocks: &[u32], bytes: u32)
+    requires { (length s.old ≡ sector_length) × (length blocks.now ≤ most_own) × (sector_length * length blocks.now < bytes + sector_length) × (bytes ≤ sector_length * length blocks.now) }
+    ensures { s.new ≡ sets s.old (table_start 0) (descriptors (extents_at bytes blocks.now)) }
 {
-    if left < 2048 {
-        return left;
-    }
-    2048
-}
-
-// The descriptors of the first m blocks, at which a table of so many bytes lies.
-fn put_descriptors(s: &mut [u8], blocks: &[u32], m: usize, bytes: u32)
-    requires { (length s.old ≡ sector_length) × (m ≤ most_own) × (m ≤ length blocks.now) × (sector_length * m < bytes + sector_length) × (bytes ≤ sector_length * m) }
-    ensures { s.new ≡ sets s.old (table_start 0) (descriptors (extents_at bytes (take m blocks.now))) }
-{
-    let mut at = ATTRIBUTES_AT;
     let mut left = bytes;
-    let mut i: usize = 0;
-    while i < m {
-        let length = own_length(left);
+    for (i, block) in blocks.iter().enumerate() {
+        let at = ATTRIBUTES_AT + 8 * i;
+        let length = left.min(2048);
         le::put32(s, at, length);
-        le::put32(s, at + 4, blocks[i]);
+        le::put32(s, at + 4, *block);
         left -= length;
-        at += 8;
-        i += 1;
     }
 }
 
@@ -131,20 +122,18 @@ fn put_described(s: &mut [u8], map: &[u8], n: u32, previous: u32, blocks: &[u32]
     let own = crate::own::own_count(n);
     if own == 0 {
         put_table(s, map, n, previous);
-        return bytes;
+        bytes
+    } else {
+        put_descriptors(s, &blocks[..own as usize], bytes);
+        8 * own
     }
-    put_descriptors(s, blocks, own as usize, bytes);
-    8 * own
 }
 
 // The allocation type for so many own sectors.
 fn allocation(own: u32) -> u16
     ensures { (own ≡ 0 → result ≡ 3) × ((own ≡ 0 → ⊥) → result ≡ 0) }
 {
-    if own == 0 {
-        return 3;
-    }
-    0
+    if own == 0 { 3 } else { 0 }
 }
 
 // The ICB at block b for a map of n entries, which are taken from bytes, a previous table, the blocks of its own sectors and a timestamp, into a lent buffer.
@@ -158,8 +147,8 @@ pub fn record(s: &mut [u8], map: &[u8], n: u32, previous: u32, blocks: &[u32], s
     put_name(s);
     put_times(s, stamp);
     put_plain(s, b);
-    put_lengths(s, described, (4 * n + 36) as u64);
+    put_lengths(s, described, u64::from(4 * n + 36));
     put_own(s, allocation(own));
-    le::put64(s, 64, own as u64);
+    le::put64(s, 64, u64::from(own));
     tag::seal(s);
 }

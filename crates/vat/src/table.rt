@@ -2,7 +2,7 @@
 ghost use Rattle.std.specs.Prelude.{◌≡◌, ℕ, ◌+◌, ◌-◌, ◌*◌, ◌/◌, ◌≤◌, ◌<◌, eqb, leb, pos, ◌-ℤ◌, length};
 ghost use Rattle.le.specs.Bytes.{every};
 ghost use Rattle.le.specs.Field.{read_le, holds, words};
-ghost use Rattle.vat.specs.Table.{sector_length, unused_or_below, table_start, entry_rows, plain_rows, length_rows, embedded, outside, attribute_length, described_length, whole_length, placed, own_of, measured, framed, inside, entry_count, previous_of, enclosed};
+ghost use Rattle.vat.specs.Table.{sector_length, unused_or_below, table_start, entry_rows, plain_rows, length_rows, allocation_type, embedded, attribute_length, described_length, whole_length, placed, own_of, measured, framed, inside, entry_count, previous_of, enclosed};
 
 pub const SECTOR: usize = 2048;
 
@@ -12,9 +12,6 @@ pub const LIMIT: u32 = 4087;
 pub const EMBEDDED_LIMIT: u32 = 458;
 
 pub const UNUSED: u32 = 4294967295;
-
-// The least number of 32 bits with a sign.
-const LEAST: i32 = -2147483648;
 
 // Where the attributes start; the table, where there are none.
 pub const ATTRIBUTES_AT: usize = 176;
@@ -31,31 +28,28 @@ pub const MOST_OWN: u32 = 8;
 pub const TABLE_NAME: [u8; 23] = *b"*UDF Virtual Alloc Tbl\0";
 
 // A file entry of a version and a file type. The tag identifier first: nearly every sector that is none is known by it.
+#[tactic(auto, unfolding(le::specs::Field::holds))]
 pub fn entry_held(s: &[u8], version: u16, file_type: u8, b: u32) -> bool
     requires { length s.now ≡ sector_length }
     ensures { result ≡ holds s.now (entry_rows version file_type b) }
 {
-    if le::read16(s, 0) != 261 {
-        return false;
-    }
-    let versioned = le::read16(s, 2) == version;
-    let zero = le::read8(s, 5) == 0;
-    let location = le::read32(s, 12) == b;
-    let strategy = le::read16(s, 20) == 4;
-    let typed = le::read8(s, 27) == file_type;
-    versioned & (zero & (location & (strategy & typed)))
+    le::read16(s, 0) == 261
+        && le::read16(s, 2) == version
+        && le::read8(s, 5) == 0
+        && le::read32(s, 12) == b
+        && le::read16(s, 20) == 4
+        && le::read8(s, 27) == file_type
 }
 
+#[tactic(auto, unfolding(le::specs::Field::holds, crate::specs::Table::plain_rows))]
 fn plain_held(s: &[u8], b: u32) -> bool
     requires { length s.now ≡ sector_length }
     ensures { result ≡ holds s.now (plain_rows b) }
 {
-    if !entry_held(s, TAG_VERSION, 0, b) {
-        return false;
-    }
-    le::read16(s, 48) == 0
+    entry_held(s, TAG_VERSION, 0, b) && le::read16(s, 48) == 0
 }
 
+#[tactic(auto, unfolding(crate::specs::Table::attribute_length))]
 fn attribute_length(s: &[u8]) -> u32
     requires { length s.now ≡ sector_length }
     ensures { result ≡ attribute_length s.now }
@@ -63,6 +57,7 @@ fn attribute_length(s: &[u8]) -> u32
     le::read32(s, 168)
 }
 
+#[tactic(auto, unfolding(crate::specs::Table::described_length))]
 fn described_length(s: &[u8]) -> u32
     requires { length s.now ≡ sector_length }
     ensures { result ≡ described_length s.now }
@@ -75,9 +70,9 @@ pub fn placed(s: &[u8]) -> bool
     requires { length s.now ≡ sector_length }
     ensures { result ≡ placed s.now }
 {
-    let attributes = attribute_length(s) as u64;
-    let described = described_length(s) as u64;
-    (attributes % 4 == 0) & (176 + attributes + described < 2048)
+    let attributes = u64::from(attribute_length(s));
+    let described = u64::from(described_length(s));
+    attributes % 4 == 0 && 176 + attributes + described < 2048
 }
 
 // Where the attributes end.
@@ -88,20 +83,19 @@ pub fn start(s: &[u8]) -> usize
     ATTRIBUTES_AT + (attribute_length(s) as usize)
 }
 
+fn allocation_type(s: &[u8]) -> u16
+    requires { length s.now ≡ sector_length }
+    ensures { result ≡ allocation_type s.now }
+{
+    le::read16(s, 34) & 7
+}
+
 // The ICB holds its table.
 pub fn is_embedded(s: &[u8]) -> bool
     requires { length s.now ≡ sector_length }
     ensures { result ≡ embedded s.now }
 {
-    (le::read16(s, 34) & 7) == 3
-}
-
-// Its table lies in own sectors.
-fn is_outside(s: &[u8]) -> bool
-    requires { length s.now ≡ sector_length }
-    ensures { result ≡ outside s.now }
-{
-    (le::read16(s, 34) & 7) == 0
+    allocation_type(s) == 3
 }
 
 // How many own sectors it names.
@@ -110,59 +104,54 @@ pub fn own_count(s: &[u8]) -> u32
     ensures { result ≡ length (own_of s.now) }
 {
     if is_embedded(s) {
-        return 0;
+        0
+    } else {
+        described_length(s) / 8
     }
-    described_length(s) / 8
 }
 
-// The attribute length needs no test of its own: the CRC length is held against it.
-fn lengths_held(s: &[u8], descriptors: u32, information: u64) -> bool
-    requires { (length s.now ≡ sector_length) × (whole_length s.now < sector_length) × (descriptors ≤ described_length s.now) }
-    ensures { result ≡ holds s.now (length_rows (attribute_length s.now) descriptors information) }
+// The lengths of a file entry. The CRC length is held against a sum in 64 bits, where lengths of 32 bits cannot wrap.
+#[tactic(auto, unfolding(le::specs::Field::holds, crate::specs::Table::length_rows, crate::specs::Table::attribute_length, crate::specs::Table::described_length))]
+pub fn lengths_held(s: &[u8], attributes: u32, descriptors: u32, information: u64) -> bool
+    requires { length s.now ≡ sector_length }
+    ensures { result ≡ holds s.now (length_rows attributes descriptors information) }
 {
-    let described = described_length(s) == descriptors;
-    let informed = le::read64(s, 56) == information;
-    let summed = (le::read16(s, 10) as u32) == 160 + attribute_length(s) + descriptors;
-    described & (informed & summed)
+    attribute_length(s) == attributes
+        && described_length(s) == descriptors
+        && le::read64(s, 56) == information
+        && u64::from(le::read16(s, 10)) == 160 + u64::from(attributes) + u64::from(descriptors)
 }
 
 fn measured(s: &[u8]) -> bool
     requires { (length s.now ≡ sector_length) × (whole_length s.now < sector_length) }
     ensures { result ≡ measured s.now }
 {
+    let attributes = attribute_length(s);
     let length = described_length(s);
-    if is_embedded(s) {
-        return lengths_held(s, length, length as u64);
+    match allocation_type(s) {
+        3 => lengths_held(s, attributes, length, u64::from(length)),
+        0 => {
+            let at = start(s);
+            let own = own_count(s);
+            (1..=MOST_OWN).contains(&own)
+                && lengths_held(s, attributes, 8 * own, extent::total_length(s, at, own))
+        }
+        _ => false,
     }
-    let own = own_count(s);
-    if own == 0 {
-        return false;
-    }
-    if MOST_OWN < own {
-        return false;
-    }
-    let lengths = lengths_held(s, 8 * own, extent::total_length(s, start(s), own));
-    is_outside(s) & lengths
 }
 
-// How many blocks there are up to the one named: 0 where none is. So one comparison is enough for each entry.
+// How many blocks there are up to the one named: 0 where none is, to which the number for none wraps. So one comparison is enough for each entry.
 fn up_to(x: u32) -> u32
     ensures { (b : ℕ) → leb result b ≡ unused_or_below b x }
 {
-    if x == UNUSED {
-        return 0;
-    }
-    x + 1
+    x.wrapping_add(1)
 }
 
 // The number less 2^31. Signed numbers are compared in the same order, and four of them at once: plain x86-64 has no such comparison of unsigned ones.
 fn lowered(x: u32) -> i32
     ensures { result ≡ pos x -ℤ pos 2147483648 }
 {
-    if x < 2147483648 {
-        return (x as i32) + LEAST;
-    }
-    (x - 2147483648) as i32
+    x.wrapping_sub(1 << 31).cast_signed()
 }
 
 // A block that a sector at block b may name.
@@ -181,17 +170,12 @@ pub fn tagged(s: &[u8]) -> bool
 }
 
 // The ICB of a table, but for the sums.
+#[tactic(auto, unfolding(crate::specs::Table::framed))]
 pub fn framed(s: &[u8], b: u32) -> bool
     requires { length s.now ≡ sector_length }
     ensures { result ≡ framed s.now b }
 {
-    if !plain_held(s, b) {
-        return false;
-    }
-    if !placed(s) {
-        return false;
-    }
-    measured(s)
+    plain_held(s, b) && placed(s) && measured(s)
 }
 
 // How many bytes the table has, as the ICB tells.
@@ -203,6 +187,7 @@ pub fn information_length(s: &[u8]) -> u32
 }
 
 // The bytes behind the attributes.
+#[tactic(auto, unfolding(crate::specs::Table::inside))]
 pub fn table(s: &[u8]) -> &[u8]
     requires { (length s.now ≡ sector_length) × (whole_length s.now < sector_length) }
     ensures { result.now ≡ inside s.now }
@@ -216,12 +201,10 @@ pub fn table(s: &[u8]) -> &[u8]
 pub fn count_entries(length: u32) -> u32
     ensures { result ≡ (length - 36) / 4 }
 {
-    if length < 36 {
-        return 0;
-    }
-    (length - 36) / 4
+    length.saturating_sub(36) / 4
 }
 
+#[tactic(auto, unfolding(crate::specs::Table::entry_count))]
 pub fn entry_count(t: &[u8]) -> u32
     requires { length t.now < sector_length }
     ensures { result ≡ entry_count t.now }
@@ -229,6 +212,7 @@ pub fn entry_count(t: &[u8]) -> u32
     count_entries(t.len() as u32)
 }
 
+#[tactic(auto, unfolding(crate::specs::Table::entry_count, crate::specs::Table::previous_of))]
 pub fn previous(t: &[u8]) -> u32
     requires { (36 ≤ length t.now) × (length t.now < sector_length) }
     ensures { result ≡ previous_of t.now }
@@ -237,18 +221,15 @@ pub fn previous(t: &[u8]) -> u32
 }
 
 // All of a table but its entries. The length first: what stands behind the entries is then there.
+#[tactic(auto, unfolding(crate::specs::Table::enclosed, crate::specs::Table::table_name))]
 pub fn enclosed(t: &[u8], b: u32) -> bool
     requires { length t.now < sector_length }
     ensures { result ≡ enclosed t.now b }
 {
     let regid = 4 * (entry_count(t) as usize);
-    if t.len() != regid + 36 {
-        return false;
-    }
-    let name = TABLE_NAME;
-    let named = le::run::holds_text(t, regid + 1, &name);
-    let backward = may_name(b, previous(t));
-    named & backward
+    t.len() == regid + 36
+        && le::run::holds_text(t, regid + 1, &TABLE_NAME)
+        && may_name(b, previous(t))
 }
 
 // The n numbers from place `at` on may all be named by a sector at block b. With no early exit, since nearly always every one passes; two of them in a turn,
@@ -260,12 +241,10 @@ pub fn words_held(s: &[u8], at: usize, n: u32, b: u32) -> bool
     let half = (n / 2) as usize;
     let turns = (n as usize) - half;
     let mut held = true;
-    let mut i: usize = 0;
-    while i < turns {
+    for i in 0..turns {
         let one = may_name(b, le::read32(s, at + 4 * i));
         let other = may_name(b, le::read32(s, at + 4 * (half + i)));
-        held = held & (one & other);
-        i += 1;
+        held &= one & other;
     }
     held
 }

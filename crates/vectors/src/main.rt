@@ -19,10 +19,6 @@ const OWN_BLOCKS: [u32; 8] = [
     290000, 290003, 290006, 290009, 290012, 290015, 290018, 290021,
 ];
 
-fn say(rt: &impl Print, text: &[u8]) -> io::Result<()> {
-    rt.write_all(text)
-}
-
 fn show_crc(rt: &impl Print, s: &[u8]) -> io::Result<()> {
     println!(rt; "crc {:04x}", crc::crc(s))
 }
@@ -31,80 +27,56 @@ fn show_crc(rt: &impl Print, s: &[u8]) -> io::Result<()> {
 fn ramp(s: &mut [u8])
     ensures { length s.new ≡ length s.old }
 {
-    let mut i = 0;
-    let mut x: u8 = 7;
-    while i < s.len() {
-        s[i] = x;
-        x = (((x as u32) + 31) % 256) as u8;
-        i += 1;
+    let mut next: u8 = 7;
+    for x in s.iter_mut() {
+        *x = next;
+        next = next.wrapping_add(31);
     }
-}
-
-fn show_byte(rt: &impl Print, x: u8) -> io::Result<()> {
-    print!(rt; "{x:02x}")
 }
 
 // A sector's 64 rows of 32 bytes.
 fn show_rows(rt: &impl Print, s: &[u8]) -> io::Result<()> {
-    let mut i = 0;
-    while i < s.len() {
-        show_byte(rt, s[i])?;
-        i += 1;
-        if i % 32 == 0 {
-            say(rt, b"\n")?;
+    for row in s.chunks(32) {
+        for x in row {
+            print!(rt; "{x:02x}")?;
         }
+        println!(rt;)?;
     }
     Ok(())
 }
 
 // A table's bytes at block b.
 fn is_listed(t: &[u8], b: u32) -> bool {
-    if t.len() >= 2048 {
-        return false;
-    }
-    if !enclosed(t, b) {
-        return false;
-    }
-    words_held(t, 0, entry_count(t), b)
+    t.len() < 2048 && enclosed(t, b) && words_held(t, 0, entry_count(t), b)
 }
 
 // A sector's sums, if its body lies in it.
 fn is_sealed(s: &[u8]) -> bool {
-    if s.len() != 2048 {
-        return false;
-    }
-    if 2032 < le::read16(s, 10) {
-        return false;
-    }
-    tag::sealed(s)
+    s.len() == 2048 && le::read16(s, 10) <= 2032 && tag::sealed(s)
 }
 
 // A sector is the ICB of a table at block b that stands in it.
 fn is_table(s: &[u8], b: u32) -> bool {
-    if s.len() != 2048 {
-        return false;
-    }
-    if !placed(s) {
-        return false;
-    }
-    framed(s, b) & is_embedded(s) & is_listed(table(s), b) & is_sealed(s)
+    s.len() == 2048
+        && placed(s)
+        && framed(s, b)
+        && is_embedded(s)
+        && is_listed(table(s), b)
+        && is_sealed(s)
 }
 
 fn show_test(rt: &impl Print, kind: u8, s: &[u8], b: u32) -> io::Result<()> {
-    print!(rt; "kind {kind} at {b}")?;
-    if (kind == 1) & is_table(s, b) {
-        say(rt, b": table\n")
+    let found = if kind == 1 && is_table(s, b) {
+        "table"
     } else {
-        say(rt, b": none\n")
-    }
+        "none"
+    };
+    println!(rt; "kind {kind} at {b}: {found}")
 }
 
 // The table of a sector of 2048 bytes.
 fn show_map(rt: &impl Print, s: &[u8]) -> io::Result<()> {
-    if s.len() != 2048 {
-        return Ok(());
-    }
-    if !placed(s) {
+    if s.len() != 2048 || !placed(s) {
         return Ok(());
     }
     show_table(rt, table(s))
@@ -112,37 +84,27 @@ fn show_map(rt: &impl Print, s: &[u8]) -> io::Result<()> {
 
 // What a table's bytes hold: their count, their entries and their previous table.
 fn show_table(rt: &impl Print, t: &[u8]) -> io::Result<()> {
-    if t.len() < 36 {
-        return Ok(());
-    }
-    if t.len() >= 2048 {
+    if t.len() < 36 || 2048 <= t.len() {
         return Ok(());
     }
     let n = entry_count(t);
     print!(rt; "count {n}")?;
-    let mut i = 0;
-    while i < n {
-        print!(rt; " {:08x}", le::read32(t, 4 * (i as usize)))?;
-        i += 1;
+    for i in 0..n as usize {
+        print!(rt; " {:08x}", le::read32(t, 4 * i))?;
     }
     println!(rt; " previous {:08x}", previous(t))
 }
 
 fn third(i: usize) -> u32 {
-    if i % 3 == 0 {
-        return UNUSED;
-    }
-    (i % 458) as u32
+    if i % 3 == 0 { UNUSED } else { (i % 458) as u32 }
 }
 
 // A full map: every third entry unused, the others counting up, from 0 again after every 458, so that each is below the block of any table made here.
 fn fill(map: &mut [u32])
     ensures { length map.new ≡ length map.old }
 {
-    let mut i = 0;
-    while i < map.len() {
-        map[i] = third(i);
-        i += 1;
+    for (i, x) in map.iter_mut().enumerate() {
+        *x = third(i);
     }
 }
 
@@ -160,11 +122,9 @@ fn crcs(rt: &impl Print) -> io::Result<()> {
 
 // The CRC of the first n bytes, for every n from none to all.
 fn show_lengths(rt: &impl Print, s: &[u8]) -> io::Result<()> {
-    let mut n = 0;
-    while n <= s.len() {
+    for n in 0..=s.len() {
         print!(rt; "length {n} ")?;
-        show_crc(rt, &s[0..n])?;
-        n += 1;
+        show_crc(rt, &s[..n])?;
     }
     Ok(())
 }
@@ -177,7 +137,7 @@ fn changed_crc(body: &mut [u8], at: usize, mask: u8) -> u16
         return 0;
     }
     let byte = body[at];
-    body[at] = byte ^ mask;
+    body[at] ^= mask;
     let c = crc::crc(body);
     body[at] = byte;
     c
@@ -189,22 +149,17 @@ fn changed_crcs(body: &mut [u8], at: usize) -> u64
     ensures { length body.new ≡ length body.old }
 {
     let mut crcs: u64 = 0;
-    let mut mask: u64 = 1;
-    while mask < 256 {
-        let c = changed_crc(body, at, mask as u8);
-        crcs = (crcs * 65536 + (c as u64)) % PRIME;
-        mask += 1;
+    for mask in 1..=u8::MAX {
+        crcs = (crcs * 65536 + u64::from(changed_crc(body, at, mask))) % PRIME;
     }
     crcs
 }
 
 // Every change of one byte of a table sector's body, which starts at the sector's byte 16.
 fn show_changes(rt: &impl Print, body: &mut [u8]) -> io::Result<()> {
-    let mut i = 0;
-    while i < body.len() {
+    for i in 0..body.len() {
         let crcs = changed_crcs(body, i);
-        println!(rt; "byte {} crcs {crcs:08x}", 16 + (i as u64))?;
-        i += 1;
+        println!(rt; "byte {} crcs {crcs:08x}", 16 + i)?;
     }
     Ok(())
 }
@@ -222,24 +177,17 @@ fn show_tests(rt: &impl Print, s: &[u8]) -> io::Result<()> {
 
 // The table sector of a map, whose entries are taken from bytes. If they do not fit into it, it names the first of the blocks for own sectors.
 fn make_table(sector: &mut [u8], map: &[u32], previous: u32, stamp: &[u8], b: u32) {
-    if sector.len() != 2048 {
-        return;
-    }
-    if 4087 < map.len() {
-        return;
-    }
-    if stamp.len() != 12 {
+    if sector.len() != 2048 || 4087 < map.len() || stamp.len() != 12 {
         return;
     }
     let mut entries = [0u8; 16348];
     le::run::put_words(&mut entries, 0, map);
-    let blocks = OWN_BLOCKS;
     vat::sector::record(
         sector,
         &entries,
         map.len() as u32,
         previous,
-        &blocks,
+        &OWN_BLOCKS,
         stamp,
         b,
     );
@@ -274,7 +222,7 @@ fn show_stamp(rt: &impl Print, s: &[u8]) -> io::Result<()> {
         return Ok(());
     }
     if !timestamp::valid(s) {
-        return say(rt, b"stamp: wrong\n");
+        return println!(rt; "stamp: wrong");
     }
     let mut told = [0u8; 8];
     timestamp::tell(s, &mut told);
@@ -287,18 +235,18 @@ fn show_stamp(rt: &impl Print, s: &[u8]) -> io::Result<()> {
 
 // Half past midnight on 1 January 1970 with zone 60 and with none given; the last minute of 2099 at both ends of the zone; 29 February of 2000 and 2099.
 fn stamps(rt: &impl Print) -> io::Result<()> {
-    show_stamp(rt, &[0x3C, 0x10, 0xB2, 0x07, 1, 1, 0, 30, 0, 0, 0, 0])?;
-    show_stamp(rt, &[0x01, 0x18, 0xB2, 0x07, 1, 1, 0, 30, 0, 0, 0, 0])?;
-    show_stamp(
-        rt,
-        &[0xA0, 0x15, 0x33, 0x08, 12, 31, 23, 59, 59, 99, 99, 99],
-    )?;
-    show_stamp(
-        rt,
-        &[0x60, 0x1A, 0x33, 0x08, 12, 31, 23, 59, 59, 99, 99, 99],
-    )?;
-    show_stamp(rt, &[0x00, 0x10, 0xD0, 0x07, 2, 29, 12, 0, 0, 0, 0, 0])?;
-    show_stamp(rt, &[0x00, 0x10, 0x33, 0x08, 2, 29, 12, 0, 0, 0, 0, 0])
+    let stamps = [
+        [0x3C, 0x10, 0xB2, 0x07, 1, 1, 0, 30, 0, 0, 0, 0],
+        [0x01, 0x18, 0xB2, 0x07, 1, 1, 0, 30, 0, 0, 0, 0],
+        [0xA0, 0x15, 0x33, 0x08, 12, 31, 23, 59, 59, 99, 99, 99],
+        [0x60, 0x1A, 0x33, 0x08, 12, 31, 23, 59, 59, 99, 99, 99],
+        [0x00, 0x10, 0xD0, 0x07, 2, 29, 12, 0, 0, 0, 0, 0],
+        [0x00, 0x10, 0x33, 0x08, 2, 29, 12, 0, 0, 0, 0, 0],
+    ];
+    for stamp in &stamps {
+        show_stamp(rt, stamp)?;
+    }
+    Ok(())
 }
 
 // The table sector `plain`, which has no attributes, with so many bytes of them before its table.
@@ -310,9 +258,8 @@ fn put_behind(s: &mut [u8], plain: &[u8], attributes: usize)
     le::run::put_text(s, 0, &plain[0..176]);
     le::run::put_text(s, 176 + attributes, &plain[176..2048 - attributes]);
     le::put32(s, 168, attributes as u32);
-    let summed = (le::read16(plain, 10) as usize) + attributes;
-    le::put16(s, 10, (summed % 65536) as u16);
-    if (le::read16(s, 10) as usize) <= 2032 {
+    le::put16(s, 10, le::read16(plain, 10).wrapping_add(attributes as u16));
+    if le::read16(s, 10) <= 2032 {
         tag::seal(s);
     }
 }
@@ -351,12 +298,12 @@ fn show_tag(rt: &impl Print, s: &[u8], b: u32) -> io::Result<()> {
     if s.len() != 2048 {
         return Ok(());
     }
-    print!(rt; "tag at {b}")?;
-    if anchor::tagged(s, b) {
-        say(rt, b": pointer\n")
+    let found = if anchor::tagged(s, b) {
+        "pointer"
     } else {
-        say(rt, b": none\n")
-    }
+        "none"
+    };
+    println!(rt; "tag at {b}: {found}")
 }
 
 // A closing's pointer with tag location 401,491: at both ends of the blocks where its tag is one, one further, and with a bit of its checksum changed.
@@ -384,26 +331,22 @@ fn pointer(rt: &impl Print) -> io::Result<()> {
 
 // The sector judged as the entry of a run at a block, on a disc with these kinds.
 fn show_run(rt: &impl Print, kinds: &[u8], s: &[u8], b: u32) -> io::Result<()> {
-    if s.len() != 2048 {
+    if s.len() != 2048 || kinds.len() < b as usize {
         return Ok(());
     }
-    if kinds.len() < (b as usize) {
-        return Ok(());
-    }
-    print!(rt; "entry at {b}")?;
     if run::entry::is_entry(kinds, s, b) {
-        println!(rt; ": run of {}", run::entry::information_length(s))
+        println!(rt;
+            "entry at {b}: run of {}",
+            run::entry::information_length(s)
+        )
     } else {
-        say(rt, b": none\n")
+        println!(rt; "entry at {b}: none")
     }
 }
 
 // Of the entry for extents, length and block by turns, what is worked out: the checksum, the CRC and its length, and the information length.
 fn show_entry(rt: &impl Print, words: &[u32], b: u32) -> io::Result<()> {
-    if words.len() % 2 != 0 {
-        return Ok(());
-    }
-    if 200 < words.len() {
+    if words.len() % 2 != 0 || 200 < words.len() {
         return Ok(());
     }
     let mut sector = [0u8; 2048];
@@ -421,7 +364,7 @@ fn show_entry(rt: &impl Print, words: &[u32], b: u32) -> io::Result<()> {
 // The entry of a run of three extents, at its block, at another, and with the last extent's sector unreadable; and what is worked out in others.
 fn runs(rt: &impl Print) -> io::Result<()> {
     let mut sector = [0u8; 2048];
-    let three: [u32; 6] = [4096, 3, 2048, 10, 1000, 12];
+    let three = [4096, 3, 2048, 10, 1000, 12];
     ramp(&mut sector);
     run::sector::record(&mut sector, &three, 20);
     show_rows(rt, &sector)?;
@@ -431,13 +374,11 @@ fn runs(rt: &impl Print) -> io::Result<()> {
     kinds[12] = 3;
     show_run(rt, &kinds, &sector, 20)?;
     show_entry(rt, &three, 20)?;
-    let one: [u32; 2] = [1, 0];
-    show_entry(rt, &one, 1)?;
+    show_entry(rt, &[1, 0], 1)?;
     let mut many = [0u32; 200];
     fill(&mut many);
     show_entry(rt, &many, 300000)?;
-    let long: [u32; 4] = [737275904, 0, 1, 359998];
-    show_entry(rt, &long, 359999)
+    show_entry(rt, &[737275904, 0, 1, 359998], 359999)
 }
 
 fn show_own_count(rt: &impl Print, n: u32) -> io::Result<()> {
@@ -449,27 +390,15 @@ fn show_own_count(rt: &impl Print, n: u32) -> io::Result<()> {
 
 // Both sides of the limits of the ICB and of one own sector, two full own sectors, and the largest table.
 fn own_counts(rt: &impl Print) -> io::Result<()> {
-    show_own_count(rt, 0)?;
-    show_own_count(rt, 458)?;
-    show_own_count(rt, 459)?;
-    show_own_count(rt, 503)?;
-    show_own_count(rt, 504)?;
-    show_own_count(rt, 1015)?;
-    show_own_count(rt, 4087)
+    for n in [0, 458, 459, 503, 504, 1015, 4087] {
+        show_own_count(rt, n)?;
+    }
+    Ok(())
 }
 
 // The CRC of own sector i of the table of n entries, which are taken from bytes.
 fn show_own(rt: &impl Print, entries: &[u8], n: usize, i: usize) -> io::Result<()> {
-    if 4087 < n {
-        return Ok(());
-    }
-    if entries.len() < 4 * n {
-        return Ok(());
-    }
-    if 7 < i {
-        return Ok(());
-    }
-    if 4 * n + 36 <= 2048 * i {
+    if 4087 < n || entries.len() < 4 * n || 7 < i || 4 * n + 36 <= 2048 * i {
         return Ok(());
     }
     let mut sector = [0u8; 2048];
@@ -486,18 +415,8 @@ fn show_all_own(rt: &impl Print, map: &[u32]) -> io::Result<()> {
     }
     let mut entries = [0u8; 16348];
     le::run::put_words(&mut entries, 0, map);
-    show_each_own(rt, &entries, map.len())
-}
-
-fn show_each_own(rt: &impl Print, entries: &[u8], n: usize) -> io::Result<()> {
-    if 4087 < n {
-        return Ok(());
-    }
-    let own = vat::own::own_count(n as u32) as usize;
-    let mut i = 0;
-    while i < own {
-        show_own(rt, entries, n, i)?;
-        i += 1;
+    for i in 0..vat::own::own_count(map.len() as u32) as usize {
+        show_own(rt, &entries, map.len(), i)?;
     }
     Ok(())
 }

@@ -2,7 +2,7 @@
 -- Assumes nothing.
 use Prim.Native.Nat.{ℕ, zero, suc, ◌*◌, ◌≤◌, ◌<◌}
 use native.Mathlib.Omega.{arith}
-use mathlib.Core.Path.{◌≡◌, refl, sym, ap, ◌∙◌}
+use mathlib.Core.Path.{◌≡◌, refl, sym, ap, ap₂, ◌∙◌}
 use mathlib.Core.Bool.{Bool, true, false, ◌&&◌, and-true, not}
 use mathlib.Core.List.{List, [], ◌∷◌, ◌++◌}
 use lib.Dec.{eqb}
@@ -21,22 +21,6 @@ use Rattle.run.specs.View.{most_viewed, buffer_lent, run_tests, shown_from, fill
 
 abbrev asked : Bool → Bool → Bool → Bool → Bool → Bool → List Test
 asked a b c e f g = test 1 a ∷ test 2 b ∷ test 3 c ∷ test 4 e ∷ test 10 f ∷ test 11 g ∷ []
-
--- 1 comes before the lengths
-first_one : (a b b' c e f g : Bool) (rest : List Test) → first (asked a b c e f g) ≡ 1 → first (asked a b' c e f g ++ rest) ≡ 1
-unfolding first
-first_one true b b' c e f g rest z = refl
-first_one false true b' c e f g rest z = absurd (omega arith)
-first_one false false b' true e f g rest z = absurd (omega arith)
-first_one false false b' false true f g rest z = absurd (omega arith)
-first_one false false b' false false true g rest z = absurd (omega arith)
-first_one false false b' false false false true rest z = absurd (omega arith)
-first_one false false b' false false false false rest z = absurd (omega arith)
-
-then-two : (a b c e f g : Bool) (rest : List Test) → (first (asked a b c e f g) ≡ 1 → ⊥) → first (asked a true c e f g ++ rest) ≡ 2
-unfolding first
-then-two true b c e f g rest n = absurd (n refl)
-then-two false b c e f g rest n = refl
 
 -- ---- a view, beside a read that is lent a whole block
 
@@ -60,23 +44,22 @@ module _ (d : Disc) (l : List ℕ) (n : ℕ) (offset : ℕ) (buffer : List ℕ) 
   fitting : length buffer ≤ most_viewed → buffer_lent l buffer ≡ ledger_lent l
   fitting h = ap (λ (t : Bool). ledger_lent l && t) (le-leb (length buffer) most_viewed h) ∙ and-true (ledger_lent l)
 
+  -- 1 and 2 are asked before anything is read
+  pub view-1 : sized d ≡ false → view_outcome d l n offset buffer ≡ 1
+  unfolding first
+  view-1 e = viewed ∙ ap (λ (t : Bool). first (asked (not t) (not (buffer_lent l buffer)) (not (in_order d.kinds)) (not (fits d (unpack l))) (not_in_use (unpack l) n) (not (eqb (kind_at d (block_of (unpack l) n)) 1)) ++ rest)) e
+
+  pub view-2 : sized d ≡ true → most_viewed < length buffer → view_outcome d l n offset buffer ≡ 2
+  unfolding first
+  view-2 e long =
+      let short : buffer_lent l buffer ≡ false = ap (λ (t : Bool). ledger_lent l && t) (lt-leb (length buffer) most_viewed long) ∙ no_room_lem (ledger_lent l) in
+      viewed
+      ∙ ap₂ (λ (t u : Bool). first (asked (not t) (not u) (not (in_order d.kinds)) (not (fits d (unpack l))) (not_in_use (unpack l) n) (not (eqb (kind_at d (block_of (unpack l) n)) 1)) ++ rest)) e short
+
   module _ (block : List ℕ) (whole : length block ≡ sector_length) where
     reads : outcome d l (read n block) ≡ first (found (ledger_lent l))
     unfolding outcome tests
     reads = ap (λ (t : Bool). first (found t)) (ap (λ (t : Bool). ledger_lent l && t) (eq-eqb (length block) sector_length whole) ∙ and-true (ledger_lent l))
-
-    pub view-1 : outcome d l (read n block) ≡ 1 → view_outcome d l n offset buffer ≡ 1
-    view-1 e =
-        viewed
-        ∙ first_one (not (sized d)) (not (ledger_lent l)) (not (buffer_lent l buffer)) (not (in_order d.kinds)) (not (fits d (unpack l))) (not_in_use (unpack l) n)
-        (not (eqb (kind_at d (block_of (unpack l) n)) 1)) rest (sym reads ∙ e)
-
-    pub view-2 : (outcome d l (read n block) ≡ 1 → ⊥) → most_viewed < length buffer → view_outcome d l n offset buffer ≡ 2
-    view-2 other long =
-        let short : buffer_lent l buffer ≡ false = ap (λ (t : Bool). ledger_lent l && t) (lt-leb (length buffer) most_viewed long) ∙ no_room_lem (ledger_lent l) in
-        viewed ∙ ap (λ (t : Bool). first (found t ++ rest)) short
-        ∙ then-two (not (sized d)) (not (ledger_lent l)) (not (in_order d.kinds)) (not (fits d (unpack l))) (not_in_use (unpack l) n)
-        (not (eqb (kind_at d (block_of (unpack l) n)) 1)) rest (λ e. other (reads ∙ e))
 
     pub view-stopped : (outcome d l (read n block) ≡ 0 → ⊥) → length buffer ≤ most_viewed → view_outcome d l n offset buffer ≡ outcome d l (read n block)
     view-stopped other short =

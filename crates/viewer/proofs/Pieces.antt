@@ -115,11 +115,6 @@ Filled buffer₀ all d es buffer skip filled =
     × (drop filled buffer ≡ drop filled buffer₀)
     × (take filled buffer ++ take (length buffer₀ - filled) (drop skip (run_bytes d es)) ≡ all)
 
-pub filled-start : (buffer : List ℕ) (d : Disc) (es : List Extent) (offset : ℕ) → Filled buffer (take (length buffer) (drop offset (run_bytes d es))) d es buffer offset 0
-filled-start buffer d es offset =
-    let z : length buffer - 0 ≡ length buffer = omega arith in
-    (refl, omega arith, refl, ap (λ (k : ℕ). take k (drop offset (run_bytes d es))) z)
-
 module _ (buffer₀ all : List ℕ) (d : Disc) (e : Extent) (es : List Extent) (inside : sector_length * e.location + e.length ≤ length d.image) where
   pub filled-turn : (buffer : List ℕ) (skip filled : ℕ) → Filled buffer₀ all d (e ∷ es) buffer skip filled → (r : ℕ) (buffer' : List ℕ)
       → let given : List ℕ = take (length buffer - filled) (drop skip (extent_bytes d e)) in

@@ -6,10 +6,12 @@ ghost use Rattle.std.specs.Prelude.{◌≡◌, true, List, [], ◌++◌, ℕ, �
 ghost use Rattle.vat.specs.Table.{sector_length};
 ghost use Rattle.disc.specs.Disc.{lent};
 ghost use Rattle.recorder.specs.Effects.{left};
+ghost use Rattle.recorder.specs.Refused.{answer_of};
 ghost use Rattle.run.specs.Entry.{extents_of, is_entry, extent_bytes, run_bytes};
 ghost use Rattle.run.specs.View.{filled_with, view};
 
 use extent::Extent;
+use recorder::Refusal;
 use vat::table::SECTOR;
 
 const MOST_VIEWED: usize = 65536;
@@ -18,26 +20,14 @@ const MOST_VIEWED: usize = 65536;
 fn piece(length: u32, skip: u64, room: usize) -> usize
     ensures { result ≡ min room (length - skip) }
 {
-    let whole = length as u64;
-    if whole <= skip {
-        return 0;
-    }
-    let rest = (whole - skip) as usize;
-    if room < rest {
-        return room;
-    }
-    rest
+    room.min(u64::from(length).saturating_sub(skip) as usize)
 }
 
 // What is still to be skipped behind an extent.
 fn behind(skip: u64, length: u32) -> u64
     ensures { result ≡ skip - length }
 {
-    let whole = length as u64;
-    if skip < whole {
-        return 0;
-    }
-    skip - whole
+    skip.saturating_sub(u64::from(length))
 }
 
 // Of one extent, behind what is filled already; the answer is how far the buffer is filled then.
@@ -62,18 +52,16 @@ fn show(image: &[u8], entry: &[u8], offset: u64, buffer: &mut [u8]) -> usize
 {
     let count = run::entry::extent_count(entry) as usize;
     let mut skip = offset;
-    let mut filled: usize = 0;
-    let mut i: usize = 0;
-    while i < count {
+    let mut filled = 0;
+    for i in 0..count {
         let e = run::entry::extent(entry, i);
         filled = show_extent(image, e, skip, buffer, filled);
         skip = behind(skip, e.length);
-        i += 1;
     }
     filled
 }
 
-// A read of the same number is asked the same before 19; only the buffer's length, 2, comes in between.
+// A read of the same number is asked the same before 19; only the buffer's length comes in between, as 2.
 pub fn view(
     image: &[u8],
     kinds: &[u8],
@@ -81,25 +69,22 @@ pub fn view(
     v: u32,
     offset: u64,
     buffer: &mut [u8],
-) -> u64
-    ensures { left result image.now kinds.now ledger.now buffer.new ≡ view (lent image.now kinds.now) ledger.now v offset buffer.old }
+) -> Result<u32, Refusal>
+    ensures { left (answer_of result) image.now kinds.now ledger.now buffer.new ≡ view (lent image.now kinds.now) ledger.now v offset buffer.old }
 {
-    let mut entry = [0u8; 2048];
-    let answer = sector_log::read(image, kinds, ledger, v, &mut entry);
-    if answer == sector_log::refusal(1) {
-        return answer;
+    if !disc::kinds::sized(image, kinds) {
+        return Err(Refusal::DiscSize);
     }
     if MOST_VIEWED < buffer.len() {
-        return sector_log::refusal(2);
+        return Err(Refusal::LentLength);
     }
-    if answer != 0 {
-        return answer;
-    }
+    let mut entry = [0u8; SECTOR];
+    sector_log::read(image, kinds, ledger, v, &mut entry)?;
     if !run::entry::is_entry(kinds, &entry, volume::ledger::entry(ledger, v)) {
-        return sector_log::refusal(19);
+        return Err(Refusal::NotARun);
     }
     if run::entry::information_length(&entry) < offset {
-        return sector_log::refusal(20);
+        return Err(Refusal::BeyondTheRun);
     }
-    show(image, &entry, offset, buffer) as u64
+    Ok(show(image, &entry, offset, buffer) as u32)
 }

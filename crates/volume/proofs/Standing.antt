@@ -7,7 +7,7 @@ use native.Mathlib.Omega.{arith}
 use mathlib.Core.Path.{◌≡◌, refl, sym, ap, ap₂, ◌∙◌}
 use mathlib.Core.List.{List, [], ◌∷◌, ◌++◌, append_assoc}
 use mathlib.Core.Logic.{inl}
-use mathlib.Core.Option.{none, some}
+use Rattle.std.specs.Prelude.{None, Some}
 use lib.ListN.{length, take, drop, set, replicate, length-append, length-replicate, take-append-drop}
 use lib.Seq.{sets, sets-eq, length-take-le}
 use Rattle.le.specs.Field.{le, put_le, leading_words, words, le_words}
@@ -67,11 +67,11 @@ entry-put l n x h long f =
 
 -- ---- the entries after each call
 
-pub entries-wrote : (v : Volume) (n b : ℕ) → (wrote (some n) b v).entries ≡ set v.entries n b
+pub entries-wrote : (v : Volume) (n b : ℕ) → (wrote (Some n) b v).entries ≡ set v.entries n b
 unfolding wrote
 entries-wrote v n b = refl
 
-pub entries-unnumbered : (v : Volume) (b : ℕ) → (wrote none b v).entries ≡ v.entries
+pub entries-unnumbered : (v : Volume) (b : ℕ) → (wrote None b v).entries ≡ v.entries
 unfolding wrote
 entries-unnumbered v b = refl
 

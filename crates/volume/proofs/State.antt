@@ -5,7 +5,7 @@ use native.Mathlib.Nat.{add-zero, pow-suc}
 use native.Mathlib.Omega.{arith}
 use mathlib.Core.Path.{◌≡◌, refl, sym, ap, ap₂, ◌∙◌, subst}
 use mathlib.Core.Bool.{Bool, true, false}
-use mathlib.Core.Option.{Option, none, some}
+use Rattle.std.specs.Prelude.{Option, None, Some}
 use mathlib.Core.List.{List, [], ◌∷◌, ◌++◌, append-nil}
 use lib.Dec.{eqb, lit<}
 use lib.ListN.{length, get_or, take, drop, set, replicate, length-set, length-append, length-replicate, length-drop, take-append-drop}
@@ -193,7 +193,7 @@ grown-le false n = omega arith
 module _ (v : Volume) (ok : Proper v) where
   pub proper-wrote : (n : Option ℕ) (b : ℕ) → v.size ≤ limit → b < unused → Proper (wrote n b v)
   unfolding wrote
-  proper-wrote none b few h =
+  proper-wrote None b few h =
       record {
         long = ok.long;
         entry-words = ok.entry-words;
@@ -202,7 +202,7 @@ module _ (v : Volume) (ok : Proper v) where
         last_word = ok.last_word;
         mode-word = lit< tt;
       }
-  proper-wrote (some n) b few h =
+  proper-wrote (Some n) b few h =
       record {
         long = length-set v.entries n b ∙ ok.long;
         entry-words = words-set v.entries n b ok.entry-words (omega arith);
@@ -258,7 +258,7 @@ pub map-filled : (map : List ℕ) (b r mode : ℕ) → map_of (filled map b r mo
 unfolding filled
 map-filled map b r mode = take_at map (replicate (places - length map) unused) (length map) refl
 
-pub map-wrote : (v : Volume) (n b : ℕ) → n ≤ v.size → v.size ≤ length v.entries → n < length v.entries → map_of (wrote (some n) b v) ≡ grown_map (eqb n v.size) (map_of v) n b
+pub map-wrote : (v : Volume) (n b : ℕ) → n ≤ v.size → v.size ≤ length v.entries → n < length v.entries → map_of (wrote (Some n) b v) ≡ grown_map (eqb n v.size) (map_of v) n b
 unfolding wrote
 map-wrote v n b le long inside = go (eqb n v.size) refl
   where

@@ -1,6 +1,6 @@
 -- The volume's working state (document 01: the ledger): 16,364 bytes, what they say, when they fit a disc, and what each call makes of them.
 use Rattle.std.specs.Prelude.{ℕ, ◌+◌, ◌-◌, ◌*◌, Bool, true, false, ◌&&◌, ◌||◌, not, List, ◌++◌, eqb, ltb, leb, length, take, drop, set, replicate}
-use Rattle.std.proofs.Math.Option.{Option, none, some}
+use Rattle.std.specs.Prelude.{Option, None, Some}
 use Rattle.le.specs.Bytes.{every}
 use Rattle.le.specs.Field.{le, read_le, words, le_words}
 use Rattle.vat.specs.Table.{limit, unused, unused_or_below}
@@ -76,12 +76,12 @@ grown true size = size + 1
 grown false size = size
 
 abbrev pub entries_with : Option ℕ → ℕ → List ℕ → List ℕ
-entries_with none b entries = entries
-entries_with (some n) b entries = set entries n b
+entries_with None b entries = entries
+entries_with (Some n) b entries = set entries n b
 
 abbrev pub size_with : Option ℕ → ℕ → ℕ
-size_with none size = size
-size_with (some n) size = grown (eqb n size) size
+size_with None size = size
+size_with (Some n) size = grown (eqb n size) size
 
 unfoldable pub wrote : Option ℕ → ℕ → Volume → Volume
 wrote n b v =

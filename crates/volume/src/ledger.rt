@@ -6,7 +6,8 @@ ghost use Rattle.disc.specs.Disc.{lent, sized, leading};
 ghost use Rattle.disc.specs.Tables.{table_at};
 ghost use Rattle.volume.specs.Volume.{places, ledger_length, unpack, pack, packet_open, read_only, fits, filled};
 
-use crate::{PLACES, SIZE_AT};
+use crate::{Mode, PLACES, SIZE_AT};
+use disc::Kind;
 use vat::table::{LIMIT, UNUSED};
 
 pub fn size(l: &[u8]) -> u32
@@ -49,10 +50,7 @@ pub fn last_fits(image: &[u8], kinds: &[u8], last: u32) -> bool
     requires { sized (lent image.now kinds.now) ≡ true }
     ensures { result ≡ (eqb last unused || table_at (lent image.now kinds.now) last) }
 {
-    if last == UNUSED {
-        return true;
-    }
-    disc::tables::table_at(image, kinds, last)
+    last == UNUSED || disc::tables::table_at(image, kinds, last)
 }
 
 // "mode above 2; mode 1 where the last recorded sector is missing or not kind 1" does not apply.
@@ -60,17 +58,9 @@ fn mode_fits(kinds: &[u8], mode: u32, recorded: u32) -> bool
     requires { recorded ≤ length kinds.now }
     ensures { result ≡ (leb mode read_only && (not (eqb mode packet_open) || (ltb 0 recorded && eqb (get_or kinds.now (recorded - 1) 0) 1))) }
 {
-    if 2 < mode {
-        return false;
-    }
-    if mode != 1 {
-        return true;
-    }
-    if recorded == 0 {
-        return false;
-    }
-    let at = (recorded - 1) as usize;
-    kinds[at] == 1
+    mode <= Mode::ReadOnly as u32
+        && (mode != Mode::PacketOpen as u32
+            || (recorded > 0 && kinds[recorded as usize - 1] == Kind::Data as u8))
 }
 
 // `counted` is how many sectors of the disc are recorded.

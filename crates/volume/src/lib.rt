@@ -3,8 +3,7 @@
 
 pub mod ledger;
 
-ghost use Rattle.std.specs.Prelude.{◌≡◌, ◌+◌, ◌≤◌, ◌<◌, length, set};
-ghost use Rattle.std.proofs.Math.Option.{none, some};
+ghost use Rattle.std.specs.Prelude.{◌≡◌, ◌+◌, ◌≤◌, ◌<◌, length, set, IfSome};
 ghost use Rattle.std.proofs.lemmas.List.Edits.{sets};
 ghost use Rattle.le.specs.Field.{le};
 ghost use Rattle.vat.specs.Table.{limit, unused};
@@ -15,11 +14,19 @@ use vat::table::UNUSED;
 // As many map entries as the ledger has places, "then size, recorded, last table, mode, each 32 bits."
 #[derive(Drop)]
 pub struct Volume {
-    pub entries: [u32; 4087],
+    pub entries: [u32; PLACES],
     pub size: u32,
     pub recorded: u32,
     pub last: u32,
     pub mode: u32,
+}
+
+// "Mode is 0 (no packet open), 1 (packet open) or 2 (looking only)." The ledger's field is lent, and may hold any other number.
+#[derive(Clone, Copy, PartialEq, Eq)]
+pub enum Mode {
+    Idle = 0,
+    PacketOpen = 1,
+    ReadOnly = 2,
 }
 
 // How many entries there are.
@@ -32,15 +39,13 @@ pub const SIZE_AT: usize = 16348;
 pub const LEDGER: usize = 16364;
 
 // The entries, through a local array: a state by value inside the loop would be copied at each turn.
-fn load_entries(l: &[u8]) -> [u32; 4087]
+fn load_entries(l: &[u8]) -> [u32; PLACES]
     requires { length l.now ≡ ledger_length }
     ensures { result ≡ (unpack l.now).entries }
 {
-    let mut entries = [0u32; 4087];
-    let mut i: usize = 0;
-    while i < PLACES {
-        entries[i] = le::read32(l, 4 * i);
-        i += 1;
+    let mut entries = [0; PLACES];
+    for (i, entry) in entries.iter_mut().enumerate() {
+        *entry = le::read32(l, 4 * i);
     }
     entries
 }
@@ -100,36 +105,28 @@ impl Volume {
         ensures { result ≡ begun recorded }
     {
         Volume {
-            entries: [UNUSED; 4087],
+            entries: [UNUSED; PLACES],
             size: 0,
-            recorded: recorded,
+            recorded,
             last: UNUSED,
-            mode: 0,
+            mode: Mode::Idle as u32,
         }
-    }
-
-    pub fn wrote(mut self, n: u32, b: u32) -> Volume
-        requires { (n < places) × (b < unused) × (self.size ≤ limit) }
-        ensures { result ≡ wrote (some n) b self }
-    {
-        if n == self.size {
-            self.size = self.size + 1;
-        }
-        self.recorded = b + 1;
-        self.mode = 1;
-        // Last, so that the compiler sees through the entry that is stored.
-        let at = n as usize;
-        self.entries[at] = b;
-        self
     }
 
     // A write without a number leaves the entries and the size.
-    pub fn wrote_unnumbered(mut self, b: u32) -> Volume
-        requires { b < unused }
-        ensures { result ≡ wrote none b self }
+    pub fn wrote(mut self, v: Option<u32>, b: u32) -> Volume
+        requires { IfSome v (λ n. (n < places) × (self.size ≤ limit)) × (b < unused) }
+        ensures { result ≡ wrote v b self }
     {
         self.recorded = b + 1;
-        self.mode = 1;
+        self.mode = Mode::PacketOpen as u32;
+        if let Some(n) = v {
+            if n == self.size {
+                self.size += 1;
+            }
+            // Last, so that the compiler sees through the entry that is stored.
+            self.entries[n as usize] = b;
+        }
         self
     }
 
@@ -137,15 +134,14 @@ impl Volume {
         requires { n < places }
         ensures { result ≡ released n self }
     {
-        let at = n as usize;
-        self.entries[at] = UNUSED;
+        self.entries[n as usize] = UNUSED;
         self
     }
 
     pub fn closed(mut self) -> Volume
         ensures { result ≡ closed self }
     {
-        self.mode = 0;
+        self.mode = Mode::Idle as u32;
         self
     }
 
@@ -155,7 +151,7 @@ impl Volume {
     {
         self.recorded = b + 1;
         self.last = b;
-        self.mode = 1;
+        self.mode = Mode::PacketOpen as u32;
         self
     }
 }

@@ -1,34 +1,19 @@
 -- `client::forget` meets its contract: a mount, a release, and a commit.
 -- Assumes nothing.
-use mathlib.Core.Path.{◌≡◌, ◌∙◌}
-use mathlib.Core.Option.{none}
-use mathlib.Core.List.{List, [], ◌∷◌}
-use Rattle.recorder.specs.Calls.{Call, mount, release, commit}
-use Rattle.client.specs.Day.{Day, ended, morning, day}
-use Rattle.client.proofs.Days.{one, stops, goes_on}
+use native.Mathlib.Omega.{arith}
+use Rattle.std.proofs.Common.{rules}
+use Rattle.client.proofs.Days.{then-called, stops}
 use Rattle.client.proofs.forget.Goals as goal
 
-pub returns-then-opened-ge-REFUSED : goal.returns-then-opened-ge-REFUSED
-returns-then-opened-ge-REFUSED c =
-    let X : Day = morning c.args.image.now c.args.kinds.now c.args.roles.now c.args.ledger.now in
-    let first_part : List Call = mount ∷ [] in
-    let begun : ended c.open_disc-opened.result c.args.image.now c.args.kinds.now c.open_disc-opened.new.roles c.open_disc-opened.new.ledger ≡ day X first_part = c.open_disc-opened.ensures in
-    stops X first_part (release c.args.v ∷ commit none ∷ []) begun c.if-opened-ge-REFUSED.true
+pub returns-in_err-open_disc : goal.returns-in_err-open_disc
+returns-in_err-open_disc c = stops _ _ _ _ c.in_err-open_disc.ensures c.from_residual.result (search rules)
 
-pub returns-then-released-ge-REFUSED : goal.returns-then-released-ge-REFUSED
-returns-then-released-ge-REFUSED c =
-    let X : Day = morning c.args.image.now c.args.kinds.now c.args.roles.now c.args.ledger.now in
-    let first_part : List Call = mount ∷ [] in
-    let second-part : List Call = mount ∷ release c.args.v ∷ [] in
-    let begun : ended c.open_disc-opened.result c.args.image.now c.args.kinds.now c.open_disc-opened.new.roles c.open_disc-opened.new.ledger ≡ day X first_part = c.open_disc-opened.ensures in
-    let followed : ended c.release-released.result c.args.image.now c.args.kinds.now c.release-released.new.roles c.release-released.new.ledger ≡ day X second-part = one c.args.image.now c.args.kinds.now c.open_disc-opened.new.roles c.open_disc-opened.new.ledger (release c.args.v) c.release-released.ensures ∙ goes_on X first_part [] begun (release c.args.v) c.if-opened-ge-REFUSED.false in
-    stops X second-part (commit none ∷ []) followed c.if-released-ge-REFUSED.true
+pub returns-in_err-release : goal.returns-in_err-release
+returns-in_err-release c =
+    let released = then-called _ _ c.in_ok-open_disc.ensures (omega arith) _ c.in_err-release.ensures in
+    stops _ _ _ _ released c.from_residual-in_err-release.result (search rules)
 
 pub returns : goal.returns
 returns c =
-    let X : Day = morning c.args.image.now c.args.kinds.now c.args.roles.now c.args.ledger.now in
-    let first_part : List Call = mount ∷ [] in
-    let second-part : List Call = mount ∷ release c.args.v ∷ [] in
-    let begun : ended c.open_disc-opened.result c.args.image.now c.args.kinds.now c.open_disc-opened.new.roles c.open_disc-opened.new.ledger ≡ day X first_part = c.open_disc-opened.ensures in
-    let followed : ended c.release-released.result c.args.image.now c.args.kinds.now c.release-released.new.roles c.release-released.new.ledger ≡ day X second-part = one c.args.image.now c.args.kinds.now c.open_disc-opened.new.roles c.open_disc-opened.new.ledger (release c.args.v) c.release-released.ensures ∙ goes_on X first_part [] begun (release c.args.v) c.if-opened-ge-REFUSED.false in
-    one c.args.image.now c.args.kinds.now c.release-released.new.roles c.release-released.new.ledger (commit none) c.commit.ensures ∙ goes_on X second-part [] followed (commit none) c.if-released-ge-REFUSED.false
+    let released = then-called _ _ c.in_ok-open_disc.ensures (omega arith) _ c.in_ok-release.ensures in
+    then-called _ _ released (omega arith) _ c.commit.ensures

@@ -1,23 +1,12 @@
--- `client::write_first` meets its contract: the start of a day, then a write.
+-- `client::write_first` meets its contract: the start of a day, then a write, with a number or without.
 -- Assumes nothing.
-use mathlib.Core.Path.{◌≡◌, ◌∙◌}
-use mathlib.Core.List.{List, [], ◌∷◌}
-use mathlib.Core.Option.{some}
-use Rattle.recorder.specs.Calls.{Call, write}
-use Rattle.client.specs.Day.{Day, ended, morning, day, opening}
-use Rattle.client.proofs.Days.{one, stops, goes_on}
+use native.Mathlib.Omega.{arith}
+use Rattle.std.proofs.Common.{rules}
+use Rattle.client.proofs.Days.{then-called, stops}
 use Rattle.client.proofs.write_first.Goals as goal
 
-pub returns-then-opened-ge-REFUSED : goal.returns-then-opened-ge-REFUSED
-returns-then-opened-ge-REFUSED c =
-    let X : Day = morning c.args.image.now c.args.kinds.now c.args.roles.now c.args.ledger.now in
-    let first_part : List Call = opening c.args.fresh ∷ [] in
-    let begun : ended c.open_disc-opened.result c.args.image.now c.args.kinds.now c.open_disc-opened.new.roles c.open_disc-opened.new.ledger ≡ day X first_part = c.open_disc-opened.ensures in
-    stops X first_part (write (some c.args.v) c.args.block.now ∷ []) begun c.if-opened-ge-REFUSED.true
+pub returns-in_err-open_disc : goal.returns-in_err-open_disc
+returns-in_err-open_disc c = stops _ _ _ _ c.in_err-open_disc.ensures c.from_residual.result (search rules)
 
 pub returns : goal.returns
-returns c =
-    let X : Day = morning c.args.image.now c.args.kinds.now c.args.roles.now c.args.ledger.now in
-    let first_part : List Call = opening c.args.fresh ∷ [] in
-    let begun : ended c.open_disc-opened.result c.args.image.now c.args.kinds.now c.open_disc-opened.new.roles c.open_disc-opened.new.ledger ≡ day X first_part = c.open_disc-opened.ensures in
-    one c.args.image.now c.args.kinds.now c.open_disc-opened.new.roles c.open_disc-opened.new.ledger (write (some c.args.v) c.args.block.now) c.write.ensures ∙ goes_on X first_part [] begun (write (some c.args.v) c.args.block.now) c.if-opened-ge-REFUSED.false
+returns c = then-called _ _ c.in_ok-open_disc.ensures (omega arith) _ c.write.ensures

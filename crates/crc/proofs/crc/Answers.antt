@@ -1,60 +1,42 @@
 -- `crc::crc` meets its contract: the four words, carried over the bytes that are left, give the answer.
 -- Assumes nothing.
-use Prim.Native.Nat.{ℕ, ◌+◌, ◌*◌, ◌/◌, ◌%◌, ◌<◌}
-use mathlib.Core.Path.{◌≡◌, ap, ◌∙◌}
+use Prim.Native.Nat.{ℕ, ◌+◌, ◌*◌, ◌/◌, ◌%◌, ◌≤◌, ◌<◌}
+use mathlib.Core.Path.{◌≡◌, ◌∙◌}
 use mathlib.Core.List.{List}
+use native.Mathlib.Nat.{add-zero}
 use native.Mathlib.Omega.{arith}
-use lib.Bits.{bit_xor, xor_lt}
-use lib.Dec.{lit<}
-use lib.ListN.{length, drop, get_or, drop_of_length-le}
+use lib.ListN.{length, get_or, drop_of_length-le}
 use Rattle.crc.specs.Crc.{crc_from}
 use Rattle.crc.specs.Number.{number_at}
-use Rattle.crc.proofs.Folding.{four}
-use Rattle.crc.proofs.Taken.{number_at-lt}
+use Rattle.crc.proofs.Taken.{word-there}
 use Rattle.crc.proofs.Words.{started, turned, ended}
 use Rattle.crc.proofs.crc.Goals as goal
 
-abbrev Word : ℕ → Type 0
-Word x = x < 18446744073709551616
-
-pub loop-i-init : goal.loop-i-init
-loop-i-init c =
+pub loop-word-init : goal.loop-word-init
+loop-word-init c =
     let s : List ℕ = c.args.s.now in
     let each : (j : ℕ) → get_or s j 0 < 256 = λ j. omega (arith, c.type_inv.s j) in
+    rw (add-zero (length s % 8), c.head-d.ensures, c.as_rchunks.ensures.front_len) (started (length s % 8) s each (omega arith) (omega arith))
+
+pub loop-word-preserved : goal.loop-word-preserved
+loop-word-preserved c =
+    let s : List ℕ = c.args.s.now in
+    let each : (j : ℕ) → get_or s j 0 < 256 = λ j. omega (arith, c.type_inv.s j) in
+    let w = c.loop-word in
     let n : ℕ = length s % 8 in
-    let low : c.head-d.result ≡ number_at s 0 n % 18446744073709551616 = c.head-d.ensures in (
-      omega arith,
-      omega arith,
-      lit< tt,
-      lit< tt,
-      lit< tt,
-      omega arith,
-      ap (λ (d : ℕ). crc_from (four 0 0 0 d) (drop n s)) low ∙ started n s each (omega arith) (omega arith),
-    )
-
-pub loop-i-preserved : goal.loop-i-preserved
-loop-i-preserved c =
-    let s : List ℕ = c.args.s.now in
-    let each : (j : ℕ) → get_or s j 0 < 256 = λ j. omega (arith, c.type_inv.s j) in
-    let w = c.loop-i in
-    let few : number_at s w.i 8 < 18446744073709551616 = number_at-lt s w.i 8 each in (
-      omega arith,
-      omega arith,
-      xor_lt 64 w.b w.a w.invariant.3 w.invariant.2,
-      xor_lt 64 w.c _ w.invariant.4 (omega arith),
-      xor_lt 64 w.d _ w.invariant.5 (omega arith),
-      xor_lt 64 c.word.result w.a (omega (arith, c.word.ensures)) w.invariant.2,
-      ap
-          (λ (n : ℕ). crc_from (four (bit_xor w.b w.a) (bit_xor w.c (w.a / 281474976710656)) (bit_xor w.d (w.a * 65536 % 18446744073709551616)) (bit_xor n w.a)) (drop (w.i + 8) s))
-          c.word.ensures
-          ∙ turned w.a w.b w.c w.d w.i s w.invariant.2 each (omega arith)
-          ∙ w.invariant.6,
-    )
+    let k : ℕ = w.word-index in
+    let i : ℕ = n + 8 * k in
+    let word : c.from_be_bytes.result ≡ number_at s i 8 =
+    c.from_be_bytes.ensures ∙ word-there s n (length s / 8) k _ _ c.as_rchunks.ensures.back (omega (arith, c.as_rchunks.ensures.back_len)) in
+    let next : n + 8 * (k + 1) ≡ i + 8 = omega arith in
+    rw (word, next) (turned w.a w.b w.c w.d i s (omega arith) each (omega arith) ∙ w.invariant)
 
 pub returns : goal.returns
 unfolding crc_from
 returns c =
-    let w = c.loop-i in
+    let s : List ℕ = c.args.s.now in
+    let w = c.loop-word in
+    let done : length s ≤ length s % 8 + 8 * w.word-index = omega (arith, c.as_rchunks.ensures.back_len, c.loop-word-test.false) in
     c.by_table.ensures
     ∙ ended w.a w.b w.c w.d c.fold.result c.fold-2.result c.fold-3.result c.fold.ensures c.fold-2.ensures c.fold-3.ensures
-    ∙ rw (drop_of_length-le c.args.s.now c.loop-i-test.false) at w.invariant.6
+    ∙ rw (drop_of_length-le s done) at w.invariant

@@ -1,7 +1,8 @@
--- `crc::sum` meets its contract: the CRC so far and the bits that are left give the answer.
+-- `crc::sum` meets its contract: the CRC so far and the bytes that are left give the answer.
 -- Assumes nothing.
-use Prim.Native.Nat.{ℕ, ◌+◌, ◌-◌, ◌*◌, ◌^◌, ◌/◌, ◌%◌, ◌<◌}
-use mathlib.Core.Path.{◌≡◌, ap, subst, sym, ◌∙◌}
+use Prim.Native.Nat.{ℕ, ◌+◌, ◌-◌, ◌*◌, ◌^◌, ◌/◌, ◌%◌}
+use mathlib.Core.Path.{◌≡◌, ap, sym, ◌∙◌}
+use mathlib.Core.List.{List}
 use native.Mathlib.Nat.{mod-lt}
 use native.Mathlib.Omega.{arith}
 use lib.Bits.{bit_xor, xor_zero_l, xor_zero_r}
@@ -9,38 +10,35 @@ use lib.Dec.{lit<}
 use lib.ListN.{get_or}
 use Rattle.crc.specs.Crc.{byte_step}
 use Rattle.crc.specs.Number.{crc_of_number, zero_bits}
-use Rattle.crc.proofs.Laws.{byte_step-lt}
 use Rattle.crc.proofs.Linear.{bits-of-zero}
-use Rattle.crc.proofs.Taken.{highest-taken}
+use Rattle.crc.proofs.Taken.{highest-taken, byte-there}
 use Rattle.crc.proofs.Entries.{table_step}
 use Rattle.crc.proofs.sum.Goals as goal
 
-pub loop-left-init : goal.loop-left-init
-loop-left-init c =
-    let k : ℕ = crc_of_number 64 c.args.x in
-    (omega arith, omega arith, lit< tt, ap (λ (e : ℕ). bit_xor e k) (bits-of-zero 64) ∙ xor_zero_l k)
+pub loop-byte-init : goal.loop-byte-init
+loop-byte-init c =
+    let k : ℕ = crc_of_number 64 c.args.x in ap (λ (e : ℕ). bit_xor e k) (bits-of-zero 64) ∙ xor_zero_l k
 
-pub loop-left-preserved : goal.loop-left-preserved
-loop-left-preserved c =
-    let w = c.loop-left in
+pub loop-byte-preserved : goal.loop-byte-preserved
+loop-byte-preserved c =
+    let w = c.loop-byte in
     let x : ℕ = c.args.x in
-    let l : ℕ = w.left - 8 in
-    let high : ℕ = x / 2 ^ l % 256 in
-    let more : l + 8 ≡ w.left = omega arith in
-    let step : bit_xor (w.c * 256 % 65536) (get_or c.args.table.now c.place-k.result 0) ≡ byte_step w.c high =
-    table_step c.args.table.now w.c c.place-k.result high c.requires w.invariant.2 (mod-lt (x / 2 ^ l) (lit< tt)) c.place-k.ensures.0 in (
-      omega arith,
-      omega arith,
-      subst (λ (e : ℕ). e < 65536) (sym step) (byte_step-lt w.c high),
-      ap (λ (e : ℕ). bit_xor (zero_bits l e) (crc_of_number l x)) step
-          ∙ highest-taken l w.c x w.invariant.2
-          ∙ ap (λ (n : ℕ). bit_xor (zero_bits n w.c) (crc_of_number n x)) more
-          ∙ w.invariant.3,
-    )
+    let i : ℕ = w.byte-index in
+    let j : ℕ = 8 - (i + 1) in
+    let high : ℕ = x / 2 ^ (8 * j) % 256 in
+    let byte : get_or c.to_be_bytes-byte-items.result i 0 ≡ high =
+    ap (λ (l : List ℕ). get_or l i 0) c.to_be_bytes-byte-items.ensures ∙ byte-there 8 i j x (omega arith) in
+    let step : bit_xor (w.c * 256 % 65536) (get_or c.args.table.now c.from.result 0) ≡ byte_step w.c high =
+    table_step c.args.table.now w.c c.from.result high c.requires (omega arith) (mod-lt (x / 2 ^ (8 * j)) (lit< tt)) (c.from.ensures ∙ ap (bit_xor (w.c / 256)) byte) in
+    let more : 8 * j + 8 ≡ 8 * (8 - i) = omega arith in
+    ap (λ (e : ℕ). bit_xor (zero_bits (8 * j) e) (crc_of_number (8 * j) x)) step
+    ∙ highest-taken (8 * j) w.c x (omega arith)
+    ∙ ap (λ (n : ℕ). bit_xor (zero_bits n w.c) (crc_of_number n x)) more
+    ∙ w.invariant
 
 pub returns : goal.returns
 unfolding zero_bits crc_of_number
 returns c =
-    let w = c.loop-left in
-    let none : w.left ≡ 0 = omega arith in
-    sym (xor_zero_r w.c) ∙ ap (λ (n : ℕ). bit_xor (zero_bits n w.c) (crc_of_number n c.args.x)) (sym none) ∙ w.invariant.3
+    let w = c.loop-byte in
+    let none : 8 * (8 - w.byte-index) ≡ 0 = omega arith in
+    sym (xor_zero_r w.c) ∙ rw none at w.invariant

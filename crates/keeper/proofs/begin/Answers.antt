@@ -1,49 +1,19 @@
 -- `keeper::begin` meets its contract.
 -- Assumes nothing.
-use Prim.Native.Nat.{ℕ}
-use mathlib.Core.Path.{◌≡◌, refl, sym, ap, ◌∙◌}
-use mathlib.Core.Bool.{true}
-use mathlib.Core.List.{List, []}
-use Rattle.disc.specs.Disc.{Disc, lent}
-use Rattle.recorder.specs.Calls.{begin}
-use Rattle.recorder.specs.Refusals.{first, outcome}
-use Rattle.roles.specs.Keeping.{roles_tests, left_roles}
-use Rattle.keeper.proofs.Kept.{is-done, turned-away, refused, kept}
-use Rattle.keeper.proofs.Calls.{begin-few, ready, begin-ends, begin-kept}
+use native.Mathlib.Omega.{arith}
+use mathlib.Core.Path.{refl}
+use Rattle.keeper.proofs.Kept.{done-by, turned-away, refused}
+use Rattle.keeper.proofs.Calls.{begin-scans, begin-kept}
 use Rattle.keeper.proofs.begin.Goals as goal
 
-pub returns-then-outcome-ne0 : goal.returns-then-outcome-ne0
-returns-then-outcome-ne0 c =
-    let D : Disc = lent c.args.image.now c.args.kinds.now in
-    let R : List ℕ = c.args.roles.now in
-    let L : List ℕ = c.args.ledger.now in
-    ap (λ (a : ℕ). left_roles a D.image D.kinds R L []) c.refusal.ensures
-    ∙ turned-away D R L begin refl c.lengths-outcome.result c.lengths-outcome.ensures c.if-outcome-ne0.true
+pub returns-in_err-lengths : goal.returns-in_err-lengths
+returns-in_err-lengths c = turned-away _ _ _ _ refl _ _ c.in_err-lengths.ensures c.from_residual.ensures.1
 
-pub returns-then-answer-ge-REFUSED : goal.returns-then-answer-ge-REFUSED
-returns-then-answer-ge-REFUSED c =
-    let D : Disc = lent c.args.image.now c.args.kinds.now in
-    let R : List ℕ = c.args.roles.now in
-    let L : List ℕ = c.args.ledger.now in
-    let lengths-right : first (roles_tests true D R) ≡ 0 = sym c.lengths-outcome.ensures ∙ c.if-outcome-ne0.false in
-    refused D R L begin refl lengths-right c.begin-answer.ensures c.if-answer-ge-REFUSED.true
+pub returns-in_err-answer : goal.returns-in_err-answer
+returns-in_err-answer c = refused _ _ _ _ refl c.in_ok-lengths.ensures _ _ c.in_err-answer.ensures c.from_residual-in_err-answer.ensures.1
 
 pub scan-requires : goal.scan-requires
-scan-requires c =
-    let D : Disc = lent c.args.image.now c.args.kinds.now in
-    let R : List ℕ = c.args.roles.now in
-    let L : List ℕ = c.args.ledger.now in
-    let lengths-right : first (roles_tests true D R) ≡ 0 = sym c.lengths-outcome.ensures ∙ c.if-outcome-ne0.false in
-    let done : outcome D L begin ≡ 0 = is-done D L begin c.begin-answer.ensures c.if-answer-ge-REFUSED.false in
-    let r = ready D L begin done c.begin-answer.ensures R lengths-right c.begin-answer.auto.ledger (begin-few D L done) in
-    let t = begin-ends D L done in
-    (r.0, r.1, r.2, r.3, t.0, t.1, t.2)
+scan-requires c = begin-scans (done-by _ c.args.roles.now _ _ c.in_ok-lengths.ensures c.in_ok-answer.ensures c.begin.auto.ledger (omega arith))
 
 pub returns : goal.returns
-returns c =
-    let D : Disc = lent c.args.image.now c.args.kinds.now in
-    let R : List ℕ = c.args.roles.now in
-    let L : List ℕ = c.args.ledger.now in
-    let lengths-right : first (roles_tests true D R) ≡ 0 = sym c.lengths-outcome.ensures ∙ c.if-outcome-ne0.false in
-    let done : outcome D L begin ≡ 0 = is-done D L begin c.begin-answer.ensures c.if-answer-ge-REFUSED.false in
-    kept D R L begin refl lengths-right c.begin-answer.ensures done (begin-kept D R L c.begin-answer.ensures c.scan.ensures)
+returns c = begin-kept (done-by _ c.args.roles.now _ _ c.in_ok-lengths.ensures c.in_ok-answer.ensures c.begin.auto.ledger (omega arith)) c.scan.ensures

@@ -1,118 +1,41 @@
 -- `keeper::commit` meets its contract.
 -- Assumes nothing.
-use Prim.Native.Nat.{ℕ, ◌-◌, ◌+◌, ◌<◌}
+use Prim.Native.Nat.{◌+◌, ◌≤◌, ◌<◌}
 use native.Mathlib.Omega.{arith}
-use mathlib.Core.Path.{◌≡◌, refl, sym, ap, ◌∙◌}
-use mathlib.Core.Bool.{true}
-use mathlib.Core.List.{List, []}
-use mathlib.Core.Option.{none}
-use lib.ListN.{length}
-use Rattle.vat.specs.Sector.{no_stamp}
-use Rattle.disc.specs.Disc.{Disc, lent, Sector}
-use Rattle.volume.specs.Volume.{unpack}
-use Rattle.recorder.specs.Calls.{Call, commit}
-use Rattle.recorder.specs.Refusals.{first, links, outcome}
-use Rattle.recorder.proofs.Done.{ledger-accepted, save_of}
-use Rattle.roles.specs.Roles.{table_role}
-use Rattle.roles.specs.Keeping.{roles_tests, left_roles}
-use Rattle.keeper.proofs.Kept.{is-done, turned-away, refused, kept}
-use Rattle.keeper.proofs.Calls.{Placed, commit-placed, runs, low, markable, marked-there, commit-kept}
+use mathlib.Core.Path.{refl}
+use Rattle.disc.specs.Disc.{most_sectors}
+use Rattle.keeper.proofs.Kept.{done-by, turned-away, refused}
+use Rattle.keeper.proofs.Calls.{commit-ends, commit-marks, commit-kept}
 use Rattle.keeper.proofs.commit.Goals as goal
+use Rattle.keeper.proofs.commit.Goals.{In_ok-table}
 
-pub returns-then-outcome-ne0 : goal.returns-then-outcome-ne0
-returns-then-outcome-ne0 c =
-    let D : Disc = lent c.args.image.now c.args.kinds.now in
-    let R : List ℕ = c.args.roles.now in
-    let L : List ℕ = c.args.ledger.now in
-    let call : Call = commit none in
-    ap (λ (a : ℕ). left_roles a D.image D.kinds R L []) c.refusal.ensures
-    ∙ turned-away D R L call refl c.lengths-outcome.result c.lengths-outcome.ensures c.if-outcome-ne0.true
+pub returns-in_err-lengths : goal.returns-in_err-lengths
+returns-in_err-lengths c = turned-away _ _ _ _ refl _ _ c.in_err-lengths.ensures c.from_residual.ensures.1
 
-pub returns-then-answer-ge-REFUSED : goal.returns-then-answer-ge-REFUSED
-returns-then-answer-ge-REFUSED c =
-    let D : Disc = lent c.args.image.now c.args.kinds.now in
-    let R : List ℕ = c.args.roles.now in
-    let L : List ℕ = c.args.ledger.now in
-    let call : Call = commit none in
-    let lengths-right : first (roles_tests true D R) ≡ 0 = sym c.lengths-outcome.ensures ∙ c.if-outcome-ne0.false in
-    refused D R L call refl lengths-right c.commit-answer.ensures c.if-answer-ge-REFUSED.true
+pub returns-in_err-table : goal.returns-in_err-table
+returns-in_err-table c = refused _ _ _ _ refl c.in_ok-lengths.ensures _ _ c.in_err-table.ensures c.from_residual-in_err-table.ensures.1
+
+-- what was counted before the call lies below the table
+ends : (c : In_ok-table) → (c.recorded_ahead-at.result + c.links_ahead-links.result ≤ c.in_ok-table.table + 1) × (c.in_ok-table.table < most_sectors)
+ends c =
+    commit-ends (done-by _ c.args.roles.now _ _ c.in_ok-lengths.ensures c.in_ok-table.ensures c.commit.auto.ledger (omega arith))
+    c.recorded_ahead-at.ensures c.links_ahead-links.ensures
 
 pub overflow_add-before : goal.overflow_add-before
-overflow_add-before c =
-    let D : Disc = lent c.args.image.now c.args.kinds.now in
-    let R : List ℕ = c.args.roles.now in
-    let L : List ℕ = c.args.ledger.now in
-    let call : Call = commit none in
-    let done : outcome D L call ≡ 0 = is-done D L call c.commit-answer.ensures c.if-answer-ge-REFUSED.false in
-    let own : c.recorded_ahead-at.result ≡ (unpack L).recorded = c.recorded_ahead-at.ensures (ledger-accepted D L call done) in
-    let links-are : c.links_ahead-links.result ≡ links (unpack L) = c.links_ahead-links.ensures (ledger-accepted D L call done) in
-    let save : List Sector = save_of D L [] no_stamp in
-    let placed_at : Placed D L 0 (length save) c.commit-answer.result = commit-placed D L none done c.commit-answer.ensures in
-    let ahead : ℕ = c.recorded_ahead-at.result + c.links_ahead-links.result in
-    let runs-are : c.commit-answer.result + 1 ≡ ahead + length save = omega (arith, runs D R L placed_at own links-are) in
-    let few-enough : c.commit-answer.result < 360000 = low D R L placed_at own links-are in
-    omega (arith, runs-are, few-enough)
+overflow_add-before c = omega (arith, ends c)
 
-pub overflow_add-answer : goal.overflow_add-answer
-overflow_add-answer c =
-    let D : Disc = lent c.args.image.now c.args.kinds.now in
-    let R : List ℕ = c.args.roles.now in
-    let L : List ℕ = c.args.ledger.now in
-    let call : Call = commit none in
-    let done : outcome D L call ≡ 0 = is-done D L call c.commit-answer.ensures c.if-answer-ge-REFUSED.false in
-    let own : c.recorded_ahead-at.result ≡ (unpack L).recorded = c.recorded_ahead-at.ensures (ledger-accepted D L call done) in
-    let links-are : c.links_ahead-links.result ≡ links (unpack L) = c.links_ahead-links.ensures (ledger-accepted D L call done) in
-    let save : List Sector = save_of D L [] no_stamp in
-    let placed_at : Placed D L 0 (length save) c.commit-answer.result = commit-placed D L none done c.commit-answer.ensures in
-    let few-enough : c.commit-answer.result < 360000 = low D R L placed_at own links-are in
-    omega (arith, few-enough)
+pub overflow_add-table : goal.overflow_add-table
+overflow_add-table c = omega (arith, ends (goal.at.overflow_add-table c).In_ok-table)
 
-pub overflow_sub-answer : goal.overflow_sub-answer
-overflow_sub-answer c =
-    let D : Disc = lent c.args.image.now c.args.kinds.now in
-    let R : List ℕ = c.args.roles.now in
-    let L : List ℕ = c.args.ledger.now in
-    let call : Call = commit none in
-    let done : outcome D L call ≡ 0 = is-done D L call c.commit-answer.ensures c.if-answer-ge-REFUSED.false in
-    let own : c.recorded_ahead-at.result ≡ (unpack L).recorded = c.recorded_ahead-at.ensures (ledger-accepted D L call done) in
-    let links-are : c.links_ahead-links.result ≡ links (unpack L) = c.links_ahead-links.ensures (ledger-accepted D L call done) in
-    let save : List Sector = save_of D L [] no_stamp in
-    let placed_at : Placed D L 0 (length save) c.commit-answer.result = commit-placed D L none done c.commit-answer.ensures in
-    let ahead : ℕ = c.recorded_ahead-at.result + c.links_ahead-links.result in
-    let runs-are : c.commit-answer.result + 1 ≡ ahead + length save = omega (arith, runs D R L placed_at own links-are) in
-    omega (arith, runs-are)
+pub overflow_sub-table : goal.overflow_sub-table
+overflow_sub-table c = (ends (goal.at.overflow_sub-table c).In_ok-table).0
 
 pub mark-requires : goal.mark-requires
 mark-requires c =
-    let D : Disc = lent c.args.image.now c.args.kinds.now in
-    let R : List ℕ = c.args.roles.now in
-    let L : List ℕ = c.args.ledger.now in
-    let call : Call = commit none in
-    let lengths-right : first (roles_tests true D R) ≡ 0 = sym c.lengths-outcome.ensures ∙ c.if-outcome-ne0.false in
-    let done : outcome D L call ≡ 0 = is-done D L call c.commit-answer.ensures c.if-answer-ge-REFUSED.false in
-    let own : c.recorded_ahead-at.result ≡ (unpack L).recorded = c.recorded_ahead-at.ensures (ledger-accepted D L call done) in
-    let links-are : c.links_ahead-links.result ≡ links (unpack L) = c.links_ahead-links.ensures (ledger-accepted D L call done) in
-    let save : List Sector = save_of D L [] no_stamp in
-    let placed_at : Placed D L 0 (length save) c.commit-answer.result = commit-placed D L none done c.commit-answer.ensures in
-    let ahead : ℕ = c.recorded_ahead-at.result + c.links_ahead-links.result in
-    let runs-are : c.commit-answer.result + 1 ≡ ahead + length save = omega (arith, runs D R L placed_at own links-are) in
-    let count-is : c.commit-answer.result + 1 - ahead ≡ length save = omega (arith, runs-are) in
-    markable D R L placed_at own links-are refl count-is lengths-right
+    commit-marks (done-by _ c.args.roles.now _ _ c.in_ok-lengths.ensures c.in_ok-table.ensures c.commit.auto.ledger (omega arith))
+    c.recorded_ahead-at.ensures c.links_ahead-links.ensures
 
 pub returns : goal.returns
 returns c =
-    let D : Disc = lent c.args.image.now c.args.kinds.now in
-    let R : List ℕ = c.args.roles.now in
-    let L : List ℕ = c.args.ledger.now in
-    let call : Call = commit none in
-    let lengths-right : first (roles_tests true D R) ≡ 0 = sym c.lengths-outcome.ensures ∙ c.if-outcome-ne0.false in
-    let done : outcome D L call ≡ 0 = is-done D L call c.commit-answer.ensures c.if-answer-ge-REFUSED.false in
-    let own : c.recorded_ahead-at.result ≡ (unpack L).recorded = c.recorded_ahead-at.ensures (ledger-accepted D L call done) in
-    let links-are : c.links_ahead-links.result ≡ links (unpack L) = c.links_ahead-links.ensures (ledger-accepted D L call done) in
-    let save : List Sector = save_of D L [] no_stamp in
-    let placed_at : Placed D L 0 (length save) c.commit-answer.result = commit-placed D L none done c.commit-answer.ensures in
-    let ahead : ℕ = c.recorded_ahead-at.result + c.links_ahead-links.result in
-    let runs-are : c.commit-answer.result + 1 ≡ ahead + length save = omega (arith, runs D R L placed_at own links-are) in
-    let count-is : c.commit-answer.result + 1 - ahead ≡ length save = omega (arith, runs-are) in
-    kept D R L call refl lengths-right c.commit-answer.ensures done
-    (commit-kept D R L none (marked-there D R L placed_at own links-are refl count-is table_role c.mark.ensures))
+    commit-kept (done-by _ c.args.roles.now _ _ c.in_ok-lengths.ensures c.in_ok-table.ensures c.commit.auto.ledger (omega arith))
+    c.recorded_ahead-at.ensures c.links_ahead-links.ensures c.mark.ensures

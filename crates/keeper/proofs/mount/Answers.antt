@@ -1,58 +1,22 @@
 -- `keeper::mount` meets its contract.
 -- Assumes nothing.
-use Prim.Native.Nat.{ℕ}
-use mathlib.Core.Path.{◌≡◌, refl, sym, ap, ◌∙◌, subst}
-use mathlib.Core.Bool.{true}
-use mathlib.Core.List.{List, []}
-use Rattle.disc.specs.Disc.{Disc, lent}
-use Rattle.recorder.specs.Calls.{mount}
-use Rattle.recorder.specs.Refusals.{first, outcome}
-use Rattle.recorder.proofs.Done.{ledger-accepted}
-use Rattle.roles.specs.Keeping.{roles_tests, left_roles}
-use Rattle.keeper.proofs.Kept.{is-done, turned-away, refused, kept}
-use Rattle.keeper.proofs.Calls.{mount-few, Ends, ready, mount-ends, mount-kept}
+use native.Mathlib.Omega.{arith}
+use mathlib.Core.Path.{refl}
+use Rattle.keeper.proofs.Kept.{done-by, turned-away, refused}
+use Rattle.keeper.proofs.Calls.{mount-scans, mount-kept}
 use Rattle.keeper.proofs.mount.Goals as goal
 
-pub returns-then-outcome-ne0 : goal.returns-then-outcome-ne0
-returns-then-outcome-ne0 c =
-    let D : Disc = lent c.args.image.now c.args.kinds.now in
-    let R : List ℕ = c.args.roles.now in
-    let L : List ℕ = c.args.ledger.now in
-    ap (λ (a : ℕ). left_roles a D.image D.kinds R L []) c.refusal.ensures
-    ∙ turned-away D R L mount refl c.lengths-outcome.result c.lengths-outcome.ensures c.if-outcome-ne0.true
+pub returns-in_err-lengths : goal.returns-in_err-lengths
+returns-in_err-lengths c = turned-away _ _ _ _ refl _ _ c.in_err-lengths.ensures c.from_residual.ensures.1
 
-pub returns-then-answer-ge-REFUSED : goal.returns-then-answer-ge-REFUSED
-returns-then-answer-ge-REFUSED c =
-    let D : Disc = lent c.args.image.now c.args.kinds.now in
-    let R : List ℕ = c.args.roles.now in
-    let L : List ℕ = c.args.ledger.now in
-    let lengths-right : first (roles_tests true D R) ≡ 0 = sym c.lengths-outcome.ensures ∙ c.if-outcome-ne0.false in
-    refused D R L mount refl lengths-right c.mount-answer.ensures c.if-answer-ge-REFUSED.true
+pub returns-in_err-clean : goal.returns-in_err-clean
+returns-in_err-clean c = refused _ _ _ _ refl c.in_ok-lengths.ensures _ _ c.in_err-clean.ensures c.from_residual-in_err-clean.ensures.1
 
-pub last-end-requires : goal.last-end-requires
-last-end-requires c =
-    let D : Disc = lent c.args.image.now c.args.kinds.now in
-    let L : List ℕ = c.args.ledger.now in
-    let done : outcome D L mount ≡ 0 = is-done D L mount c.mount-answer.ensures c.if-answer-ge-REFUSED.false in
-    c.mount-answer.auto.ledger ∙ ledger-accepted D L mount done
+pub last-requires : goal.last-requires
+last-requires c = (done-by _ c.args.roles.now _ _ c.in_ok-lengths.ensures c.in_ok-clean.ensures c.mount.auto.ledger (omega arith)).long
 
 pub scan-requires : goal.scan-requires
-scan-requires c =
-    let D : Disc = lent c.args.image.now c.args.kinds.now in
-    let R : List ℕ = c.args.roles.now in
-    let L : List ℕ = c.args.ledger.now in
-    let lengths-right : first (roles_tests true D R) ≡ 0 = sym c.lengths-outcome.ensures ∙ c.if-outcome-ne0.false in
-    let done : outcome D L mount ≡ 0 = is-done D L mount c.mount-answer.ensures c.if-answer-ge-REFUSED.false in
-    let ends : Ends D c.last-end.result true = subst (λ (n : ℕ). Ends D n true) (sym c.last-end.ensures) (mount-ends D L done c.mount-answer.ensures) in
-    let r = ready D L mount done c.mount-answer.ensures R lengths-right c.mount-answer.auto.ledger (mount-few D L done) in
-    let t = ends in
-    (r.0, r.1, r.2, r.3, t.0, t.1, t.2)
+scan-requires c = mount-scans (done-by _ c.args.roles.now _ _ c.in_ok-lengths.ensures c.in_ok-clean.ensures c.mount.auto.ledger (omega arith)) c.last.ensures
 
 pub returns : goal.returns
-returns c =
-    let D : Disc = lent c.args.image.now c.args.kinds.now in
-    let R : List ℕ = c.args.roles.now in
-    let L : List ℕ = c.args.ledger.now in
-    let lengths-right : first (roles_tests true D R) ≡ 0 = sym c.lengths-outcome.ensures ∙ c.if-outcome-ne0.false in
-    let done : outcome D L mount ≡ 0 = is-done D L mount c.mount-answer.ensures c.if-answer-ge-REFUSED.false in
-    kept D R L mount refl lengths-right c.mount-answer.ensures done (mount-kept D R L c.mount-answer.ensures c.scan.ensures)
+returns c = mount-kept (done-by _ c.args.roles.now _ _ c.in_ok-lengths.ensures c.in_ok-clean.ensures c.mount.auto.ledger (omega arith)) c.scan.ensures

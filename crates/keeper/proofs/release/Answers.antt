@@ -1,55 +1,19 @@
 -- `keeper::release` meets its contract.
 -- Assumes nothing.
-use Prim.Native.Nat.{ℕ}
 use native.Mathlib.Omega.{arith}
-use mathlib.Core.Path.{◌≡◌, refl, sym, ap, ◌∙◌}
-use mathlib.Core.Bool.{true}
-use mathlib.Core.List.{List, []}
-use Rattle.disc.specs.Disc.{Disc, lent}
-use Rattle.volume.specs.Volume.{unpack}
-use Rattle.recorder.specs.Calls.{Call, release}
-use Rattle.recorder.specs.Refusals.{first, block_of, outcome}
-use Rattle.recorder.proofs.Done.{ledger-accepted, release-done}
-use Rattle.roles.specs.Keeping.{roles_tests, left_roles}
-use Rattle.keeper.proofs.Kept.{is-done, turned-away, refused, kept}
-use Rattle.keeper.proofs.Calls.{release-few, known, release-kept}
+use mathlib.Core.Path.{refl}
+use Rattle.keeper.proofs.Kept.{done-by, turned-away, refused}
+use Rattle.keeper.proofs.Calls.{release-lets-go, release-kept}
 use Rattle.keeper.proofs.release.Goals as goal
 
-pub returns-then-outcome-ne0 : goal.returns-then-outcome-ne0
-returns-then-outcome-ne0 c =
-    let D : Disc = lent c.args.image.now c.args.kinds.now in
-    let R : List ℕ = c.args.roles.now in
-    let L : List ℕ = c.args.ledger.now in
-    let call : Call = release c.args.v in
-    ap (λ (a : ℕ). left_roles a D.image D.kinds R L []) c.refusal.ensures
-    ∙ turned-away D R L call refl c.lengths-outcome.result c.lengths-outcome.ensures c.if-outcome-ne0.true
+pub returns-in_err-lengths : goal.returns-in_err-lengths
+returns-in_err-lengths c = turned-away _ _ _ _ refl _ _ c.in_err-lengths.ensures c.from_residual.ensures.1
 
-pub returns-then-answer-ge-REFUSED : goal.returns-then-answer-ge-REFUSED
-returns-then-answer-ge-REFUSED c =
-    let D : Disc = lent c.args.image.now c.args.kinds.now in
-    let R : List ℕ = c.args.roles.now in
-    let L : List ℕ = c.args.ledger.now in
-    let call : Call = release c.args.v in
-    let lengths-right : first (roles_tests true D R) ≡ 0 = sym c.lengths-outcome.ensures ∙ c.if-outcome-ne0.false in
-    refused D R L call refl lengths-right c.release-answer.ensures c.if-answer-ge-REFUSED.true
+pub returns-in_err-answer : goal.returns-in_err-answer
+returns-in_err-answer c = refused _ _ _ _ refl c.in_ok-lengths.ensures _ _ c.in_err-answer.ensures c.from_residual-in_err-answer.ensures.1
 
 pub let_go-requires : goal.let_go-requires
-let_go-requires c =
-    let D : Disc = lent c.args.image.now c.args.kinds.now in
-    let L : List ℕ = c.args.ledger.now in
-    let call : Call = release c.args.v in
-    let done : outcome D L call ≡ 0 = is-done D L call c.release-answer.ensures c.if-answer-ge-REFUSED.false in
-    known D L call done c.release-answer.ensures c.release-answer.auto.ledger (release-few D L c.args.v done)
+let_go-requires c = release-lets-go (done-by _ c.args.roles.now _ _ c.in_ok-lengths.ensures c.in_ok-answer.ensures c.release.auto.ledger (omega arith))
 
 pub returns : goal.returns
-returns c =
-    let D : Disc = lent c.args.image.now c.args.kinds.now in
-    let R : List ℕ = c.args.roles.now in
-    let L : List ℕ = c.args.ledger.now in
-    let call : Call = release c.args.v in
-    let lengths-right : first (roles_tests true D R) ≡ 0 = sym c.lengths-outcome.ensures ∙ c.if-outcome-ne0.false in
-    let done : outcome D L call ≡ 0 = is-done D L call c.release-answer.ensures c.if-answer-ge-REFUSED.false in
-    let named : c.named_by-released.result ≡ block_of (unpack L) c.args.v = let f = release-done D L c.args.v done in
-    c.named_by-released.ensures (ledger-accepted D L call done) (omega (arith, f.1.fit.few, f.2)) in
-    kept D R L call refl lengths-right c.release-answer.ensures done
-    (release-kept D R L c.args.v c.release-answer.ensures named c.let_go.ensures)
+returns c = release-kept (done-by _ c.args.roles.now _ _ c.in_ok-lengths.ensures c.in_ok-answer.ensures c.release.auto.ledger (omega arith)) c.named_ahead-released.ensures c.let_go.ensures

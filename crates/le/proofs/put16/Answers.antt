@@ -1,16 +1,11 @@
--- `le::put16` meets its contract: two stores, one behind the other.
+-- `le::put16` meets its contract: the number's bytes, low byte first, are those of the definition.
 -- Assumes nothing.
+use mathlib.Core.Path.{ap, ◌∙◌}
+use lib.Seq.{sets}
 use Rattle.le.specs.Field.{le}
-use native.Mathlib.Omega.{arith}
-use native.Mathlib.Numerals.{towards_suc}
-use lib.ListN.{length-set}
 use Rattle.le.proofs.put16.Goals as goal
-
-pub bounds-s-at-2 : goal.bounds-s-at-2
-bounds-s-at-2 c =
-    simp length-set (omega arith)
 
 pub returns : goal.returns
 unfolding le
 returns c =
-    simp towards_suc
+    c.put_text.ensures ∙ ap (sets c.args.s.now c.args.at) c.to_le_bytes.ensures

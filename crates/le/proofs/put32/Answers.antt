@@ -1,24 +1,12 @@
--- `le::put32` meets its contract: four stores, one behind the other.
+-- `le::put32` meets its contract: the number's bytes, low byte first, are those of the definition.
 -- Assumes nothing.
+use native.Mathlib.Nat.{div-div-eq-div-mul}
+use mathlib.Core.Path.{ap, ◌∙◌}
+use lib.Seq.{sets}
 use Rattle.le.specs.Field.{le}
-use native.Mathlib.Omega.{arith}
-use native.Mathlib.Numerals.{towards_suc}
-use lib.ListN.{length-set}
 use Rattle.le.proofs.put32.Goals as goal
-
-pub bounds-s-at-2 : goal.bounds-s-at-2
-bounds-s-at-2 c =
-    simp length-set (omega arith)
-
-pub bounds-s-at-3 : goal.bounds-s-at-3
-bounds-s-at-3 c =
-    simp length-set (omega arith)
-
-pub bounds-s-at-4 : goal.bounds-s-at-4
-bounds-s-at-4 c =
-    simp length-set (omega arith)
 
 pub returns : goal.returns
 unfolding le
 returns c =
-    simp towards_suc
+    simp div-div-eq-div-mul (c.put_text.ensures ∙ ap (sets c.args.s.now c.args.at) c.to_le_bytes.ensures)

@@ -1,15 +1,12 @@
--- `le::put64` meets its contract: a number put in two halves is put whole.
+-- `le::put64` meets its contract: the number's bytes, low byte first, are those of the definition.
 -- Assumes nothing.
-use Prim.Native.Nat.{ℕ, ◌+◌, ◌/◌}
-use mathlib.Core.Path.{◌∙◌, ap}
-use mathlib.Core.List.{List}
-use Rattle.le.specs.Field.{put_le}
-use Rattle.le.proofs.Fields.{put-add}
+use native.Mathlib.Nat.{div-div-eq-div-mul}
+use mathlib.Core.Path.{ap, ◌∙◌}
+use lib.Seq.{sets}
+use Rattle.le.specs.Field.{le}
 use Rattle.le.proofs.put64.Goals as goal
 
 pub returns : goal.returns
+unfolding le
 returns c =
-    let a = c.args in
-    c.put32-2.ensures
-    ∙ ap (λ (t : List ℕ). put_le 4 t (a.at + 4) (a.x / 4294967296)) c.put32.ensures
-    ∙ put-add 4 4 a.s.now a.at a.x
+    simp div-div-eq-div-mul (c.put_text.ensures ∙ ap (sets c.args.s.now c.args.at) c.to_le_bytes.ensures)

@@ -1,5 +1,3 @@
--- `le::read16` meets its contract: two bytes, joined as the definition nests them.
--- Assumes nothing.
 use native.Mathlib.Omega.{arith}
 use Rattle.le.specs.Field.{read_le}
 use Rattle.le.proofs.read16.Goals as goal
@@ -7,4 +5,4 @@ use Rattle.le.proofs.read16.Goals as goal
 pub returns : goal.returns
 unfolding read_le
 returns c =
-    omega arith
+    omega (arith, c.from_le_bytes.ensures)

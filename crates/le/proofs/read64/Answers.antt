@@ -8,5 +8,5 @@ use Rattle.le.proofs.read64.Goals as goal
 pub returns : goal.returns
 returns c =
     let a = c.args in
-    c.join64.ensures ∙ ap₂ (λ (low high : ℕ). low + 4294967296 * high) c.read32-low.ensures c.read32-high.ensures
+    c.join64.ensures ∙ ap₂ (λ (low high : ℕ). low + 4294967296 * high) c.read32.ensures c.read32-2.ensures
     ∙ sym (read-add 4 4 a.s.now a.at)

@@ -1,6 +1,5 @@
 -- `roles::named` meets its contract: what was found so far, and what is left of both halves of the map, make the answer.
 -- Assumes nothing.
-use Prim.Native.Nat.{◌-◌, ◌≤◌}
 use mathlib.Core.Path.{◌≡◌}
 use mathlib.Core.Bool.{not}
 use Rattle.le.specs.Bytes.{every}
@@ -10,8 +9,4 @@ use Rattle.roles.proofs.Roles.{differs}
 use Rattle.roles.proofs.named.Given as goal
 
 abbrev pub invariant-loop-n : goal.invariant-loop-n
-invariant-loop-n l =
-    (l.n ≤ l.turns) × (left_of (differs l.b) (map_of (unpack l.ledger)) l.half l.turns l.n (not l.found) ≡ every (differs l.b) (map_of (unpack l.ledger)))
-
-abbrev pub decreases-loop-n : goal.decreases-loop-n
-decreases-loop-n l = l.turns - l.n
+invariant-loop-n l = left_of (differs l.b) (map_of (unpack l.ledger)) l.half l.turns l.n (not l.found) ≡ every (differs l.b) (map_of (unpack l.ledger))

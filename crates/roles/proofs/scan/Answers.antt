@@ -4,10 +4,6 @@ use Rattle.disc.specs.Disc.{lent}
 use Rattle.roles.specs.Keeping.{scanned}
 use Rattle.roles.proofs.scan.Goals as goal
 
-pub mark_tables-requires : goal.mark_tables-requires
-mark_tables-requires c =
-    (c.requires.0, c.scan_kinds.ensures, c.requires.4, c.requires.5, c.requires.6)
-
 pub returns : goal.returns
 unfolding scanned
 returns c =

@@ -1,35 +1,33 @@
 -- `sector_log::commit` meets its contract.
 -- Assumes nothing.
 use Prim.Native.Nat.{ℕ}
-use mathlib.Core.Path.{◌≡◌, sym, ap, ◌∙◌}
-use mathlib.Core.List.{List, []}
-use mathlib.Core.Option.{none}
-use Rattle.disc.specs.Disc.{Disc, lent}
-use Rattle.recorder.specs.Calls.{commit}
-use Rattle.recorder.specs.Refusals.{outcome}
-use Rattle.recorder.specs.Effects.{left}
-use Rattle.calls.proofs.Left.{refused-left, commit-saves, commit-left}
+use denote.Bor.{Bor}
+use mathlib.Core.Path.{◌≡◌, refl, sym, ap, ◌∙◌}
+use mathlib.Core.List.{List}
+use Rattle.std.specs.Prelude.{Option, None, Some}
+use Rattle.std.specs.Option.{unwrap_or}
+use Rattle.recorder.specs.Calls.{stamp_of}
+use Rattle.recorder.specs.Refused.{stamp_given}
+use Rattle.vat.specs.Sector.{no_stamp}
+use Rattle.calls.proofs.Left.{commit-saves, commit-left}
+use Rattle.sector_log.proofs.Refused.{refused}
 use Rattle.sector_log.proofs.commit.Goals as goal
 
-pub returns-then-outcome-ne0 : goal.returns-then-outcome-ne0
-returns-then-outcome-ne0 c =
-    let D : Disc = lent c.args.image.now c.args.kinds.now in
-    let L : List ℕ = c.args.ledger.now in
-    ap (λ (a : ℕ). left a D.image D.kinds L []) c.refusal.ensures
-    ∙ refused-left D L (commit none) c.commit-outcome.result c.commit-outcome.ensures c.if-outcome-ne0.true
+-- the timestamp lent, or zeros without one
+given : (stamp : Option (Bor (List ℕ))) (none s : Bor (List ℕ)) → s ≡ unwrap_or stamp none → none.now ≡ no_stamp → s.now ≡ stamp_of (stamp_given stamp)
+given None none s e zeros = ap (λ (b : Bor (List ℕ)). b.now) e ∙ zeros
+given (Some stamp) none s e zeros = ap (λ (b : Bor (List ℕ)). b.now) e
+
+pub returns-in_err-commit : goal.returns-in_err-commit
+returns-in_err-commit c = refused _ _ _ _ _ c.in_err-commit.ensures c.from_residual.ensures.1
 
 pub save-requires : goal.save-requires
 save-requires c =
-    let D : Disc = lent c.args.image.now c.args.kinds.now in
-    let L : List ℕ = c.args.ledger.now in
-    let done : outcome D L (commit none) ≡ 0 = sym c.commit-outcome.ensures ∙ c.if-outcome-ne0.false in
-    let t = commit-saves D L none done in
+    let t = commit-saves _ _ _ (sym c.in_ok-commit.ensures) in
     let v = t.0 in
-    (v.0, v.1, v.2, v.3, v.4, v.5, t.1, t.2)
+    rw (given c.args.stamp _ _ c.unwrap_or-given.ensures refl) (v.0, v.1, v.2, v.3, v.4, v.5, t.1, t.2)
 
 pub returns : goal.returns
 returns c =
-    let D : Disc = lent c.args.image.now c.args.kinds.now in
-    let L : List ℕ = c.args.ledger.now in
-    let done : outcome D L (commit none) ≡ 0 = sym c.commit-outcome.ensures ∙ c.if-outcome-ne0.false in
-    commit-left D L none done c.save.ensures
+    let saved = c.save.ensures in
+    commit-left _ _ _ (sym c.in_ok-commit.ensures) (rw (given c.args.stamp _ _ c.unwrap_or-given.ensures refl) at saved)

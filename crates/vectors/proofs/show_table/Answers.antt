@@ -1,6 +1,7 @@
-use Rattle.std.proofs.Common.{rules}
+-- `vectors::show_table` is safe and ends: the entries lie within the table.
+use Rattle.std.proofs.Common.{arith}
 use Rattle.vat.proofs.Frame.{entries-within}
 use Rattle.vectors.proofs.show_table.Goals as goal
 
-pub loop-i-init : goal.loop-i-init
-loop-i-init g c = search (rules, entries-within c.args.t.now)
+pub read32-requires : goal.read32-requires
+read32-requires g c = omega (arith, c.entry_count-n.ensures, entries-within c.args.t.now)

@@ -1,35 +1,32 @@
--- `calls::admit::commit` meets its contract: 1 to 5 and 17 stop it first, and then the want of room.
+-- `calls::admit::commit` meets its contract: the tests of `working` refuse it first, and then its timestamp.
 -- Assumes nothing.
 use Prim.Native.Nat.{ℕ}
-use mathlib.Core.Path.{◌≡◌, refl, sym, ◌∙◌}
-use mathlib.Core.Bool.{true, ◌&&◌}
-use mathlib.Core.List.{List}
-use mathlib.Core.Option.{none}
+use mathlib.Core.Path.{refl, sym, ◌∙◌}
+use mathlib.Core.List.{List, [], ◌∷◌}
+use Rattle.std.specs.Prelude.{Option}
 use Rattle.disc.specs.Disc.{Disc, lent}
-use Rattle.disc.proofs.Recording.{sound-sized}
-use Rattle.recorder.specs.Refusals.{first, ledger_lent}
-use Rattle.recorder.proofs.Done.{working_tests, Admitted, working-admits}
-use Rattle.calls.proofs.Outcomes.{commit-stopped, commit-tested}
+use Rattle.volume.specs.Volume.{unpack}
+use Rattle.recorder.specs.Refused.{stamp_given}
+use Rattle.recorder.specs.Refusals.{test, stamp_lent, stamp_wrong, commit_tests, tests, outcome}
+use Rattle.recorder.proofs.Done.{resumed, working_tests}
+use Rattle.calls.proofs.Outcomes.{refused}
 use Rattle.calls.proofs.admit.commit.Goals as goal
 
-pub returns-then-outcome-ne0 : goal.returns-then-outcome-ne0
-returns-then-outcome-ne0 c =
-    let D : Disc = lent c.args.image.now c.args.kinds.now in
-    let L : List ℕ = c.args.ledger.now in
-    let e = c.working-outcome.ensures in
-    e ∙ sym (commit-stopped D L none (λ z. c.if-outcome-ne0.true (e ∙ z)))
+pub returns-in_err-working : goal.returns-in_err-working
+unfolding outcome tests
+returns-in_err-working c =
+    let d : Disc = lent c.args.image.now c.args.kinds.now in
+    let l : List ℕ = c.args.ledger.now in
+    let stamp : Option (List ℕ) = stamp_given c.args.stamp in
+    refused (working_tests d l (stamp_lent l stamp)) (commit_tests d (unpack l) stamp) c.from_residual.result c.in_err-working.field-0.0 c.from_residual.ensures.1
+    (rw c.is_long.ensures at c.in_err-working.ensures)
 
-pub save_room-requires : goal.save_room-requires
-save_room-requires c =
-    let D : Disc = lent c.args.image.now c.args.kinds.now in
-    let L : List ℕ = c.args.ledger.now in
-    let passed : first (working_tests D L (ledger_lent L && true)) ≡ 0 = sym c.working-outcome.ensures ∙ c.if-outcome-ne0.false in
-    let admits : Admitted D L true = working-admits D L true passed in
-    let a = admits in (sound-sized D a.sound-disc, a.ledger-long, a.fit.few, a.fit.last-known, a.fit.same-recorded)
-
-pub returns : goal.returns
-returns c =
-    let D : Disc = lent c.args.image.now c.args.kinds.now in
-    let L : List ℕ = c.args.ledger.now in
-    let passed : first (working_tests D L (ledger_lent L && true)) ≡ 0 = sym c.working-outcome.ensures ∙ c.if-outcome-ne0.false in
-    c.save_room.ensures ∙ sym (commit-tested D L none passed refl)
+pub returns-in_err-timely : goal.returns-in_err-timely
+unfolding outcome tests
+returns-in_err-timely c =
+    let d : Disc = lent c.args.image.now c.args.kinds.now in
+    let l : List ℕ = c.args.ledger.now in
+    let stamp : Option (List ℕ) = stamp_given c.args.stamp in
+    let told = c.from_residual-in_err-timely in
+    refused (test 16 (stamp_wrong stamp) ∷ []) _ told.result c.in_err-timely.field-0.0 told.ensures.1 c.in_err-timely.ensures
+    ∙ sym (resumed (working_tests d l (stamp_lent l stamp)) (commit_tests d (unpack l) stamp) refl (sym (rw c.is_long.ensures at c.in_ok-working.ensures)))

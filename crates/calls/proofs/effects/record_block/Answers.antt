@@ -1,25 +1,15 @@
 -- `calls::effects::record_block` meets its contract: links, and the block behind them.
 -- Assumes nothing.
-use Prim.Native.Nat.{ℕ, ◌*◌, ◌<◌}
-use native.Mathlib.Omega.{arith}
-use mathlib.Core.Path.{◌≡◌, sym, ap, ap₂, ◌∙◌}
+use Prim.Native.Nat.{ℕ, ◌*◌}
+use mathlib.Core.Path.{◌≡◌, ap, ap₂, ◌∙◌}
 use mathlib.Core.List.{List}
-use lib.ListN.{length, set}
+use lib.ListN.{set}
 use Rattle.vat.specs.Table.{sector_length}
 use Rattle.disc.specs.Disc.{Disc, lent, stored}
-use Rattle.disc.proofs.Recording.{length-links}
-use Rattle.volume.specs.declared.Volume.{Volume}
 use Rattle.volume.specs.Volume.{unpack}
-use Rattle.recorder.specs.Refusals.{links, target}
+use Rattle.recorder.specs.Refusals.{target}
 use Rattle.calls.proofs.Left.{linked_kinds, recorded-block}
 use Rattle.calls.proofs.effects.record_block.Goals as goal
-
-pub data-requires : goal.data-requires
-data-requires c =
-    let v : Volume = unpack c.args.ledger.now in
-    let same : length c.record_links-b.new.kinds ≡ length c.args.kinds.now = ap length c.record_links-b.ensures.1 ∙ length-links (links v) c.args.kinds.now v.recorded in
-    let taken : c.record_links-b.result < length c.record_links-b.new.kinds = omega (arith, same, c.requires.2, c.record_links-b.ensures.0) in
-    (c.requires.1 ∙ ap (λ (n : ℕ). sector_length * n) (sym same), taken, c.requires.4)
 
 pub returns : goal.returns
 returns c =

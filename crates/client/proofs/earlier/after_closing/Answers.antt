@@ -3,11 +3,9 @@
 use native.Mathlib.Omega.{arith}
 use Rattle.client.proofs.Shown.{given}
 use Rattle.client.proofs.Closings.{closing-reads}
-use Rattle.client.specs.Day.{morning}
 use Rattle.client.proofs.earlier.after_closing.Goals as goal
 
 pub returns : goal.returns
 returns c =
     λ x fresh block main reserve n held tried ok all there fit long whole.
-    given (closing-reads x fresh ok c.args.v block main reserve n all held tried (morning c.args.image.now c.args.kinds.now c.args.roles.now c.args.ledger.now) c.args.out.now (omega arith) fit there long whole)
-    c.show.ensures.ledger_after c.show.ensures.out_after
+    given (closing-reads x fresh ok _ _ _ _ _ all _ _ _ _ (omega arith) fit there long whole) c.show.ensures.ledger_after c.show.ensures.out_after

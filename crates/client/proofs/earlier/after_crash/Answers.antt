@@ -3,14 +3,13 @@
 use native.Mathlib.Omega.{arith}
 use Rattle.client.proofs.Shown.{given}
 use Rattle.client.proofs.Saves.{storing-reads, marking-reads}
-use Rattle.client.specs.Day.{Day, morning}
 use Rattle.client.proofs.earlier.after_crash.Goals as goal
 
 pub returns : goal.returns
 returns c =
-    let y : Day = morning c.args.image.now c.args.kinds.now c.args.roles.now c.args.ledger.now in record {
+    record {
       value = λ x fresh stamp old new ok stopped fit long whole.
-          given (storing-reads x fresh ok c.args.v stamp old new y c.args.out.now (omega arith) fit long whole stopped) c.show.ensures.ledger_after c.show.ensures.out_after;
+          given (storing-reads x fresh ok _ stamp _ _ _ _ (omega arith) fit long whole stopped) c.show.ensures.ledger_after c.show.ensures.out_after;
       value_2 = λ x fresh stamp old new call j ok stopped fit long whole.
-          given (marking-reads x fresh ok c.args.v stamp old new y c.args.out.now (omega arith) fit long whole call j stopped) c.show.ensures.ledger_after c.show.ensures.out_after;
+          given (marking-reads x fresh ok _ stamp _ _ _ _ (omega arith) fit long whole call j stopped) c.show.ensures.ledger_after c.show.ensures.out_after;
     }

@@ -3,11 +3,9 @@
 use native.Mathlib.Omega.{arith}
 use Rattle.client.proofs.Shown.{given}
 use Rattle.client.proofs.Whatever.{whatever-reads}
-use Rattle.client.specs.Day.{morning}
 use Rattle.client.proofs.earlier.after_events.Goals as goal
 
 pub returns : goal.returns
 returns c =
     λ x fresh stamp block since ok done allowed no-save alike fit long whole.
-    given (whatever-reads x fresh ok c.args.v stamp block since done allowed no-save (morning c.args.image.now c.args.kinds.now c.args.roles.now c.args.ledger.now) c.args.out.now (omega arith) fit alike long whole)
-    c.show.ensures.ledger_after c.show.ensures.out_after
+    given (whatever-reads x fresh ok _ stamp _ since done allowed no-save _ _ (omega arith) fit alike long whole) c.show.ensures.ledger_after c.show.ensures.out_after

@@ -13,5 +13,5 @@ pub returns : goal.returns
 returns c =
     λ x fresh call block since ok is-save all counted there fit long whole.
     let y = morning c.args.image.now c.args.kinds.now c.args.roles.now c.args.ledger.now in
-    let reads = long-ago-reads x fresh ok c.args.v call is-save block since all y c.args.out.now (record { ok = omega arith; there = sym there; roles-fit = fit; ledger-long = long; block-long = whole }) in
+    let reads = long-ago-reads x fresh ok _ call is-save block since all y _ (record { ok = omega arith; there = sym there; roles-fit = fit; ledger-long = long; block-long = whole }) in
     given (subst (λ (k : ℕ). Reads y (look_back k) c.args.v c.args.out.now 0 block) counted reads) c.show_back.ensures.ledger_after c.show_back.ensures.out_after

@@ -5,6 +5,5 @@ use Rattle.client.proofs.earlier.view_run.Goals as goal
 
 pub returns : goal.returns
 returns c =
-    let a = c.args in
     λ x fresh block more n ok all discs ledgers some_bytes few_bytes short inside room.
-    stored-seen x fresh ok block more a.v n all some_bytes few_bytes short a.offset a.out.now inside room discs ledgers c.view.ensures
+    stored-seen x fresh ok block more _ n all some_bytes few_bytes short _ _ inside room discs ledgers c.view.ensures

@@ -1,15 +1,11 @@
 -- `client::earlier::write_on_closed` meets its contract: the write is turned away, and alters nothing.
 -- Assumes nothing.
-use mathlib.Core.Option.{some}
 use mathlib.Core.Path.{refl, ◌∙◌, ap}
 use Rattle.disc.specs.Session.{session_closed}
-use Rattle.recorder.specs.Calls.{write}
 use Rattle.client.proofs.Closings.{left-closed, is-refused}
 use Rattle.client.proofs.earlier.write_on_closed.Goals as goal
 
 pub returns : goal.returns
 returns c =
-    let a = c.args in
     λ x fresh before main reserve n ok all there.
-    is-refused a.image.now a.kinds.now a.roles.now a.ledger.now (write (some a.v) a.block.now) refl c.write.ensures
-    (ap session_closed there ∙ (left-closed x fresh ok before main reserve n all).2.is-closed)
+    is-refused _ _ _ _ _ refl c.write.ensures (ap session_closed there ∙ (left-closed x fresh ok before main reserve n all).2.is-closed)

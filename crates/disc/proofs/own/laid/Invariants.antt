@@ -1,6 +1,6 @@
 -- `disc::own::laid` meets its contract: what was found so far, and the descriptors that are left, make the answer.
 -- Assumes nothing.
-use Prim.Native.Nat.{ℕ, ◌-◌, ◌≤◌}
+use Prim.Native.Nat.{ℕ}
 use mathlib.Core.Path.{◌≡◌}
 use mathlib.Core.Bool.{◌&&◌}
 use mathlib.Core.List.{List}
@@ -13,7 +13,4 @@ use Rattle.disc.proofs.own.laid.Given as goal
 
 abbrev pub invariant-loop-i : goal.invariant-loop-i
 invariant-loop-i l =
-    (l.i ≤ l.m) × (l.count ≡ l.m) × ((image : List ℕ) → (l.held && laid (below (lent image l.kinds) l.b) (extents_left l.s l.at l.m l.i)) ≡ laid (below (lent image l.kinds) l.b) (extents_from l.m l.s l.at))
-
-abbrev pub decreases-loop-i : goal.decreases-loop-i
-decreases-loop-i l = l.m - l.i
+    (l.count ≡ l.m) × ((image : List ℕ) → (l.held && laid (below (lent image l.kinds) l.b) (extents_left l.s l.at l.m l.i)) ≡ laid (below (lent image l.kinds) l.b) (extents_from l.m l.s l.at))

@@ -22,12 +22,12 @@ use Rattle.disc.proofs.Pieces.{piece-short}
 use Rattle.disc.proofs.Fresh.{text-parts, again-read, again-not}
 use Rattle.disc.proofs.own.named_again.Goals as goal
 
-pub returns-then-kinds-place-ne1 : goal.returns-then-kinds-place-ne1
-returns-then-kinds-place-ne1 c =
+pub returns-then-kinds-place : goal.returns-then-kinds-place
+returns-then-kinds-place c =
     let D : Disc = lent c.args.image.now c.args.kinds.now in
     let S : List ℕ = own_sector (table_bytes (words c.args.n c.args.map.now 0) c.args.previous) c.args.i in
     let long : length S ≡ sector_length = length-filled (drop (sector_length * c.args.i) (table_bytes (words c.args.n c.args.map.now 0) c.args.previous)) in
-    sym (again-not D c.args.o S long c.if-kinds-place-ne1.true)
+    sym (again-not D c.args.o S long c.if-kinds-place.true)
 
 pub holds_text-requires : goal.holds_text-requires
 holds_text-requires c =
@@ -43,7 +43,7 @@ returns-then-not-holds_text c =
     let long : length S ≡ sector_length = length-filled (drop (sector_length * c.args.i) (table_bytes (words c.args.n c.args.map.now 0) c.args.previous)) in
     let inside : sector_length * c.args.o + sector_length ≤ length c.args.image.now = omega (arith, (sized-tells D c.requires.0).whole, c.requires.1) in
     let bytes : AllBytes c.args.map.now = all-bytes c.args.map.now (λ k. omega (arith, c.type_inv.map k)) in
-    let compared : (x : List ℕ) → x ≡ S → holds_text c.args.image.now (sector_length * c.args.o) x ≡ same (bytes_of (content D c.args.o)) S = λ x e. ap (holds_text c.args.image.now (sector_length * c.args.o)) e ∙ again-read D c.args.o S long c.if-kinds-place-ne1.false inside in
+    let compared : (x : List ℕ) → x ≡ S → holds_text c.args.image.now (sector_length * c.args.o) x ≡ same (bytes_of (content D c.args.o)) S = λ x e. ap (holds_text c.args.image.now (sector_length * c.args.o)) e ∙ again-read D c.args.o S long c.if-kinds-place.false inside in
     let first-quarter : Bool = let a = c.args in holds_text a.image.now (sector_length * a.o) (take 512 (drop (sector_length * a.i) a.map.now)) in
     let others : Bool = let a = c.args in holds_text a.image.now (sector_length * a.o + 512) (take 1536 (drop (sector_length * a.i + 512) a.map.now)) in
     let both : (first-quarter && others) ≡ same (bytes_of (content D c.args.o)) S = let a = c.args in
@@ -71,7 +71,7 @@ returns-then-end-n c =
     let long : length S ≡ sector_length = length-filled (drop (sector_length * c.args.i) (table_bytes (words c.args.n c.args.map.now 0) c.args.previous)) in
     let inside : sector_length * c.args.o + sector_length ≤ length c.args.image.now = omega (arith, (sized-tells D c.requires.0).whole, c.requires.1) in
     let bytes : AllBytes c.args.map.now = all-bytes c.args.map.now (λ k. omega (arith, c.type_inv.map k)) in
-    let compared : (x : List ℕ) → x ≡ S → holds_text c.args.image.now (sector_length * c.args.o) x ≡ same (bytes_of (content D c.args.o)) S = λ x e. ap (holds_text c.args.image.now (sector_length * c.args.o)) e ∙ again-read D c.args.o S long c.if-kinds-place-ne1.false inside in
+    let compared : (x : List ℕ) → x ≡ S → holds_text c.args.image.now (sector_length * c.args.o) x ≡ same (bytes_of (content D c.args.o)) S = λ x e. ap (holds_text c.args.image.now (sector_length * c.args.o)) e ∙ again-read D c.args.o S long c.if-kinds-place.false inside in
     let first-quarter : Bool = let a = c.args in holds_text a.image.now (sector_length * a.o) (take 512 (drop (sector_length * a.i) a.map.now)) in
     let others : Bool = let a = c.args in holds_text a.image.now (sector_length * a.o + 512) (take 1536 (drop (sector_length * a.i + 512) a.map.now)) in
     let both : (first-quarter && others) ≡ same (bytes_of (content D c.args.o)) S = let a = c.args in
@@ -103,7 +103,7 @@ returns-then-names_other c =
     let S : List ℕ = own_sector (table_bytes (words c.args.n c.args.map.now 0) c.args.previous) c.args.i in
     let long : length S ≡ sector_length = length-filled (drop (sector_length * c.args.i) (table_bytes (words c.args.n c.args.map.now 0) c.args.previous)) in
     let inside : sector_length * c.args.o + sector_length ≤ length c.args.image.now = omega (arith, (sized-tells D c.requires.0).whole, c.requires.1) in
-    let compared : (x : List ℕ) → x ≡ S → holds_text c.args.image.now (sector_length * c.args.o) x ≡ same (bytes_of (content D c.args.o)) S = λ x e. ap (holds_text c.args.image.now (sector_length * c.args.o)) e ∙ again-read D c.args.o S long c.if-kinds-place-ne1.false inside in
+    let compared : (x : List ℕ) → x ≡ S → holds_text c.args.image.now (sector_length * c.args.o) x ≡ same (bytes_of (content D c.args.o)) S = λ x e. ap (holds_text c.args.image.now (sector_length * c.args.o)) e ∙ again-read D c.args.o S long c.if-kinds-place.false inside in
     sym (sym (compared S refl) ∙ c.names_other.ensures c.args.map.now c.if-names_other.true)
 
 pub holds_text-requires-2 : goal.holds_text-requires-2
@@ -121,5 +121,5 @@ returns c =
     let S : List ℕ = own_sector (table_bytes (words c.args.n c.args.map.now 0) c.args.previous) c.args.i in
     let long : length S ≡ sector_length = length-filled (drop (sector_length * c.args.i) (table_bytes (words c.args.n c.args.map.now 0) c.args.previous)) in
     let inside : sector_length * c.args.o + sector_length ≤ length c.args.image.now = omega (arith, (sized-tells D c.requires.0).whole, c.requires.1) in
-    let compared : (x : List ℕ) → x ≡ S → holds_text c.args.image.now (sector_length * c.args.o) x ≡ same (bytes_of (content D c.args.o)) S = λ x e. ap (holds_text c.args.image.now (sector_length * c.args.o)) e ∙ again-read D c.args.o S long c.if-kinds-place-ne1.false inside in
+    let compared : (x : List ℕ) → x ≡ S → holds_text c.args.image.now (sector_length * c.args.o) x ≡ same (bytes_of (content D c.args.o)) S = λ x e. ap (holds_text c.args.image.now (sector_length * c.args.o)) e ∙ again-read D c.args.o S long c.if-kinds-place.false inside in
     c.holds_text-2.ensures ∙ compared c.own_sector.new.s c.own_sector.ensures

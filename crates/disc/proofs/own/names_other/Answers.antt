@@ -3,7 +3,6 @@
 use Prim.Native.Nat.{ℕ, ◌+◌, ◌-◌, ◌*◌}
 use native.Mathlib.Omega.{arith}
 use mathlib.Core.Path.{◌∙◌}
-use mathlib.Core.Bool.{false≢true}
 use lib.Dec.{eqb}
 use borrow.Author.Tests.{eqb-false, not-true}
 use Rattle.le.specs.Field.{words}
@@ -11,10 +10,6 @@ use Rattle.le.proofs.Runs.{length-words}
 use Rattle.vat.specs.Table.{sector_length}
 use Rattle.disc.proofs.Fresh.{other-named}
 use Rattle.disc.proofs.own.names_other.Goals as goal
-
-pub returns-then-place-ge-SECTOR : goal.returns-then-place-ge-SECTOR
-returns-then-place-ge-SECTOR c map e =
-    absurd (false≢true e)
 
 pub returns : goal.returns
 returns c map e =

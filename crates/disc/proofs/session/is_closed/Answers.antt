@@ -15,7 +15,7 @@ use Rattle.disc.specs.Disc.{Disc, lent, sector_at}
 use Rattle.disc.specs.Tables.{table_at}
 use Rattle.disc.specs.Session.{closing_length, session_closed}
 use Rattle.disc.proofs.Recording.{sized-tells, leading_le}
-use Rattle.disc.proofs.Found.{part-sector, sector-end, sector-long}
+use Rattle.disc.proofs.Found.{part-sector, sector-end}
 use Rattle.disc.proofs.session.is_closed.Goals as goal
 
 pub returns-then-recorded-le-CLOSING : goal.returns-then-recorded-le-CLOSING
@@ -29,28 +29,6 @@ returns-then-recorded-le-CLOSING c =
     let few : leb (closing_length + 1) c.args.recorded ≡ false = lt-leb (closing_length + 1) c.args.recorded (omega (arith, c.if-recorded-le-CLOSING.true)) in
     rw few at at_count
 
-pub overflow_sub-b : goal.overflow_sub-b
-overflow_sub-b c =
-    omega (arith, c.if-recorded-le-CLOSING.false)
-
-pub overflow_mul-at : goal.overflow_mul-at
-overflow_mul-at c =
-    let D : Disc = lent c.args.image.now c.args.kinds.now in
-    let last : ℕ = c.args.recorded - 1 in
-    let pointer : ℕ = last - closing_length in
-    let on-disc : c.args.recorded ≤ length D.kinds = omega (arith, c.requires.1, leading_le D.kinds) in
-    let pointer-end : sector_length * pointer + sector_length ≤ length D.image = sector-end D (sized-tells D c.requires.0) pointer (omega (arith, on-disc, c.if-recorded-le-CLOSING.false)) in
-    omega (arith, pointer-end)
-
-pub overflow_add-end : goal.overflow_add-end
-overflow_add-end c =
-    let D : Disc = lent c.args.image.now c.args.kinds.now in
-    let last : ℕ = c.args.recorded - 1 in
-    let pointer : ℕ = last - closing_length in
-    let on-disc : c.args.recorded ≤ length D.kinds = omega (arith, c.requires.1, leading_le D.kinds) in
-    let pointer-end : sector_length * pointer + sector_length ≤ length D.image = sector-end D (sized-tells D c.requires.0) pointer (omega (arith, on-disc, c.if-recorded-le-CLOSING.false)) in
-    omega (arith, pointer-end)
-
 pub slice_bounds-tagged-end : goal.slice_bounds-tagged-end
 slice_bounds-tagged-end c =
     let D : Disc = lent c.args.image.now c.args.kinds.now in
@@ -59,14 +37,6 @@ slice_bounds-tagged-end c =
     let on-disc : c.args.recorded ≤ length D.kinds = omega (arith, c.requires.1, leading_le D.kinds) in
     let pointer-end : sector_length * pointer + sector_length ≤ length D.image = sector-end D (sized-tells D c.requires.0) pointer (omega (arith, on-disc, c.if-recorded-le-CLOSING.false)) in
     pointer-end
-
-pub tagged-requires : goal.tagged-requires
-tagged-requires c =
-    let D : Disc = lent c.args.image.now c.args.kinds.now in
-    let last : ℕ = c.args.recorded - 1 in
-    let pointer : ℕ = last - closing_length in
-    let on-disc : c.args.recorded ≤ length D.kinds = omega (arith, c.requires.1, leading_le D.kinds) in
-    ap length (part-sector D pointer) ∙ sector-long D (sized-tells D c.requires.0) pointer (omega (arith, on-disc, c.if-recorded-le-CLOSING.false))
 
 pub returns-then-not-tagged : goal.returns-then-not-tagged
 unfolding session_closed
@@ -80,14 +50,6 @@ returns-then-not-tagged c =
     let judged : c.tagged.result ≡ anchor_tagged (sector_at D pointer) pointer = c.tagged.ensures ∙ ap (λ (l : List ℕ). anchor_tagged l pointer) (part-sector D pointer) in
     let wrong : c.tagged.result ≡ false = c.if-not-tagged.true in
     rw (enough-recorded, sym judged ∙ wrong) at at_count
-
-pub slice_bounds-every_data-count : goal.slice_bounds-every_data-count
-slice_bounds-every_data-count c =
-    omega (arith, c.if-recorded-le-CLOSING.false)
-
-pub slice_bounds-every_data-start : goal.slice_bounds-every_data-start
-slice_bounds-every_data-start c =
-    omega (arith, c.if-recorded-le-CLOSING.false)
 
 pub slice_bounds-every_data-end : goal.slice_bounds-every_data-end
 slice_bounds-every_data-end c =

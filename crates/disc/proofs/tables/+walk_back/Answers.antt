@@ -2,8 +2,9 @@
 -- Assumes nothing.
 use Prim.Native.Nat.{ℕ, ◌+◌, ◌-◌, ◌/◌}
 use native.Mathlib.Omega.{arith}
+use Rattle.std.proofs.Common.{rules}
 use mathlib.Core.Path.{◌≡◌, sym, ap, ◌∙◌}
-use Rattle.disc.specs.declared.Walk.TheVariants.{Reached, Broken, Ended}
+use Rattle.std.specs.Prelude.{Ok, Err}
 use Rattle.disc.specs.Disc.{Disc, lent}
 use Rattle.disc.specs.Tables.{table_at, previous_at, walk}
 use Rattle.disc.proofs.Found.{walk-table, walk_none, onward, walk-onward}
@@ -21,26 +22,21 @@ returns-then-k-eq0 t c =
     let d : Disc = lent c.args.image.now c.args.kinds.now in
     sym (ap (λ (k : ℕ). walk (table_at d) (previous_at d) k c.args.b) c.if-k-eq0.true ∙ walk_none (table_at d) (previous_at d) c.args.b)
 
-pub walk_back-requires-in-Reached : goal.walk_back-requires-in-Reached
-walk_back-requires-in-Reached t c =
+pub returns-in_err-middle : goal.returns-in_err-middle
+returns-in_err-middle t c =
     let d : Disc = lent c.args.image.now c.args.kinds.now in
-    let half : walk (table_at d) (previous_at d) (c.args.k / 2) c.args.b ≡ Reached c.in-Reached.middle = sym c.walk_back.ensures ∙ c.in-Reached.is in
-    (omega (arith, c.decreases), (c.requires.0, walk-table (table_at d) (previous_at d) (c.args.k / 2) c.args.b c.in-Reached.middle half c.requires.1))
+    let half : walk (table_at d) (previous_at d) (c.args.k / 2) c.args.b ≡ Err c.in_err-middle.field-0.0 = sym c.walk_back.ensures ∙ c.in_err-middle.was in
+    let told : c.from_residual.result ≡ Err c.in_err-middle.field-0.0 = search rules in
+    told ∙ ap (onward (table_at d) (previous_at d) (c.args.k - c.args.k / 2)) (sym half) ∙ whole-way d c.args.k c.args.b
 
-pub returns-in-Reached : goal.returns-in-Reached
-returns-in-Reached t c =
+pub walk_back-requires-2 : goal.walk_back-requires-2
+walk_back-requires-2 t c =
     let d : Disc = lent c.args.image.now c.args.kinds.now in
-    let half : walk (table_at d) (previous_at d) (c.args.k / 2) c.args.b ≡ Reached c.in-Reached.middle = sym c.walk_back.ensures ∙ c.in-Reached.is in
-    c.walk_back-in-Reached.ensures ∙ ap (onward (table_at d) (previous_at d) (c.args.k - c.args.k / 2)) (sym half) ∙ whole-way d c.args.k c.args.b
+    let half : walk (table_at d) (previous_at d) (c.args.k / 2) c.args.b ≡ Ok c.in_ok-middle.middle = sym c.walk_back.ensures ∙ c.in_ok-middle.was in
+    (omega (arith, c.decreases), (c.requires.0, walk-table (table_at d) (previous_at d) (c.args.k / 2) c.args.b c.in_ok-middle.middle half c.requires.1))
 
-pub returns-in-Broken : goal.returns-in-Broken
-returns-in-Broken t c =
+pub returns : goal.returns
+returns t c =
     let d : Disc = lent c.args.image.now c.args.kinds.now in
-    let half : walk (table_at d) (previous_at d) (c.args.k / 2) c.args.b ≡ Broken = sym c.walk_back.ensures ∙ c.in-Broken.is in
-    ap (onward (table_at d) (previous_at d) (c.args.k - c.args.k / 2)) (sym half) ∙ whole-way d c.args.k c.args.b
-
-pub returns-in-Ended : goal.returns-in-Ended
-returns-in-Ended t c =
-    let d : Disc = lent c.args.image.now c.args.kinds.now in
-    let half : walk (table_at d) (previous_at d) (c.args.k / 2) c.args.b ≡ Ended = sym c.walk_back.ensures ∙ c.in-Ended.is in
-    ap (onward (table_at d) (previous_at d) (c.args.k - c.args.k / 2)) (sym half) ∙ whole-way d c.args.k c.args.b
+    let half : walk (table_at d) (previous_at d) (c.args.k / 2) c.args.b ≡ Ok c.in_ok-middle.middle = sym c.walk_back.ensures ∙ c.in_ok-middle.was in
+    c.walk_back-2.ensures ∙ ap (onward (table_at d) (previous_at d) (c.args.k - c.args.k / 2)) (sym half) ∙ whole-way d c.args.k c.args.b

@@ -3,7 +3,7 @@
 use Prim.Native.Nat.{ℕ, ◌+◌, ◌<◌}
 use native.Mathlib.Omega.{arith}
 use mathlib.Core.Path.{◌≡◌, sym, ap, ◌∙◌}
-use mathlib.Core.Bool.{Bool, false}
+use mathlib.Core.Bool.{false}
 use mathlib.Core.List.{List}
 use lib.Dec.{eqb}
 use lib.ListN.{length}
@@ -13,14 +13,6 @@ use Rattle.disc.specs.Tables.{table_at}
 use Rattle.disc.proofs.Recording.{Sized, sized-tells}
 use Rattle.disc.proofs.Found.{sector-end, sector-long, untagged-block, one_more}
 use Rattle.disc.proofs.tables.plain_group.Goals as goal
-
-pub returns-then-read64-ne-ALL_DATA : goal.returns-then-read64-ne-ALL_DATA
-returns-then-read64-ne-ALL_DATA c =
-    λ e. absurd (mathlib.Core.Bool.true≢false (sym e))
-
-pub loop-i-init : goal.loop-i-init
-loop-i-init c =
-    (omega arith, λ e block low high. absurd (omega arith))
 
 pub overflow_add-b : goal.overflow_add-b
 overflow_add-b c =
@@ -56,8 +48,4 @@ loop-i-preserved c =
     let its-bytes : S ≡ sector_at D B = c.sector_at.ensures D.kinds in
     let here : c.tagged.result ≡ false → table_at D B ≡ false = λ t. untagged-block D B (ap (λ (s : List ℕ). eqb (read_le 2 s 0) 261) (sym its-bytes) ∙ sym c.tagged.ensures ∙ t) in
     let l = c.loop-i in
-    (omega arith, one_more (table_at D) c.args.b l.i l.plain c.tagged.result l.invariant.1 here)
-
-pub returns : goal.returns
-returns c =
-    λ e block low high. let l = c.loop-i in l.invariant.1 e block low (omega arith)
+    one_more (table_at D) c.args.b l.i l.plain c.tagged.result l.invariant here

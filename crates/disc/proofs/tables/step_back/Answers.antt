@@ -7,7 +7,7 @@ use mathlib.Core.Bool.{true, false}
 use mathlib.Core.List.{List}
 use lib.ListN.{length}
 use Rattle.vat.specs.Table.{Lower}
-use Rattle.disc.specs.declared.Walk.TheVariants.{Reached}
+use Rattle.std.specs.Prelude.{Ok}
 use Rattle.disc.specs.Disc.{Disc, lent, sector_at}
 use Rattle.disc.specs.Tables.{below, table_at, previous_at}
 use Rattle.disc.proofs.Recording.{sized-tells}
@@ -59,5 +59,5 @@ returns c =
     let read_back : c.previous-previous.result ≡ previous_at D c.args.b = c.previous-previous.ensures ∙ sym (previous-of D c.args.b lower S refl its-bytes) in
     let yes : table_at D (previous_at D c.args.b) ≡ true =
     ap (table_at D) (sym read_back) ∙ sym c.table_at.ensures ∙ c.if-not-table_at.false in
-    ap Reached read_back
+    ap Ok read_back
     ∙ sym (step-reached (table_at D) (previous_at D) c.args.b (λ e. c.if-previous.false (read_back ∙ e)) yes)

@@ -1,36 +1,15 @@
--- `listing::form::count` meets its contract: the counts that are left decide.
+-- `listing::form::count` meets its contract: the highest count that the first line gives decides.
 -- Assumes nothing.
-use Prim.Native.Nat.{ℕ}
-use native.Mathlib.Omega.{arith}
-use mathlib.Core.Path.{◌≡◌, refl, sym, ap, ◌∙◌}
-use mathlib.Core.List.{List}
-use Rattle.listing.specs.Listing.{count_up_to}
-use Rattle.listing.proofs.Input.{count-this, count-lower, count_none}
+use Rattle.std.proofs.Common.{ℕ, List, true, ◌≡◌, ◌<◌, ◌≤◌, rules}
+use Rattle.std.specs.Prelude.{MatchOption}
+use Rattle.std.proofs.iter.runs.Sources.{ranges}
+use Rattle.le.specs.Bytes.{holds_text}
+use Rattle.listing.specs.Listing.{most_listed, first_line}
+use Rattle.listing.proofs.Input.{NoneAbove, count-found}
 use Rattle.listing.proofs.form.count.Goals as goal
 
-pub loop-n-init : goal.loop-n-init
-loop-n-init c =
-    (omega arith, refl)
-
-pub gives-requires : goal.gives-requires
-gives-requires c =
-    c.requires
-
-pub returns-then-gives : goal.returns-then-gives
-returns-then-gives c =
-    let l = c.loop-n in
+pub returns-clause-number : goal.returns-clause-number
+returns-clause-number c =
     let s : List ℕ = c.args.input.now in
-    sym (count-this l.n s (omega arith) (sym c.gives.ensures ∙ c.if-gives.true)) ∙ l.invariant.1
-
-pub loop-n-preserved : goal.loop-n-preserved
-loop-n-preserved c =
-    let l = c.loop-n in
-    let s : List ℕ = c.args.input.now in
-    (omega arith, count-lower l.n s (omega arith) (sym c.gives.ensures ∙ c.if-gives.false) ∙ l.invariant.1)
-
-pub returns : goal.returns
-returns c =
-    let l = c.loop-n in
-    let s : List ℕ = c.args.input.now in
-    let none : l.n ≡ 0 = omega arith in
-    sym (ap (λ (k : ℕ). count_up_to k s) none ∙ count_none s) ∙ l.invariant.1
+    let found : MatchOption c.find.result (NoneAbove s 0 most_listed) (λ n. (0 < n) × (n ≤ most_listed) × (holds_text s 0 (first_line n) ≡ true) × NoneAbove s n most_listed) = search (rules, ranges) in
+    count-found s most_listed c.find.result found

@@ -1,14 +1,10 @@
 -- `listing::form::fill_kinds` meets its contract: the kinds so far, and those of the digits that are left, are all of them.
 -- Assumes nothing.
-use Prim.Native.Nat.{◌-◌, ◌≤◌}
 use mathlib.Core.Path.{◌≡◌}
-use lib.ListN.{length, drop}
+use lib.ListN.{drop}
 use lib.Seq.{sets}
 use Rattle.listing.specs.Listing.{kinds_of}
 use Rattle.listing.proofs.form.fill_kinds.Given as goal
 
 abbrev pub invariant-loop-i : goal.invariant-loop-i
-invariant-loop-i l = (l.i ≤ length l.digits) × (length l.kinds ≡ length l.initial.kinds) × (sets l.kinds l.i (kinds_of (drop l.i l.digits)) ≡ sets l.initial.kinds 0 (kinds_of l.digits))
-
-abbrev pub decreases-loop-i : goal.decreases-loop-i
-decreases-loop-i l = length l.digits - l.i
+invariant-loop-i l = sets l.kinds l.i (kinds_of (drop l.i l.digits)) ≡ sets l.initial.kinds 0 (kinds_of l.digits)

@@ -1,6 +1,6 @@
 -- `listing::list::put_rows` meets its contract: the rows so far, and those that are left, are all of them.
 -- Assumes nothing.
-use Prim.Native.Nat.{◌+◌, ◌-◌, ◌*◌, ◌≤◌}
+use Prim.Native.Nat.{◌+◌, ◌-◌, ◌*◌}
 use mathlib.Core.Path.{◌≡◌}
 use lib.ListN.{length}
 use lib.Seq.{sets}
@@ -10,8 +10,5 @@ use Rattle.listing.proofs.list.put_rows.Given as goal
 
 abbrev pub invariant-loop-k : goal.invariant-loop-k
 invariant-loop-k l =
-    (l.k ≤ 32) × (l.at ≡ 25 + 25 * l.k) × (length l.out ≡ length l.initial.out) × (sets l.out l.at (rows_from (lent l.image l.kinds) l.clean (32 - l.k) l.k) ≡ sets l.initial.out 25 (rows_from (lent l.image l.kinds) l.clean 32 0))
+    (l.at ≡ 25 + 25 * l.k) × (length l.out ≡ length l.initial.out) × (sets l.out l.at (rows_from (lent l.image l.kinds) l.clean (32 - l.k) l.k) ≡ sets l.initial.out 25 (rows_from (lent l.image l.kinds) l.clean 32 0))
     × (l.at + length (rows_from (lent l.image l.kinds) l.clean (32 - l.k) l.k) ≡ 25 + length (rows_from (lent l.image l.kinds) l.clean 32 0))
-
-abbrev pub decreases-loop-k : goal.decreases-loop-k
-decreases-loop-k l = 32 - l.k

@@ -1,44 +1,30 @@
 -- `run::sector::total_sectors` meets its contract: the sum so far, and the extents that are left, make the total.
 -- Assumes nothing.
-use Prim.Native.Nat.{ℕ, ◌-◌, ◌≤◌, ◌<◌}
-use native.Mathlib.Nat.{add-zero, zero-add}
+use Prim.Native.Nat.{ℕ, ◌+◌, ◌*◌, ◌/◌, ◌≤◌, ◌<◌}
+use native.Mathlib.Nat.{add-zero}
 use native.Mathlib.Omega.{arith}
-use mathlib.Core.Path.{◌≡◌, sym, ◌∙◌}
-use mathlib.Core.List.{List, []}
-use lib.ListN.{length, get_or, drop, drop_of_length-le}
+use mathlib.Core.Path.{◌≡◌, sym, ap, ◌∙◌}
+use mathlib.Core.List.{List}
+use lib.ListN.{length, get_or, drop_of_length-le}
+use Rattle.std.specs.Int.{div_ceil}
+use Rattle.vat.specs.Table.{sector_length}
 use Rattle.run.specs.Entry.{total_sectors, paired}
-use Rattle.run.proofs.Words.{sectors-taken}
+use Rattle.run.proofs.Words.{rounded, first-of, sectors-taken}
 use Rattle.run.proofs.sector.total_sectors.Goals as goal
 
-pub loop-i-init : goal.loop-i-init
-loop-i-init c =
-    (omega arith, omega arith, omega arith, zero-add (total_sectors (paired c.args.words.now)))
-
-pub overflow_cast-total : goal.overflow_cast-total
-overflow_cast-total c =
-    let word : get_or c.args.words.now c.loop-i.i 0 < 4294967296 = omega (arith, c.shared_slice_known-1.given c.loop-i.i) in
-    omega (arith, word)
-
-pub overflow_add-total : goal.overflow_add-total
-overflow_add-total c =
-    let word : get_or c.args.words.now c.loop-i.i 0 < 4294967296 = omega (arith, c.shared_slice_known-1.given c.loop-i.i) in
-    omega (arith, word)
-
-pub overflow_add-total-in-loop-i : goal.overflow_add-total-in-loop-i
-overflow_add-total-in-loop-i c =
-    let word : get_or c.args.words.now c.loop-i.i 0 < 4294967296 = omega (arith, c.shared_slice_known-1.given c.loop-i.i) in
-    omega (arith, word)
-
-pub loop-i-preserved : goal.loop-i-preserved
-loop-i-preserved c =
-    let word : get_or c.args.words.now c.loop-i.i 0 < 4294967296 = omega (arith, c.shared_slice_known-1.given c.loop-i.i) in
+pub loop-length-preserved : goal.loop-length-preserved
+loop-length-preserved c =
     let words : List ℕ = c.args.words.now in
-    (omega arith, omega arith, omega (arith, word), sectors-taken c.loop-i.total words c.loop-i.i (omega arith) ∙ c.loop-i.invariant.3)
+    let i : ℕ = c.loop-length.length-index in
+    let here : c.from.result ≡ get_or words (2 * i) 0 = c.from.ensures ∙ first-of _ words i c.as_chunks.ensures.front (omega arith) in
+    let word : get_or words (2 * i) 0 < 4294967296 = omega (arith, c.type_inv.words (2 * i)) in
+    let sectors : c.div_ceil-total.result ≡ (get_or words (2 * i) 0 + 2047) / sector_length = c.div_ceil-total.ensures ∙ ap (λ (n : ℕ). div_ceil n 2048) here ∙ sym (rounded (get_or words (2 * i) 0)) in
+    let next : 2 * i + 2 ≡ 2 * (i + 1) = omega arith in
+    (omega (arith, sectors, word), rw (← next, sectors) (sectors-taken c.loop-length.total words (2 * i) (omega arith) ∙ c.loop-length.invariant.1))
 
 pub returns : goal.returns
 unfolding total_sectors paired
 returns c =
     let words : List ℕ = c.args.words.now in
-    let through : length words ≤ c.loop-i.i = omega arith in
-    let none : drop c.loop-i.i words ≡ [] = drop_of_length-le words through in
-    sym (add-zero c.loop-i.total) ∙ rw none at c.loop-i.invariant.3
+    let through : length words ≤ 2 * c.loop-length.length-index = omega arith in
+    sym (add-zero c.loop-length.total) ∙ rw (drop_of_length-le words through) at c.loop-length.invariant.1

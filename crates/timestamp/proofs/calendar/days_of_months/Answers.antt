@@ -2,29 +2,19 @@
 -- year has one more.
 -- Assumes nothing.
 use Prim.Native.Nat.{◌-◌}
-use native.Mathlib.Nat.{lt_trans}
 use native.Mathlib.Omega.{arith}
-use mathlib.Core.Path.{sym, ◌∙◌}
-use lib.Dec.{lit<}
-use Rattle.timestamp.proofs.Dates.{until-march, in-leap-year, in-common-year}
+use mathlib.Core.Path.{sym}
+use Rattle.timestamp.proofs.Dates.{in-leap-year, in-common-year}
 use Rattle.timestamp.proofs.calendar.days_of_months.Goals as goal
-
-pub returns-then-m-lt3 : goal.returns-then-m-lt3
-returns-then-m-lt3 c =
-    let a = c.args in until-march a.y (a.m - 1) (omega arith)
-
-pub overflow_add-result : goal.overflow_add-result
-overflow_add-result c =
-    let a = c.args in
-    let n = in-leap-year a.y (a.m - 1) (omega arith) (omega arith) (sym c.if-leap.true ∙ c.leap.ensures) in
-    record { fits = lt_trans n.1 (lit< tt) }
+use Rattle.timestamp.proofs.calendar.days_of_months.Goals.{else-m-gt2-via-then-m-gt2+else-leap, else-m-gt2-via-else-m-gt2}
 
 pub returns-then-leap : goal.returns-then-leap
 returns-then-leap c =
     let a = c.args in
-    in-leap-year a.y (a.m - 1) (omega arith) (omega arith) (sym c.if-leap.true ∙ c.leap.ensures)
+    in-leap-year a.y (a.m - 1) (omega arith) (omega arith) c.if-leap.ensures
 
-pub returns : goal.returns
-returns c =
+pub returns-else-m-gt2 : goal.returns-else-m-gt2
+returns-else-m-gt2 c =
     let a = c.args in
-    in-common-year a.y (a.m - 1) (omega arith) (omega arith) (sym c.if-leap.false ∙ c.leap.ensures)
+    in-common-year a.y (a.m - 1) (omega arith)
+    (λ l. elim c.else-m-gt2.branch [ else-m-gt2-via-then-m-gt2+else-leap w ↦ sym w.if-leap.ensures | else-m-gt2-via-else-m-gt2 w ↦ absurd (omega arith) ])

@@ -11,8 +11,8 @@ use Rattle.vat.specs.Table.{sector_length}
 use Rattle.vat.proofs.Made.{entries-alone}
 use Rattle.vat.proofs.own.own_sector.Goals as goal
 
-pub returns : goal.returns
-returns c =
+pub returns-else-n-end : goal.returns-else-n-end
+returns-else-n-end c =
     let a = c.args in
     let first : ℕ = sector_length * a.i in
     let l : List ℕ = a.map.now in

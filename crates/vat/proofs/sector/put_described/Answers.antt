@@ -1,14 +1,14 @@
 -- `vat::sector::put_described` meets its contract: the table, where it has no own sectors, else their descriptors.
 -- Assumes nothing.
-use Prim.Native.Nat.{ℕ, ◌+◌, ◌*◌, ◌≤◌, ◌<◌}
+use Prim.Native.Nat.{ℕ, ◌+◌, ◌<◌}
 use native.Mathlib.Omega.{arith}
 use mathlib.Core.Path.{◌≡◌, sym, ap, ◌∙◌}
 use mathlib.Core.List.{List}
-use lib.ListN.{length, take}
-use lib.Seq.{sets}
+use lib.ListN.{take}
+use lib.Seq.{sets, length-take-le}
 use Rattle.le.specs.Field.{words}
 use Rattle.extent.specs.Extents.{descriptors}
-use Rattle.vat.specs.Table.{sector_length, most_own, table_start, table_length}
+use Rattle.vat.specs.Table.{sector_length, table_start, table_length}
 use Rattle.vat.specs.Own.{own_count, extents_at}
 use Rattle.vat.specs.Sector.{table_bytes, described}
 use Rattle.vat.proofs.Theorems.{none-own, few-own, limit-held}
@@ -22,43 +22,33 @@ put_table-requires c =
 
 pub returns-then-own-eq0 : goal.returns-then-own-eq0
 returns-then-own-eq0 c =
-    let table-of : List ℕ = table_bytes (words c.args.n c.args.map.now 0) c.args.previous in
-    let blocks-of : List ℕ = take (own_count (table_length c.args.n)) c.args.blocks.now in
-    let content-of : List ℕ = described table-of blocks-of in
-    let short : (r : ℕ) → r ≡ length content-of → r + table_start 0 < sector_length = λ r e. let a = c.args in
-    omega (arith, (table-recordable a.map.now a.n a.previous a.blocks.now c.requires.1 c.requires.3).short) in
     let a = c.args in
-    let all : content-of ≡ table-of = described-inside table-of a.blocks.now (own_count (table_length a.n)) (sym c.own_count-own.ensures ∙ c.if-own-eq0.true) in
-    let long : table_length a.n ≡ length content-of = sym (ap length all ∙ table-long a.map.now a.n a.previous) in
-    (c.put_table.ensures ∙ ap (sets a.s.now (table_start 0)) (sym all), long, short (table_length a.n) long)
+    let table : List ℕ = table_bytes (words a.n a.map.now 0) a.previous in
+    let all : described table (take (own_count (table_length a.n)) a.blocks.now) ≡ table =
+    described-inside table a.blocks.now (own_count (table_length a.n)) (sym c.own_count-own.ensures ∙ c.if-own-eq0.true) in
+    let short = (table-recordable a.map.now a.n a.previous a.blocks.now c.requires.1 c.requires.3).short in
+    let long = table-long a.map.now a.n a.previous in
+    rw all (c.put_table.ensures, sym long, omega (arith, long, rw all at short))
 
 pub put_descriptors-requires : goal.put_descriptors-requires
 put_descriptors-requires c =
-    let few : c.own_count-own.result ≤ most_own = let n : ℕ = c.args.n in
-    omega (arith, c.own_count-own.ensures, few-own (table_length n) (limit-held n c.requires.1)) in
-    let n : ℕ = c.args.n in
-    let fill = own-fill (table_length n) c.own_count-own.result c.own_count-own.ensures c.if-own-eq0.false in
-    (c.requires.0, few, omega (arith, c.own_count-own.ensures, c.requires.3), fill.0, fill.1)
+    let n : ℕ = table_length c.args.n in
+    let few = few-own n (limit-held c.args.n c.requires.1) in
+    let fill = own-fill n c.own_count-own.result c.own_count-own.ensures c.if-own-eq0.false in
+    let m = length-take-le c.own_count-own.result c.args.blocks.now (omega (arith, c.own_count-own.ensures, c.requires.3)) in
+    rw m (c.requires.0, omega (arith, few, c.own_count-own.ensures), fill.0, fill.1)
 
 pub overflow_mul-result : goal.overflow_mul-result
-overflow_mul-result c =
-    let few : c.own_count-own.result ≤ most_own = let n : ℕ = c.args.n in
-    omega (arith, c.own_count-own.ensures, few-own (table_length n) (limit-held n c.requires.1)) in
-    omega (arith, few)
+overflow_mul-result c = omega (arith, few-own (table_length c.args.n) (limit-held c.args.n c.requires.1), c.own_count-own.ensures)
 
-pub returns : goal.returns
-returns c =
-    let table-of : List ℕ = table_bytes (words c.args.n c.args.map.now 0) c.args.previous in
-    let blocks-of : List ℕ = take (own_count (table_length c.args.n)) c.args.blocks.now in
-    let content-of : List ℕ = described table-of blocks-of in
-    let short : (r : ℕ) → r ≡ length content-of → r + table_start 0 < sector_length = λ r e. let a = c.args in
-    omega (arith, (table-recordable a.map.now a.n a.previous a.blocks.now c.requires.1 c.requires.3).short) in
+pub returns-else-own-eq0 : goal.returns-else-own-eq0
+returns-else-own-eq0 c =
     let a = c.args in
     let n : ℕ = table_length a.n in
+    let table : List ℕ = table_bytes (words a.n a.map.now 0) a.previous in
     let count = c.own_count-own.ensures in
-    let apart : content-of ≡ descriptors (extents_at n blocks-of) =
-    described-apart table-of a.blocks.now (own_count n) n (λ e. c.if-own-eq0.false (count ∙ e)) c.requires.3 (table-long a.map.now a.n a.previous) in
-    let long : 8 * c.own_count-own.result ≡ length content-of =
-    ap (λ (m : ℕ). 8 * m) count ∙ sym (ap length apart ∙ apart-long n (own_count n) a.blocks.now c.requires.3) in
-    let put = ap (λ (m : ℕ). sets a.s.now (table_start 0) (descriptors (extents_at n (take m a.blocks.now)))) count in
-    (c.put_descriptors.ensures ∙ put ∙ ap (sets a.s.now (table_start 0)) (sym apart), long, short (8 * c.own_count-own.result) long)
+    let apart : described table (take (own_count n) a.blocks.now) ≡ descriptors (extents_at n (take (own_count n) a.blocks.now)) =
+    described-apart table a.blocks.now (own_count n) n (λ e. c.if-own-eq0.false (count ∙ e)) c.requires.3 (table-long a.map.now a.n a.previous) in
+    let long = apart-long n (own_count n) a.blocks.now c.requires.3 in
+    let short = (table-recordable a.map.now a.n a.previous a.blocks.now c.requires.1 c.requires.3).short in
+    rw (apart, count) (c.put_descriptors.ensures ∙ ap (λ (m : ℕ). sets a.s.now (table_start 0) (descriptors (extents_at n (take m a.blocks.now)))) count, sym long, omega (arith, long, rw apart at short))

@@ -1,8 +1,8 @@
 -- `vat::sector::put_descriptors` meets its contract: the descriptors that are left, put from here, give the whole.
 -- Assumes nothing.
-use Prim.Native.Nat.{◌+◌, ◌-◌, ◌*◌, ◌≤◌}
+use Prim.Native.Nat.{◌+◌, ◌-◌, ◌*◌}
 use mathlib.Core.Path.{◌≡◌}
-use lib.ListN.{length, take, drop}
+use lib.ListN.{drop}
 use lib.Seq.{sets}
 use Rattle.extent.specs.Extents.{descriptors}
 use Rattle.vat.specs.Table.{sector_length, table_start}
@@ -11,11 +11,5 @@ use Rattle.vat.proofs.sector.put_descriptors.Given as goal
 
 abbrev pub invariant-loop-i : goal.invariant-loop-i
 invariant-loop-i l =
-    (l.i ≤ l.m)
-    × (l.at ≡ table_start 0 + 8 * l.i)
-    × (l.left ≡ l.bytes - sector_length * l.i)
-    × (length l.s ≡ length l.initial.s)
-    × (sets l.s l.at (descriptors (extents_at l.left (drop l.i (take l.m l.blocks)))) ≡ sets l.initial.s (table_start 0) (descriptors (extents_at l.bytes (take l.m l.blocks))))
-
-abbrev pub decreases-loop-i : goal.decreases-loop-i
-decreases-loop-i l = l.m - l.i
+    (l.left ≡ l.bytes - sector_length * l.i)
+    × (sets l.s (table_start 0 + 8 * l.i) (descriptors (extents_at l.left (drop l.i l.blocks))) ≡ sets l.initial.s (table_start 0) (descriptors (extents_at l.bytes l.blocks)))

@@ -1,15 +1,15 @@
 -- `vat::sector::record` meets its contract: zeros, what stands behind the header, the name, the times, the header and the sums, in this order.
 -- Assumes nothing.
 use Prim.Native.Nat.{ℕ}
-use mathlib.Core.Path.{◌≡◌, sym, ap, ap₂, ◌∙◌}
+use mathlib.Core.Path.{◌≡◌, sym, ap, ◌∙◌}
 use mathlib.Core.List.{List}
-use lib.ListN.{length, take, replicate}
-use lib.Seq.{sets, length-take-le}
-use Rattle.le.specs.Field.{words, put_le, lay}
+use lib.ListN.{length, take}
+use lib.Seq.{length-take-le}
+use Rattle.le.specs.Field.{words, lay}
 use Rattle.tag.specs.Tag.{seal}
-use Rattle.vat.specs.Table.{table_start, table_length, plain_rows, length_rows}
+use Rattle.vat.specs.Table.{table_length}
 use Rattle.vat.specs.Own.{own_count}
-use Rattle.vat.specs.Sector.{own_rows, table_bytes, station_at, station_name, timed, described, allocation_for, body, icb_rows, icb}
+use Rattle.vat.specs.Sector.{table_bytes, allocation_for, body, icb_rows, icb}
 use Rattle.vat.proofs.Record.{length-body}
 use Rattle.vat.proofs.Described.{table-long, table-recordable, allocation-told, header-laid, room-to-seal}
 use Rattle.vat.proofs.sector.record.Goals as goal
@@ -26,21 +26,27 @@ laid c =
     let table : List ℕ = table_bytes (words a.n a.map.now 0) a.previous in
     let blocks : List ℕ = take (own_count (table_length a.n)) a.blocks.now in
     let filled : List ℕ = body table blocks a.stamp.now in
+    let long : c.from.result ≡ length table = c.from.ensures ∙ sym (table-long a.map.now a.n a.previous) in
     let own : c.own_count-own.result ≡ length blocks = c.own_count-own.ensures ∙ sym (length-take-le (own_count (table_length a.n)) a.blocks.now c.requires.3) in
     let t = c.allocation in
     let type : t.result ≡ allocation_for blocks = allocation-told blocks t.result (λ e. t.ensures.0 (own ∙ e)) (λ other. t.ensures.1 (λ e. other (sym own ∙ e))) in
-    let zeros = c.clear.ensures ∙ ap (λ (n : ℕ). replicate n 0) c.requires.0 in
-    let behind = c.put_described-described.ensures.0 ∙ ap (λ (l : List ℕ). sets l (table_start 0) (described table blocks)) zeros in
-    let named = c.put_name.ensures ∙ ap (λ (l : List ℕ). sets l station_at station_name) behind in
-    let stamped : c.put_times.new.s ≡ filled = c.put_times.ensures ∙ ap (timed a.stamp.now) named in
-    let plain = c.put_plain.ensures ∙ ap (λ (l : List ℕ). lay l (plain_rows a.b)) stamped in
-    let top : List ℕ = lay filled (plain_rows a.b) in
-    let lengths =
-    c.put_lengths.ensures
-    ∙ ap (λ (l : List ℕ). lay l (length_rows 0 c.put_described-described.result (table_length a.n))) plain
-    ∙ ap₂ (λ (d i : ℕ). lay top (length_rows 0 d i)) c.put_described-described.ensures.1 (sym (table-long a.map.now a.n a.previous)) in
-    let typed = c.put_own.ensures ∙ ap₂ (λ (l : List ℕ) (t : ℕ). lay l (own_rows t)) lengths type in
-    c.put64.ensures ∙ ap₂ (λ (l : List ℕ) (m : ℕ). put_le 8 l 64 m) typed own ∙ header-laid table blocks filled a.b
+    rw (
+      c.put64.ensures,
+      c.put_own.ensures,
+      c.put_lengths.ensures,
+      c.put_plain.ensures,
+      c.put_times.ensures,
+      c.put_name.ensures,
+      c.put_described-described.ensures.0,
+      c.put_described-described.ensures.1,
+      c.clear.ensures,
+      c.requires.0,
+      type,
+      c.from-2.ensures,
+      own,
+      long,
+    )
+    (header-laid table blocks filled a.b)
 
 pub seal-requires : goal.seal-requires
 seal-requires c =

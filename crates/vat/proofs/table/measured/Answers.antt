@@ -1,59 +1,57 @@
 -- `vat::table::measured` meets its contract: the form decides, then the number of own sectors, then the lengths.
 -- Assumes nothing.
-use Prim.Native.Nat.{ℕ, ◌*◌, ◌≤◌}
+use Prim.Native.Nat.{◌≤◌}
 use native.Mathlib.Omega.{arith}
-use mathlib.Core.Path.{◌≡◌, sym, ap, ap₂, ◌∙◌}
-use mathlib.Core.Bool.{true, false, ◌&&◌}
-use mathlib.Core.List.{List}
-use Rattle.le.specs.Field.{holds}
-use Rattle.extent.specs.Extents.{total_length}
-use Rattle.vat.specs.Table.{length_rows, embedded, attribute_length, described_length}
-use Rattle.vat.proofs.Measured.{own-within, own_read, measured-inside, measured-none, measured-many, measured-own}
+use mathlib.Core.Path.{◌≡◌, sym, ◌∙◌}
+use mathlib.Core.Bool.{false, or-false}
+use lib.ListN.{length}
+use borrow.Author.Tests.{le-leb}
+use Rattle.extent.specs.Extents.{extents_from}
+use Rattle.vat.specs.Table.{most_own, allocation_type, embedded, own_of, measured}
+use Rattle.vat.proofs.Measured.{own-within, own_read}
 use Rattle.vat.proofs.table.measured.Goals as goal
 
-pub returns-then-is_embedded : goal.returns-then-is_embedded
-returns-then-is_embedded c =
-    let S : List ℕ = c.args.s.now in
-    let s : List ℕ = S in
-    let inside : embedded s ≡ true = sym c.is_embedded.ensures ∙ c.if-is_embedded.true in
-    c.lengths_held.ensures
-    ∙ ap (λ (n : ℕ). holds s (length_rows (attribute_length s) n n)) c.described_length-length.ensures
-    ∙ sym (measured-inside s inside)
-
-pub returns-then-own-eq0 : goal.returns-then-own-eq0
-returns-then-own-eq0 c =
-    let S : List ℕ = c.args.s.now in
-    let apart : embedded S ≡ false = sym c.is_embedded.ensures ∙ c.if-is_embedded.false in
-    sym (measured-none S apart (sym c.own_count-own.ensures ∙ c.if-own-eq0.true))
-
-pub returns-then-own-gt-MOST_OWN : goal.returns-then-own-gt-MOST_OWN
-returns-then-own-gt-MOST_OWN c =
-    let S : List ℕ = c.args.s.now in
-    let apart : embedded S ≡ false = sym c.is_embedded.ensures ∙ c.if-is_embedded.false in
-    sym (measured-many S apart (omega (arith, c.own_count-own.ensures, c.if-own-gt-MOST_OWN.true)))
+pub returns-in-3 : goal.returns-in-3
+unfolding measured
+returns-in-3 c =
+    let three : allocation_type c.args.s.now ≡ 3 = sym c.allocation_type.ensures ∙ c.in-3.is in
+    rw (three, c.lengths_held.ensures, c.attribute_length-attributes.ensures, c.from.ensures, c.described_length-length.ensures) (sym (or-false _))
 
 pub total_length-requires : goal.total_length-requires
 total_length-requires c =
-    let S : List ℕ = c.args.s.now in
-    let apart : embedded S ≡ false = sym c.is_embedded.ensures ∙ c.if-is_embedded.false in
-    let within : 8 * c.own_count-own.result ≤ described_length S = omega (arith, c.own_count-own.ensures, own-within S apart) in
-    omega (arith, within, c.start.ensures, c.requires.0, c.requires.1)
+    let apart : embedded c.args.s.now ≡ false = grind arith in
+    omega (arith, c.own_count-own.ensures, own-within c.args.s.now apart)
 
-pub lengths_held-lengths-requires : goal.lengths_held-lengths-requires
-lengths_held-lengths-requires c =
-    let S : List ℕ = c.args.s.now in
-    let apart : embedded S ≡ false = sym c.is_embedded.ensures ∙ c.if-is_embedded.false in
-    let within : 8 * c.own_count-own.result ≤ described_length S = omega (arith, c.own_count-own.ensures, own-within S apart) in
-    (c.requires.0, c.requires.1, within)
+pub returns-then-contains : goal.returns-then-contains
+unfolding measured
+returns-then-contains c =
+    let s = c.args.s.now in
+    let zero : allocation_type s ≡ 0 = sym c.allocation_type.ensures ∙ c.in-0.is in
+    let apart : embedded s ≡ false = grind arith in
+    let own : extents_from c.own_count-own.result s c.start-at.result ≡ own_of s =
+    own_read s apart c.own_count-own.result c.start-at.result c.own_count-own.ensures c.start-at.ensures in
+    let some : 1 ≤ length (own_of s) = grind arith in
+    let few : length (own_of s) ≤ most_own = grind arith in
+    rw (
+      c.lengths_held-then-contains.ensures,
+      c.total_length.ensures,
+      own,
+      c.attribute_length-attributes.ensures,
+      c.own_count-own.ensures,
+      zero,
+      le-leb 1 (length (own_of s)) some,
+      le-leb (length (own_of s)) most_own few,
+    )
 
-pub returns : goal.returns
-returns c =
-    let S : List ℕ = c.args.s.now in
-    let apart : embedded S ≡ false = sym c.is_embedded.ensures ∙ c.if-is_embedded.false in
-    let s : List ℕ = S in
-    let own : ℕ = c.own_count-own.result in
-    let count = c.own_count-own.ensures in
-    let total = c.total_length.ensures ∙ ap total_length (own_read s apart own c.start.result count c.start.ensures) in
-    let lengths = c.lengths_held-lengths.ensures ∙ ap₂ (λ (n i : ℕ). holds s (length_rows (attribute_length s) (8 * n) i)) count total in
-    ap₂ ◌&&◌ c.is_outside.ensures lengths
-    ∙ sym (measured-own s apart (omega (arith, count, c.if-own-eq0.false)) (omega (arith, count, c.if-own-gt-MOST_OWN.false)))
+pub returns-else-contains : goal.returns-else-contains
+unfolding measured
+returns-else-contains c =
+    let zero : allocation_type c.args.s.now ≡ 0 = sym c.allocation_type.ensures ∙ c.in-0.is in
+    rw zero (grind arith)
+
+pub returns-in_default : goal.returns-in_default
+unfolding measured
+returns-in_default c =
+    let z : allocation_type c.args.s.now ≡ 0 → ⊥ = λ e. omega arith in
+    let t : allocation_type c.args.s.now ≡ 3 → ⊥ = λ e. omega arith in
+    grind arith
