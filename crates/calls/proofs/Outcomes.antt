@@ -8,7 +8,7 @@ use mathlib.Core.List.{List, [], ◌∷◌, ◌++◌}
 use Rattle.std.specs.Prelude.{Option, None, Some, Result, Ok, Err, IsErrAnd}
 use lib.Dec.{eqb, leb, ltb}
 use lib.ListN.{length, get_or}
-use borrow.Author.Tests.{ltb-true, le-ltb, lt-ltb}
+use borrow.Author.Tests.{ltb-true, le-ltb, lt-ltb, le-leb, lt-leb}
 use Rattle.le.proofs.Rows.{and_right}
 use Rattle.vat.specs.Table.{limit, unused, most_own}
 use Rattle.vat.specs.Sector.{table_bytes}
@@ -23,8 +23,9 @@ use Rattle.volume.specs.declared.Volume.{Volume}
 use Rattle.volume.specs.Volume.{ledger_length, read_only, unpack, map_of}
 use Rattle.volume.proofs.Fit.{entries_below}
 use Rattle.recorder.specs.declared.Refusal.{Refusal}
+use Rattle.recorder.specs.Calls.{write}
 use Rattle.recorder.specs.Refused.{number, outcome_of}
-use Rattle.recorder.specs.Refusals.{Test, test, or_else, first, links, reserve_if, reserve, basic, ledger_lent, unfit, gate, number_tests, no_room, not_in_use, is_some, walk_tests}
+use Rattle.recorder.specs.Refusals.{Test, test, or_else, first, links, reserve_if, reserve, basic, ledger_lent, block_lent, unfit, gate, number_tests, block_tests, write_tests, no_room, not_in_use, is_some, walk_tests, tests, outcome}
 use Rattle.recorder.proofs.Done.{none_left, stopped, resumed, coded, none-applies, Basic, basic-passed, fitting_tests, working_tests, Fits, Admitted, fitting-admits, working-admits, links-few, entry-recorded, shown-within}
 use Rattle.recorder.proofs.Sectors.{own-few}
 use Rattle.recorder.proofs.Refused.{number-above}
@@ -87,6 +88,25 @@ module _ (d : Disc) (lengths : Bool) (rest : List Test) where
 pub behind-number : (v : Volume) (n : Option ℕ) (rest : List Test) → first (number_tests v n ++ rest) ≡ behind (first (number_tests v n)) (first rest)
 behind-number v None rest = split [] rest refl
 behind-number v (Some n) rest = split (test 13 (leb limit n) ∷ test 12 (ltb v.size n) ∷ []) rest refl
+
+-- ---- a numbered write, behind 1 to 5 and 17
+
+module _ (d : Disc) (l block : List ℕ) (z : first (working_tests d l (block_lent l block)) ≡ 0) where
+  write-rest : (n : Option ℕ) → outcome d l (write n block) ≡ first (write_tests d (unpack l) n block)
+  unfolding outcome tests
+  write-rest n = resumed (working_tests d l (block_lent l block)) (write_tests d (unpack l) n block) refl z
+
+  pub write-13 : (n : ℕ) → limit ≤ n → outcome d l (write (Some n) block) ≡ 13
+  unfolding first
+  write-13 n h = write-rest (Some n) ∙ rw (le-leb limit n h)
+
+  pub write-12 : (n : ℕ) → n < limit → (unpack l).size < n → outcome d l (write (Some n) block) ≡ 12
+  unfolding first
+  write-12 n m h = write-rest (Some n) ∙ rw (lt-leb limit n m, lt-ltb (unpack l).size n h)
+
+  pub write-tested : (n : ℕ) → n < limit → n ≤ (unpack l).size → outcome d l (write (Some n) block) ≡ first (block_tests d (unpack l) block)
+  unfolding first
+  write-tested n m s = write-rest (Some n) ∙ rw (lt-leb limit n m, le-ltb (unpack l).size n s)
 
 -- ---- what a call knows that was let pass
 

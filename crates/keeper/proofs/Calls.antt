@@ -42,7 +42,7 @@ use Rattle.keeper.proofs.Kept.{lengths-told, Done, kept}
 -- ---- the numbers of the ledger
 
 module _ (d : Disc) (l : List ℕ) where
-  begin-few : outcome d l begin ≡ 0 → (unpack (effect d l begin).ledger).size ≤ limit
+  pub begin-few : outcome d l begin ≡ 0 → (unpack (effect d l begin).ledger).size ≤ limit
   unfolding effect begun
   begin-few z =
       let ok = (begin-done d l z).0 in
@@ -53,21 +53,21 @@ module _ (d : Disc) (l : List ℕ) where
   unfolding filled
   table-few b mode e = size-kept (shown_at d b mode) (long_filled (map_at d b) b (recorded d) mode (few-at d b e)) (few-at d b e)
 
-  mount-few : outcome d l mount ≡ 0 → (unpack (effect d l mount).ledger).size ≤ limit
+  pub mount-few : outcome d l mount ≡ 0 → (unpack (effect d l mount).ledger).size ≤ limit
   unfolding effect
   mount-few z =
       let f = (mount-done d l z).1 in
       subst (λ (o : Option ℕ). (unpack (pack (shown_at d (block_found o) idle))).size ≤ limit) (sym f.1)
       (table-few f.0 idle (newest-table (table_at d) (recorded d) f.0 f.1))
 
-  look-back-few : (k : ℕ) → outcome d l (look_back k) ≡ 0 → (unpack (effect d l (look_back k)).ledger).size ≤ limit
+  pub look-back-few : (k : ℕ) → outcome d l (look_back k) ≡ 0 → (unpack (effect d l (look_back k)).ledger).size ≤ limit
   unfolding effect
   look-back-few k z =
       let f = (look-back-done d l k z).1 in
       subst (λ (w : Walk). (unpack (pack (shown_at d (block_reached w) read_only))).size ≤ limit) (sym f.1)
       (table-few f.0 read_only (walked-table d k f.0 f.1))
 
-  write-few : (n : Option ℕ) (block : List ℕ) → outcome d l (write n block) ≡ 0 → (unpack (effect d l (write n block)).ledger).size ≤ limit
+  pub write-few : (n : Option ℕ) (block : List ℕ) → outcome d l (write n block) ≡ 0 → (unpack (effect d l (write n block)).ledger).size ≤ limit
   unfolding effect wrote
   write-few n block z =
       let f : WriteDone d l n block = write_done d l n block z in
@@ -77,7 +77,7 @@ module _ (d : Disc) (l : List ℕ) where
       as-many None = refl
       as-many (Some n) = length-set (unpack l).entries n (target (unpack l))
 
-  release-few : (n : ℕ) → outcome d l (release n) ≡ 0 → (unpack (effect d l (release n)).ledger).size ≤ limit
+  pub release-few : (n : ℕ) → outcome d l (release n) ≡ 0 → (unpack (effect d l (release n)).ledger).size ≤ limit
   unfolding effect released
   release-few n z = size-kept (released n (unpack l)) (length-set (unpack l).entries n unused ∙ long-unpack l) (release-done d l n z).1.fit.few
 
@@ -98,11 +98,11 @@ module _ {d : Disc} {roles l : List ℕ} {c : Call} {a : ℕ} {i k m b : List �
 -- ---- where the tables end
 
 module _ (d : Disc) (l : List ℕ) where
-  begin-ends : outcome d l begin ≡ 0 → EndThere d (Below 0)
+  pub begin-ends : outcome d l begin ≡ 0 → EndThere d (Below 0)
   begin-ends z = let f = begin-done d l z in (omega arith, λ b h. none-newer d f.0 b (rw f.1 h))
 
   module _ {roles : List ℕ} {a : ℕ} {i k m b : List ℕ} where
-    mount-ends : Done d roles l mount a i k m b → EndThere d (At (unpack m).last)
+    pub mount-ends : Done d roles l mount a i k m b → EndThere d (At (unpack m).last)
     unfolding effect filled
     mount-ends done =
         let f = mount-done d l done.done in
@@ -118,7 +118,7 @@ module _ (d : Disc) (l : List ℕ) where
         ∙ last-kept (shown_at d t idle) (long_filled (map_at d t) t (recorded d) idle few) (omega (arith, f.0.few)) in
         subst (λ (n : ℕ). EndThere d (At n)) (sym last-is) (omega arith, here, λ b h. none-newer d f.0 b (rw (found, add-one t) h))
 
-    look-back-ends : (j : ℕ) → Done d roles l (look_back j) a i k m b → EndThere d (Below (unpack m).recorded)
+    pub look-back-ends : (j : ℕ) → Done d roles l (look_back j) a i k m b → EndThere d (Below (unpack m).recorded)
     unfolding effect filled
     look-back-ends j done =
         let f = look-back-done d l j done.done in
@@ -181,25 +181,25 @@ module _ (d : Disc) (l : List ℕ) where
       placed (length first) (length (save_of d l first stamp)) a f.sound-disc f.fit f.room (omega (arith, at, count))
 
   module _ {roles : List ℕ} {a : ℕ} {i k m b : List ℕ} where
-    write-placed : (n : Option ℕ) (block : List ℕ) → Done d roles l (write n block) a i k m b → Placed d l 0 1 a
+    pub write-placed : (n : Option ℕ) (block : List ℕ) → Done d roles l (write n block) a i k m b → Placed d l 0 1 a
     unfolding effect
     write-placed n block done =
         let f : WriteDone d l n block = write_done d l n block done.done in
         let at : a ≡ target (unpack l) = answered done in
         placed 0 1 a f.sound-disc f.fit (omega (arith, f.room)) (omega (arith, at))
 
-    commit-placed : (stamp : Option (List ℕ)) → Done d roles l (commit stamp) a i k m b → Placed d l 0 (length (save_of d l [] (stamp_of stamp))) a
+    pub commit-placed : (stamp : Option (List ℕ)) → Done d roles l (commit stamp) a i k m b → Placed d l 0 (length (save_of d l [] (stamp_of stamp))) a
     unfolding effect
     commit-placed stamp done = save-placed [] (stamp_of stamp) a (commit-done d l stamp done.done).saving (answered done)
 
-    closing-placed : (main reserve : Extent) (start : ℕ) → Done d roles l (close_session main reserve start) a i k m b
+    pub closing-placed : (main reserve : Extent) (start : ℕ) → Done d roles l (close_session main reserve start) a i k m b
         → let first : List Sector = closing_first d (unpack l) main reserve start in Placed d l (length first) (length (save_of d l first no_stamp)) a
     unfolding effect
     closing-placed main reserve start done =
         save-placed (closing_first d (unpack l) main reserve start) no_stamp a (closing-done d l main reserve start done.done).saving (answered done)
 
   -- of a closing, by the own sectors that it records
-  closing-counts : (main reserve : Extent) (start own : ℕ) → outcome d l (close_session main reserve start) ≡ 0
+  pub closing-counts : (main reserve : Extent) (start own : ℕ) → outcome d l (close_session main reserve start) ≡ 0
       → (length l ≡ ledger_length → (unpack l).size ≤ limit → (eqb (unpack l).last unused || table_at d (unpack l).last) ≡ true → own ≡ length (fresh_of d (table_bytes (map_of (unpack l)) (unpack l).last) (unpack l).last))
       → let first : List Sector = closing_first d (unpack l) main reserve start in (closing_length - own ≡ length first) × (own + 1 ≡ length (save_of d l first no_stamp))
   closing-counts main reserve start own z counted =
@@ -214,14 +214,14 @@ module _ (d : Disc) (l : List ℕ) where
 
 -- from the counts that were taken before the call: what it recorded, run by run
 module _ {d : Disc} {l : List ℕ} {a r n between count : ℕ} (p : Placed d l between count a) (own : r ≡ (unpack l).recorded) (links-are : n ≡ links (unpack l)) where
-  runs : a + 1 ≡ r + n + between + count
+  pub runs : a + 1 ≡ r + n + between + count
   runs = omega (arith, p.place, p.own)
 
   module _ (roles : List ℕ) {m c : ℕ} (between_is : m ≡ between) (count-is : c ≡ count) where
-    markable : first (roles_tests true d roles) ≡ 0 → (r + n + m + c ≤ length roles) × (length roles ≤ most_sectors)
+    pub markable : first (roles_tests true d roles) ≡ 0 → (r + n + m + c ≤ length roles) × (length roles ≤ most_sectors)
     markable h = let t = lengths-told d roles h in (omega (arith, runs, p.within, t.1), omega (arith, p.few, t.1))
 
-    marked-there : (role : ℕ) {rs : List ℕ} → rs ≡ marked r n m c role roles → rs ≡ marked (recorded d) (links (unpack l)) between count role roles
+    pub marked-there : (role : ℕ) {rs : List ℕ} → rs ≡ marked r n m c role roles → rs ≡ marked (recorded d) (links (unpack l)) between count role roles
     marked-there role q =
         q ∙ ap₂ (λ (x y : ℕ). marked x y m c role roles) (own ∙ p.own) links-are ∙ ap₂ (λ (x y : ℕ). marked (recorded d) (links (unpack l)) x y role roles) between_is count-is
 

@@ -34,7 +34,7 @@ unfolding count_up_to
 count-this zero s h e = absurd (not-suc-le-zero h)
 count-this (suc n) s h e = rw e
 
-count_none : (s : List ℕ) → count_up_to 0 s ≡ 0
+pub count_none : (s : List ℕ) → count_up_to 0 s ≡ 0
 unfolding count_up_to
 count_none s = refl
 

@@ -47,12 +47,14 @@ pub fn put_row(out: &mut [u8], at: usize, k: u32, block: u32, size: u32, used: u
     le::put8(out, at + 24, b'\n');
 }
 
-// Entries in use, of all that the ledger has: those from size on are unused.
+// Entries in use, of all that the ledger has: those from size on are unused. With no branch, so that the compiler can count many in a turn.
 pub fn used(ledger: &[u8]) -> u32
     requires { length ledger.now ≡ ledger_length }
     ensures { result ≡ used (unpack ledger.now).entries }
 {
-    (0..PLACES as u32)
-        .filter(|i| volume::ledger::entry(ledger, *i) != UNUSED)
-        .count() as u32
+    let mut count = 0;
+    for i in 0..PLACES as u32 {
+        count += u32::from(volume::ledger::entry(ledger, i) != UNUSED);
+    }
+    count
 }
