@@ -26,6 +26,7 @@ THEOREMS = {
     "alike/proofs/Views": ["mean-nothing"],
     "anchor/proofs/Theorems": ["tagged-anchor", "anchor-no-table", "zeros-no-table"],
     "archive/proofs/Theorem": ["earlier-entries"],
+    "calls/proofs/Outcomes": ["write-12", "write-13", "write-tested"],
     "disc/proofs/Fresh": ["fresh-neither"],
     "disc/proofs/Told": ["other-kind"],
     "history/proofs/Closed": ["closed-discs"],
